@@ -1,0 +1,116 @@
+ghost use Rattle.std.specs.Prelude.{◌≡◌, IfOk, IsTrue, IfNone, option_map};
+ghost use Rattle.serde_json.specs.View.{view};
+ghost use Rattle.conway.specs.Fields.{field_of};
+ghost use Rattle.conway.specs.Gives.{Gives};
+ghost use Rattle.conway.specs.Records.{genesis_of, transfer_of, reading_of, reading_of_line, json_of, is_blank, lacks_all, other_fields};
+
+use crate::fields::{field, field_says, has_no_entry, number, number_under, tx_id};
+use crate::limits::{OUTPUT_LIMIT, SLOT_BOUND};
+use crate::lists::{NotRead, genesis_outputs, only_input, transfer_outputs};
+use crate::record::{Genesis, Reading, Transfer};
+use coin_frac::NoMemory;
+use serde_json::Value;
+use std::alloc::Global;
+
+/// A field that has to be there.
+fn needed<'a>(object: &'a Value, name: &str) -> Result<&'a Value, NotRead>
+    ensures { Gives (result_map (λ v. view v.now) result) (field_of name.now (view object.now)) }
+{
+    field(object, name).ok_or(NotRead::NotPlain)
+}
+
+/// A genesis without accounts, pools and DReps.
+#[tactic(auto, unfolding(crate::specs::Records::genesis_of))]
+fn genesis(alloc: Global, object: &Value) -> Result<Genesis, NotRead>
+    ensures { Gives result (genesis_of (view object.now)) }
+{
+    let _slot = number_under(SLOT_BOUND, needed(object, "slot")?).ok_or(NotRead::NotPlain)?;
+    let supply = number(needed(object, "supply")?).ok_or(NotRead::NotPlain)?;
+    let reserves = number(needed(object, "reserves")?).ok_or(NotRead::NotPlain)?;
+    let treasury = number(needed(object, "treasury")?).ok_or(NotRead::NotPlain)?;
+    let outputs = genesis_outputs(alloc, needed(object, "outputs")?)?;
+    if !has_no_lists(object) {
+        return Err(NotRead::NotPlain);
+    }
+    Ok(Genesis { supply, reserves, treasury, outputs })
+}
+
+/// Whether a genesis lists no account, pool or DRep.
+fn has_no_lists(object: &Value) -> bool
+{
+    has_no_entry(object, "accounts") && has_no_entry(object, "pools") && has_no_entry(object, "dreps")
+}
+
+/// Whether a transaction has none of the fields that a plain transfer lacks.
+fn has_no_other_field(object: &Value) -> bool
+    ensures { result ≡ lacks_all other_fields (view object.now) }
+{
+    field(object, "scriptFee").is_none()
+        && field(object, "witnessed").is_none()
+        && field(object, "scripts").is_none()
+        && field(object, "from").is_none()
+        && field(object, "until").is_none()
+        && field(object, "collateral").is_none()
+        && field(object, "collateralReturn").is_none()
+        && field(object, "treasury").is_none()
+        && field(object, "donation").is_none()
+        && field(object, "withdrawals").is_none()
+        && field(object, "certs").is_none()
+        && field(object, "proposals").is_none()
+        && field(object, "votes").is_none()
+}
+
+/// A transaction of one input, outputs and a fee, and nothing else.
+#[tactic(auto, unfolding(crate::specs::Records::transfer_of))]
+fn transfer(alloc: Global, object: &Value) -> Result<Transfer, NotRead>
+    ensures { Gives result (transfer_of (view object.now)) }
+{
+    let id = tx_id(needed(object, "id")?).ok_or(NotRead::NotPlain)?;
+    let input = only_input(needed(object, "inputs")?).ok_or(NotRead::NotPlain)?;
+    let outputs = transfer_outputs(alloc, needed(object, "outputs")?)?;
+    let fee = number(needed(object, "fee")?).ok_or(NotRead::NotPlain)?;
+    let _size = number_under(1 << 32, needed(object, "size")?).ok_or(NotRead::NotPlain)?;
+    if outputs.len() > OUTPUT_LIMIT || !has_no_other_field(object) {
+        return Err(NotRead::NotPlain);
+    }
+    Ok(Transfer { id, input, outputs, fee })
+}
+
+/// What a JSON value says.
+fn reading(alloc: Global, object: &Value) -> Result<Reading, NoMemory>
+    ensures { IfOk result (λ r. r ≡ reading_of (view object.now)) }
+{
+    let read = if field_says(object, "kind", "genesis") {
+        genesis(alloc, object).map(Reading::Genesis)
+    } else if field_says(object, "kind", "tx") {
+        transfer(alloc, object).map(Reading::Transfer)
+    } else {
+        Err(NotRead::NotPlain)
+    };
+    match read {
+        Ok(reading) => Ok(reading),
+        Err(NotRead::NotPlain) => Ok(Reading::Other),
+        Err(NotRead::NoMemory) => Err(NoMemory),
+    }
+}
+
+/// Whether a line holds spaces, tabs and carriage returns alone.
+fn blank(line: &[u8]) -> bool
+    ensures { result ≡ is_blank line.now }
+{
+    line.iter().all(|b| *b == b' ' || *b == b'\t' || *b == b'\r')
+}
+
+/// What a line of bytes says; nothing where it is blank.
+pub fn read_line(alloc: Global, line: &[u8]) -> Result<Option<Reading>, NoMemory>
+    ensures { IfOk result (λ r. r ≡ reading_of_line (Some line.now)) }
+{
+    if blank(line) {
+        return Ok(None);
+    }
+    match Value::from_slice(alloc, line) {
+        Ok(value) => Ok(Some(reading(alloc, &value)?)),
+        Err(error) if error.is_memory() => Err(NoMemory),
+        Err(_) => Ok(Some(Reading::Other)),
+    }
+}
