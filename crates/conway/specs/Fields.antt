@@ -38,6 +38,15 @@ each_by read (item d ds) = read d >>= λ x. each_by read ds >>= λ xs. Some (x �
 abbrev pub list_by : {A : Type 0} → (Data → Option A) → Data → Option (List A)
 list_by read d = option_and_then (each_by read) (as_array d)
 
+-- the entry of a list of one
+abbrev pub only_item : Items → Option Data
+only_item (item d no_items) = Some d
+only_item _ = None
+
+-- the entry of an array of one
+abbrev pub only_entry : Data → Option Data
+only_entry d = option_and_then only_item (as_array d)
+
 -- a list of three entries
 abbrev pub three_of : Items → Option (Data × Data × Data)
 three_of (item a (item b (item c no_items))) = Some (a, b, c)

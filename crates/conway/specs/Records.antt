@@ -1,5 +1,5 @@
 -- What a line says. (Own: the plain records that are built so far)
-use Rattle.std.specs.Prelude.{ℕ, ◌^◌, ◌==◌, ◌||◌, ◌&&◌, ◌+◌, Bool, List, [], ◌∷◌, Option, Some, None, Result, Ok, Err, codes, filter_map, length, nat_le, option_map, option_and_then, is_none, unwrap_or, true, false, if◌then◌else◌}
+use Rattle.std.specs.Prelude.{ℕ, ◌^◌, ◌==◌, ◌||◌, ◌&&◌, ◌+◌, Bool, List, [], ◌∷◌, Option, Some, None, Result, Ok, Err, codes, filter_map, length, nat_le, option_map, option_and_then, is_none, unwrap_or, bytes_eq, true, false, if◌then◌else◌}
 use Rattle.std.specs.List.{list_all, enumerate_from}
 use Rattle.std.specs.Ordering.{nat_cmp, eq_by_cmp}
 use Rattle.std.specs.Cmp.Lexicographic.{slice_cmp}
@@ -12,12 +12,12 @@ use Rattle.gov_ids.specs.declared.OutRef.{OutRef}
 use Rattle.gov_ids.specs.declared.TxId.{TxId}
 use Rattle.gov_ids.specs.declared.IdFault.{IdFault}
 use Rattle.gov_ids.specs.Spelling.{hash_of, address_of, ref_of}
-use Rattle.byte_lines.specs.Pieces.{lines_of}
+use Rattle.conway.specs.Pieces.{lines_of}
 use Rattle.conway.specs.declared.record.Genesis.{Genesis}
 use Rattle.conway.specs.declared.record.Reading.{Reading}
 use Rattle.conway.specs.declared.record.Reading.TheVariants as readings
 use Rattle.conway.specs.declared.record.Transfer.{Transfer}
-use Rattle.conway.specs.Fields.{field_of, number_of, number_below, text_by, list_by, three_of}
+use Rattle.conway.specs.Fields.{field_of, number_of, number_below, text_by, list_by, three_of, only_entry}
 use Rattle.conway.specs.Limits.{line_limit, slot_bound, output_limit}
 use Rattle.conway.specs.Options.{◌>>=◌, some_if}
 
@@ -67,7 +67,7 @@ has_none name d = unwrap_or (option_map is_empty_array (field_of name d)) true
 
 -- the field holds this word
 abbrev pub says : List ℕ → List ℕ → Data → Bool
-says name word d = unwrap_or (option_map (slice_eq word) (option_and_then as_str (field_of name d))) false
+says name word d = unwrap_or (option_map (bytes_eq word) (option_and_then as_str (field_of name d))) false
 
 -- a genesis without accounts, pools and DReps; its other fields are passed over
 unfoldable pub genesis_of : Data → Option Genesis
@@ -77,8 +77,7 @@ genesis_of d = do
   reserves ← field_of (codes "reserves") d >>= number_of
   treasury ← field_of (codes "treasury") d >>= number_of
   outputs ← field_of (codes "outputs") d >>= list_by genesis_output
-  some_if
-      (has_none (codes "accounts") d && has_none (codes "pools") d && has_none (codes "dreps") d)
+  some_if (has_none (codes "accounts") d && has_none (codes "pools") d && has_none (codes "dreps") d)
       (record { supply = supply; reserves = reserves; treasury = treasury; outputs = outputs })
 
 -- the fields of a transaction that a plain transfer does not have
@@ -92,16 +91,11 @@ other_fields =
 abbrev pub lacks_all : List (List ℕ) → Data → Bool
 lacks_all names d = list_all (λ name. is_none (field_of name d)) names
 
--- the one entry
-abbrev pub only_of : {A : Type 0} → List A → Option A
-only_of (x ∷ []) = Some x
-only_of _ = None
-
 -- a transaction of one input, outputs and a fee, and nothing else
 unfoldable pub transfer_of : Data → Option Transfer
 transfer_of d = do
   id ← field_of (codes "id") d >>= text_by tx_id_of
-  input ← field_of (codes "inputs") d >>= list_by (text_by ref_of) >>= only_of
+  input ← field_of (codes "inputs") d >>= only_entry >>= text_by ref_of
   outputs ← field_of (codes "outputs") d >>= list_by transfer_output
   fee ← field_of (codes "fee") d >>= number_of
   size ← field_of (codes "size") d >>= number_below (2 ^ 32)
@@ -111,12 +105,16 @@ transfer_of d = do
 
 -- ---- lines
 
+-- what a JSON value says, where it is a plain record
+abbrev pub plain_reading : Data → Option Reading
+plain_reading d =
+    if says (codes "kind") (codes "genesis") d then option_map readings.Genesis (genesis_of d) else
+    if says (codes "kind") (codes "tx") d then option_map readings.Transfer (transfer_of d) else
+    None
+
 -- what a JSON value says
-unfoldable pub reading_of : Data → Reading
-reading_of d =
-    if says (codes "kind") (codes "genesis") d then unwrap_or (option_map readings.Genesis (genesis_of d)) readings.Other else
-    if says (codes "kind") (codes "tx") d then unwrap_or (option_map readings.Transfer (transfer_of d)) readings.Other else
-    readings.Other
+abbrev pub reading_of : Data → Reading
+reading_of d = unwrap_or (plain_reading d) readings.Other
 
 -- the JSON value of bytes that are a text, as `serde_json` reads it
 abbrev pub json_of : List ℕ → Option Data

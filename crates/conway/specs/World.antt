@@ -1,7 +1,7 @@
 -- The whole state of the ledger as plain data, and its pots. (The ledger state of the formal specification; the pots of its preservation of value)
-use Rattle.std.specs.Prelude.{ℕ, ◌+◌, ◌==◌, Bool, List, [], ◌∷◌, Option, Some, None, map, sum_by, option_map, find, nat_lt, not}
-use Rattle.std.specs.List.{list_any, IsDistinct}
-use Rattle.maps.specs.Maps.{sum_values, with_values, in_order}
+use Rattle.std.specs.Prelude.{◌≡◌, ℕ, true, ◌≤◌, ◌+◌, ◌==◌, Bool, List, [], ◌∷◌, Option, Some, None, map, sum_by, option_map, find, nat_lt, not}
+use Rattle.std.specs.List.{AllByRecursion}
+use Rattle.maps.specs.Maps.{sum_values, with_values, in_order, has_member}
 use Rattle.maps.specs.Words.{repeats}
 use Rattle.book_records.specs.declared.Output.{Output}
 use Rattle.gov_ids.specs.declared.OutRef.{OutRef}
@@ -22,7 +22,6 @@ pub record World : Type 0 where
   pub outputs : List (OutRef × Output)
   pub used : List TxId
 
--- the lovelace of outputs
 abbrev pub lovelace_in : List (OutRef × Output) → ℕ
 lovelace_in outputs = sum_values (λ (o : Output). o.lovelace) outputs
 
@@ -74,3 +73,9 @@ world_of_genesis g = record {
   outputs = with_values outref_cmp g.outputs [];
   used = in_order txid_cmp (map (λ (o : OutRef × Output). o.0.tx) g.outputs);
 }
+
+-- what holds of every ledger: the pots sum to the supply, which is within its limit, and each output's transaction is a used one
+pub record IsSound (w : World) : Type 0 where
+  pub balanced : supply_of w ≡ w.supply
+  pub within : w.supply ≤ supply_limit
+  pub named : AllByRecursion (λ (o : OutRef × Output). has_member txid_cmp w.used o.0.tx ≡ true) w.outputs

@@ -1,4 +1,4 @@
-ghost use Rattle.std.specs.Prelude.{◌≡◌, option_map, slice_eq};
+ghost use Rattle.std.specs.Prelude.{◌≡◌, option_map, bytes_eq};
 ghost use Rattle.serde_json.specs.View.{view, items_view};
 ghost use Rattle.conway.specs.Fields.{field_of, number_of, number_below, text_by, three_of};
 ghost use Rattle.conway.specs.Records.{has_none, says, tx_id_of};

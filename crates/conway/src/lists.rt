@@ -1,10 +1,9 @@
 ghost use Rattle.std.specs.Prelude.{◌≡◌, ◌^◌, option_map, option_and_then};
 ghost use Rattle.serde_json.specs.Find.{as_array};
 ghost use Rattle.serde_json.specs.View.{view, items_view};
-ghost use Rattle.conway.specs.Fields.{each_by, list_by, text_by};
+ghost use Rattle.conway.specs.Fields.{each_by, list_by, only_entry, three_of};
 ghost use Rattle.conway.specs.Gives.{Gives};
-ghost use Rattle.conway.specs.Records.{genesis_output, transfer_output, only_of};
-ghost use Rattle.gov_ids.specs.Spelling.{ref_of};
+ghost use Rattle.conway.specs.Records.{genesis_output, transfer_output};
 
 use crate::fields::{address, number, number_under, output_ref};
 use coin_frac::NoMemory;
@@ -34,10 +33,15 @@ impl From<NoMemory> for NotRead {
 
 /// The three entries of an array.
 fn three(value: &Value) -> Option<(&Value, &Value, &Value)>
+    ensures { option_map (λ t. (view t.0.now, view t.1.now, view t.2.now)) result
+        ≡ option_and_then three_of (as_array (view value.now)) }
 {
-    match value.as_array()?.as_slice() {
-        [first, second, third] => Some((first, second, third)),
-        _ => None,
+    let (first, rest) = value.as_array()?.split_first()?;
+    let (second, rest) = rest.split_first()?;
+    let (third, rest) = rest.split_first()?;
+    match rest.split_first() {
+        None => Some((first, second, third)),
+        Some(_) => None,
     }
 }
 
@@ -78,8 +82,10 @@ fn each_genesis_output(alloc: Global, items: &[Value]) -> Result<Listed<(OutRef,
 {
     let mut outputs = Listed::new(alloc);
     for item in items {
-        let entry = genesis_entry(item).ok_or(NotRead::NotPlain)?;
-        outputs.push(entry).map_err(NoMemory::from)?;
+        let Some(entry) = genesis_entry(item) else {
+            return Err(NotRead::NotPlain);
+        };
+        outputs.push(entry).map_err(|_| NotRead::NoMemory)?;
     }
     Ok(outputs)
 }
@@ -97,18 +103,21 @@ fn each_transfer_output(alloc: Global, items: &[Value]) -> Result<Listed<Output>
 {
     let mut outputs = Listed::new(alloc);
     for item in items {
-        let entry = transfer_entry(item).ok_or(NotRead::NotPlain)?;
-        outputs.push(entry).map_err(NoMemory::from)?;
+        let Some(entry) = transfer_entry(item) else {
+            return Err(NotRead::NotPlain);
+        };
+        outputs.push(entry).map_err(|_| NotRead::NoMemory)?;
     }
     Ok(outputs)
 }
 
-/// The one input of a plain transfer.
-pub fn only_input(value: &Value) -> Option<OutRef>
-    ensures { result ≡ option_and_then only_of (list_by (text_by ref_of) (view value.now)) }
+/// The entry of an array of one.
+pub fn only(value: &Value) -> Option<&Value>
+    ensures { option_map (λ v. view v.now) result ≡ only_entry (view value.now) }
 {
-    match value.as_array()?.as_slice() {
-        [input] => output_ref(input),
-        _ => None,
+    let (entry, rest) = value.as_array()?.split_first()?;
+    match rest.split_first() {
+        None => Some(entry),
+        Some(_) => None,
     }
 }

@@ -1,12 +1,13 @@
-ghost use Rattle.std.specs.Prelude.{◌≡◌, IfOk, IsTrue, IfNone, option_map};
+ghost use Rattle.std.specs.Prelude.{◌≡◌, ◌&&◌, codes, is_none, option_map, IfOk, Some};
+ghost use Rattle.std.specs.List.{list_all};
 ghost use Rattle.serde_json.specs.View.{view};
 ghost use Rattle.conway.specs.Fields.{field_of};
-ghost use Rattle.conway.specs.Gives.{Gives};
-ghost use Rattle.conway.specs.Records.{genesis_of, transfer_of, reading_of, reading_of_line, json_of, is_blank, lacks_all, other_fields};
+ghost use Rattle.conway.specs.Gives.{Gives, GivesBy};
+ghost use Rattle.conway.specs.Records.{genesis_of, transfer_of, plain_reading, reading_of, reading_of_line, json_of, is_blank, has_none, lacks_all, other_fields};
 
-use crate::fields::{field, field_says, has_no_entry, number, number_under, tx_id};
+use crate::fields::{field, field_says, has_no_entry, number, number_under, output_ref, tx_id};
 use crate::limits::{OUTPUT_LIMIT, SLOT_BOUND};
-use crate::lists::{NotRead, genesis_outputs, only_input, transfer_outputs};
+use crate::lists::{NotRead, genesis_outputs, only, transfer_outputs};
 use crate::record::{Genesis, Reading, Transfer};
 use coin_frac::NoMemory;
 use serde_json::Value;
@@ -14,7 +15,7 @@ use std::alloc::Global;
 
 /// A field that has to be there.
 fn needed<'a>(object: &'a Value, name: &str) -> Result<&'a Value, NotRead>
-    ensures { Gives (result_map (λ v. view v.now) result) (field_of name.now (view object.now)) }
+    ensures { GivesBy (λ v. view v.now) result (field_of name.now (view object.now)) }
 {
     field(object, name).ok_or(NotRead::NotPlain)
 }
@@ -35,29 +36,43 @@ fn genesis(alloc: Global, object: &Value) -> Result<Genesis, NotRead>
     Ok(Genesis { supply, reserves, treasury, outputs })
 }
 
-/// Whether a genesis lists no account, pool or DRep.
+/// Whether a genesis lists no account, no pool and no DRep.
 fn has_no_lists(object: &Value) -> bool
+    ensures { result ≡ (has_none (codes "accounts") (view object.now) && has_none (codes "pools") (view object.now)
+        && has_none (codes "dreps") (view object.now)) }
 {
     has_no_entry(object, "accounts") && has_no_entry(object, "pools") && has_no_entry(object, "dreps")
+}
+
+/// Whether an object has none of these fields.
+fn lacks(object: &Value, names: &[&str]) -> bool
+    ensures { result ≡ list_all (λ name. is_none (field_of name.now (view object.now))) names.now }
+{
+    names.iter().all(|name| field(object, name).is_none())
 }
 
 /// Whether a transaction has none of the fields that a plain transfer lacks.
 fn has_no_other_field(object: &Value) -> bool
     ensures { result ≡ lacks_all other_fields (view object.now) }
 {
-    field(object, "scriptFee").is_none()
-        && field(object, "witnessed").is_none()
-        && field(object, "scripts").is_none()
-        && field(object, "from").is_none()
-        && field(object, "until").is_none()
-        && field(object, "collateral").is_none()
-        && field(object, "collateralReturn").is_none()
-        && field(object, "treasury").is_none()
-        && field(object, "donation").is_none()
-        && field(object, "withdrawals").is_none()
-        && field(object, "certs").is_none()
-        && field(object, "proposals").is_none()
-        && field(object, "votes").is_none()
+    lacks(
+        object,
+        &[
+            "scriptFee",
+            "witnessed",
+            "scripts",
+            "from",
+            "until",
+            "collateral",
+            "collateralReturn",
+            "treasury",
+            "donation",
+            "withdrawals",
+            "certs",
+            "proposals",
+            "votes",
+        ],
+    )
 }
 
 /// A transaction of one input, outputs and a fee, and nothing else.
@@ -66,7 +81,8 @@ fn transfer(alloc: Global, object: &Value) -> Result<Transfer, NotRead>
     ensures { Gives result (transfer_of (view object.now)) }
 {
     let id = tx_id(needed(object, "id")?).ok_or(NotRead::NotPlain)?;
-    let input = only_input(needed(object, "inputs")?).ok_or(NotRead::NotPlain)?;
+    let inputs = needed(object, "inputs")?;
+    let input = only(inputs).and_then(output_ref).ok_or(NotRead::NotPlain)?;
     let outputs = transfer_outputs(alloc, needed(object, "outputs")?)?;
     let fee = number(needed(object, "fee")?).ok_or(NotRead::NotPlain)?;
     let _size = number_under(1 << 32, needed(object, "size")?).ok_or(NotRead::NotPlain)?;
@@ -76,18 +92,24 @@ fn transfer(alloc: Global, object: &Value) -> Result<Transfer, NotRead>
     Ok(Transfer { id, input, outputs, fee })
 }
 
+/// What a JSON value says, where it is a plain record.
+fn plain(alloc: Global, object: &Value) -> Result<Reading, NotRead>
+    ensures { Gives result (plain_reading (view object.now)) }
+{
+    if field_says(object, "kind", "genesis") {
+        return Ok(Reading::Genesis(genesis(alloc, object)?));
+    }
+    if field_says(object, "kind", "tx") {
+        return Ok(Reading::Transfer(transfer(alloc, object)?));
+    }
+    Err(NotRead::NotPlain)
+}
+
 /// What a JSON value says.
 fn reading(alloc: Global, object: &Value) -> Result<Reading, NoMemory>
     ensures { IfOk result (λ r. r ≡ reading_of (view object.now)) }
 {
-    let read = if field_says(object, "kind", "genesis") {
-        genesis(alloc, object).map(Reading::Genesis)
-    } else if field_says(object, "kind", "tx") {
-        transfer(alloc, object).map(Reading::Transfer)
-    } else {
-        Err(NotRead::NotPlain)
-    };
-    match read {
+    match plain(alloc, object) {
         Ok(reading) => Ok(reading),
         Err(NotRead::NotPlain) => Ok(Reading::Other),
         Err(NotRead::NoMemory) => Err(NoMemory),
@@ -101,6 +123,18 @@ fn blank(line: &[u8]) -> bool
     line.iter().all(|b| *b == b' ' || *b == b'\t' || *b == b'\r')
 }
 
+/// The JSON value of bytes; nothing where they are none.
+#[tactic(auto, using(crate::proofs::Json::read_is, crate::proofs::Json::none_read))]
+fn json(alloc: Global, bytes: &[u8]) -> Result<Option<Value>, NoMemory>
+    ensures { IfOk result (λ v. option_map view v ≡ json_of bytes.now) }
+{
+    match Value::from_slice(alloc, bytes) {
+        Ok(value) => Ok(Some(value)),
+        Err(error) if error.is_memory() => Err(NoMemory),
+        Err(_) => Ok(None),
+    }
+}
+
 /// What a line of bytes says; nothing where it is blank.
 pub fn read_line(alloc: Global, line: &[u8]) -> Result<Option<Reading>, NoMemory>
     ensures { IfOk result (λ r. r ≡ reading_of_line (Some line.now)) }
@@ -108,9 +142,8 @@ pub fn read_line(alloc: Global, line: &[u8]) -> Result<Option<Reading>, NoMemory
     if blank(line) {
         return Ok(None);
     }
-    match Value::from_slice(alloc, line) {
-        Ok(value) => Ok(Some(reading(alloc, &value)?)),
-        Err(error) if error.is_memory() => Err(NoMemory),
-        Err(_) => Ok(Some(Reading::Other)),
+    match json(alloc, line)? {
+        Some(value) => Ok(Some(reading(alloc, &value)?)),
+        None => Ok(Some(Reading::Other)),
     }
 }
