@@ -1,5 +1,5 @@
 -- A map stays in order whatever changes.
-use Rattle.std.proofs.Common.{◌≡◌, List, [], ◌∷◌, Bool, true, false, cond, fold, map, filter, not, refl, ap, sym, subst, ◌∙◌}
+use Rattle.std.proofs.Common.{◌≡◌, List, [], ◌∷◌, Bool, true, false, cond, filter, not, refl, ap, sym, subst}
 use Rattle.std.specs.declared.cmp.Ordering.{Ordering}
 use Rattle.std.specs.declared.cmp.Ordering.TheVariants.{Less, Equal, Greater}
 use Rattle.std.specs.Ordering.{eq_by_cmp, match_ordering}
@@ -61,12 +61,12 @@ IsMap-each_value {K} cmp f es h = subst (λ (ks : List K). IsSet cmp ks) (sym (k
 pub IsMap-changed_where : {K X : Type 0} (cmp : K → K → Ordering) (p : K → X → Bool) (f : X → X) (es : List (K × X)) → IsMap cmp es → IsMap cmp (changed_where p f es)
 IsMap-changed_where cmp p f es h = IsMap-each_value cmp (λ k x. cond (p k x) (f x) x) es h
 
+pub IsMap-without_key : {K X : Type 0} (cmp : K → K → Ordering) (k : K) (es : List (K × X)) → IsMap cmp es → IsMap cmp (without_key cmp k es)
+IsMap-without_key {K} cmp k es h = subst (λ (ks : List K). IsSet cmp ks) (sym (keys_of-without_key cmp k es)) (IsSet-without_member cmp k (keys_of es) h)
+
 module _ {K X : Type 0} {cmp : K → K → Ordering} (o : IsTotalOrder cmp) where
   pub IsMap-with_value : (k : K) (v : X) (es : List (K × X)) → IsMap cmp es → IsMap cmp (with_value cmp k v es)
   IsMap-with_value k v es h = subst (λ (ks : List K). IsSet cmp ks) (sym (keys_of-with_value cmp k v es)) (IsSet-with_key o k (keys_of es) h)
-
-  pub IsMap-without_key : (k : K) (es : List (K × X)) → IsMap cmp es → IsMap cmp (without_key cmp k es)
-  IsMap-without_key k es h = subst (λ (ks : List K). IsSet cmp ks) (sym (keys_of-without_key cmp k es)) (IsSet-without_member o k (keys_of es) h)
 
   pub IsMap-with_values : (new es : List (K × X)) → IsMap cmp es → IsMap cmp (with_values cmp new es)
   IsMap-with_values [] es h = h

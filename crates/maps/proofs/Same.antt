@@ -1,5 +1,5 @@
 -- Maps with the same look-ups are equal, and sets with the same members.
-use Rattle.std.proofs.Common.{◌≡◌, List, [], ◌∷◌, Bool, true, false, cond, ◌||◌, Option, Some, None, map, refl, ap, sym, subst, ◌∙◌}
+use Rattle.std.proofs.Common.{◌≡◌, List, [], ◌∷◌, true, false, cond, ◌||◌, Some, None, map, refl, ap, sym, subst, ◌∙◌}
 use Rattle.std.specs.declared.cmp.Ordering.{Ordering}
 use Rattle.std.specs.declared.cmp.Ordering.TheVariants.{Less, Equal, Greater}
 use Rattle.std.specs.Ordering.{is_eq, eq_by_cmp, ordering_reverse}
@@ -70,5 +70,5 @@ pub set_from_has_member : {K : Type 0} {cmp : K → K → Ordering} → IsTotalO
 set_from_has_member {K} {cmp} o exact ks ls g h is =
     let maps : as_map ks ≡ as_map ls =
     map_from_value_at o exact (as_map ks) (as_map ls) (subst (λ (l : List K). IsSet cmp l) (sym (keys_of-as_map ks)) g) (subst (λ (l : List K). IsSet cmp l) (sym (keys_of-as_map ls)) h)
-        (λ q. value_at-as_map cmp ks q ∙ ap (λ b. cond b (Some tt) None) (is q) ∙ sym (value_at-as_map cmp ls q)) in
+    (λ q. value_at-as_map cmp ks q ∙ ap (λ b. cond b (Some tt) None) (is q) ∙ sym (value_at-as_map cmp ls q)) in
     sym (keys_of-as_map ks) ∙ ap (λ (es : List (K × Unit {0})). keys_of es) maps ∙ keys_of-as_map ls

@@ -1,5 +1,5 @@
 -- Sets: what has changed, and that the keys stay in order.
-use Rattle.std.proofs.Common.{◌≡◌, List, [], ◌∷◌, Bool, true, false, cond, not, ◌&&◌, ◌||◌, fold, refl, ap, sym, ◌∙◌}
+use Rattle.std.proofs.Common.{◌≡◌, List, [], ◌∷◌, Bool, true, false, cond, not, ◌&&◌, ◌||◌, fold, refl, ap, ◌∙◌}
 use Rattle.std.specs.declared.cmp.Ordering.{Ordering}
 use Rattle.std.specs.declared.cmp.Ordering.TheVariants.{Less, Equal, Greater}
 use Rattle.std.specs.Ordering.{is_eq, eq_by_cmp, ordering_reverse, match_ordering}
@@ -29,6 +29,15 @@ all-without_member cmp P k (x ∷ ks) h =
       | false ↦ (h.0, all-without_member cmp P k ks h.1)
     ]
 
+pub IsSet-without_member : {K : Type 0} (cmp : K → K → Ordering) (k : K) (ks : List K) → IsSet cmp ks → IsSet cmp (without_member cmp k ks)
+unfolding IsStrictlySortedBy
+IsSet-without_member cmp k [] h = tt
+IsSet-without_member cmp k (x ∷ ks) h =
+    elim (eq_by_cmp cmp k x) as (λ b. IsSet cmp (cond b ks (x ∷ without_member cmp k ks))) [
+      | true ↦ h.1
+      | false ↦ (all-without_member cmp (λ q. cmp x q ≡ Less) k ks h.0, IsSet-without_member cmp k ks h.1)
+    ]
+
 module _ {K : Type 0} {cmp : K → K → Ordering} (o : IsTotalOrder cmp) where
   pub IsSet-with_key : (k : K) (ks : List K) → IsSet cmp ks → IsSet cmp (with_key cmp k ks)
   unfolding IsStrictlySortedBy
@@ -39,15 +48,6 @@ module _ {K : Type 0} {cmp : K → K → Ordering} (o : IsTotalOrder cmp) where
         | Equal ↦ λ p. h
         | Greater ↦ λ p. (all-with_key cmp (λ q. cmp x q ≡ Less) k ks (o.antisymm x k ∙ ap ordering_reverse p) h.0, IsSet-with_key k ks h.1)
       ] refl
-
-  pub IsSet-without_member : (k : K) (ks : List K) → IsSet cmp ks → IsSet cmp (without_member cmp k ks)
-  unfolding IsStrictlySortedBy
-  IsSet-without_member k [] h = tt
-  IsSet-without_member k (x ∷ ks) h =
-      elim (eq_by_cmp cmp k x) as (λ b. IsSet cmp (cond b ks (x ∷ without_member cmp k ks))) [
-        | true ↦ h.1
-        | false ↦ (all-without_member cmp (λ q. cmp x q ≡ Less) k ks h.0, IsSet-without_member k ks h.1)
-      ]
 
   IsSet-with_all : (ks s : List K) → IsSet cmp s → IsSet cmp (fold (λ t k. with_key cmp k t) s ks)
   IsSet-with_all [] s h = h

@@ -1,17 +1,16 @@
 -- What the values of a map add up to after a change.
-use Rattle.std.proofs.Common.{◌≡◌, ℕ, ◌+◌, List, [], ◌∷◌, Bool, true, false, cond, Option, Some, None, sum_by, refl, ap, sym, ◌∙◌, arith}
+use Rattle.std.proofs.Common.{◌≡◌, ℕ, ◌+◌, List, [], ◌∷◌, true, false, cond, Option, Some, None, refl, ap, sym, ◌∙◌, arith}
 use Rattle.std.specs.declared.cmp.Ordering.{Ordering}
 use Rattle.std.specs.declared.cmp.Ordering.TheVariants.{Less, Equal, Greater}
 use Rattle.std.specs.Ordering.{is_eq, eq_by_cmp, match_ordering}
 use Rattle.std.specs.Cmp.{IsTotalOrder}
-use Rattle.std.specs.List.{AllByRecursion, IsDistinct}
 use Rattle.std.specs.List.Sorted.{IsStrictlySortedBy}
 use Rattle.std.specs.Map.{keys_of, values_of}
 use Rattle.std.proofs.lemmas.List.Sums.{sum_by-cons}
 use Rattle.std.proofs.lemmas.Map.Entries.{sum_by-insert_entry, sum_by-remove_entry}
-use Rattle.maps.proofs.Lookups.{none_below, value_at-with_value}
+use Rattle.maps.proofs.Lookups.{none_below}
 use Rattle.maps.proofs.Ties.{is_equal, all_tied}
-use Rattle.maps.specs.Maps.{IsMap, value_at, with_value, without_key, changed_at, sum_values, with_values}
+use Rattle.maps.specs.Maps.{IsMap, value_at, with_value, without_key, changed_at, sum_values}
 use Rattle.maps.specs.Words.{amount}
 
 -- nothing changes where the key has no value
