@@ -25,12 +25,9 @@ pub struct UtxoSet {
 
 impl Model for UtxoSet {
     ghost use Rattle.std.specs.Prelude.{◌≡◌};
-    ghost use Rattle.std.specs.Coded.{codes};
     ghost use Rattle.utxo_set.specs.Utxos.{Utxos, lovelace_in, IsInOrder};
 
     ghost Value = { Utxos };
-
-    ghost coded = { Prim.hlevel codes };
 
     ghost view = { λ a. record { outputs = a.outputs.entries; used = a.used.keys } };
 
@@ -126,3 +123,6 @@ impl UtxoSet {
         self.used.range(keys_past(after)).next().copied()
     }
 }
+
+#[cfg(test)]
+mod tests;
