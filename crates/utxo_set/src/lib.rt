@@ -9,10 +9,10 @@ ghost use Rattle.utxo_set.specs.Utxos.{lovelace_in, IsInOrder};
 pub use book_records::Output;
 use coin_frac::NoMemory;
 use gov_ids::{OutRef, TxId};
+use maps::keys_past;
 use std::alloc::Global;
 use std::collections::{BTreeMap, BTreeSet};
 use std::marker::Model;
-use std::ops::Bound;
 
 /// The unspent outputs and the ids of the transactions that were applied, with a running total. (UTxO of the formal
 /// specification; that used ids are kept is own.)
@@ -25,12 +25,9 @@ pub struct UtxoSet {
 
 impl Model for UtxoSet {
     ghost use Rattle.std.specs.Prelude.{◌≡◌};
-    ghost use Rattle.std.specs.Coded.{codes};
     ghost use Rattle.utxo_set.specs.Utxos.{Utxos, lovelace_in, IsInOrder};
 
     ghost Value = { Utxos };
-
-    ghost coded = { Prim.hlevel codes };
 
     ghost view = { λ a. record { outputs = a.outputs.entries; used = a.used.keys } };
 
@@ -115,13 +112,7 @@ impl UtxoSet {
     pub fn next(&self, after: Option<&OutRef>) -> Option<(OutRef, Output)>
         ensures { result ≡ entry_after outref_cmp (option_map (λ r. r.now) after.entry) self.now.outputs }
     {
-        let (r, o) = match after {
-            None => self.outputs.first_key_value()?,
-            Some(last) => self
-                .outputs
-                .range((Bound::Excluded(*last), Bound::Unbounded))
-                .next()?,
-        };
+        let (r, o) = self.outputs.range(keys_past(after)).next()?;
         Some((*r, *o))
     }
 
@@ -129,13 +120,9 @@ impl UtxoSet {
     pub fn next_used(&self, after: Option<&TxId>) -> Option<TxId>
         ensures { result ≡ key_after txid_cmp (option_map (λ id. id.now) after.entry) self.now.used }
     {
-        match after {
-            None => self.used.first().copied(),
-            Some(last) => self
-                .used
-                .range((Bound::Excluded(*last), Bound::Unbounded))
-                .next()
-                .copied(),
-        }
+        self.used.range(keys_past(after)).next().copied()
     }
 }
+
+#[cfg(test)]
+mod tests;
