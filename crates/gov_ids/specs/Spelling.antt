@@ -1,6 +1,5 @@
 -- How each id is written: what a text reads as, and what an id is printed as.
-use Rattle.std.specs.Prelude.{ℕ, ◌*◌, Bool, not, ◌&&◌, ◌==◌, nat_lt, if◌then◌else◌, List, [], ◌∷◌, ◌++◌, length, take, drop, codes, decimal, bytes_eq, nat_eq, false, Option, Some, None, option_map, option_and_then, Result, Ok, Err}
-use Rattle.std.specs.Char.{is_ascii_digit}
+use Rattle.std.specs.Prelude.{ℕ, ◌*◌, ◌&&◌, ◌==◌, nat_lt, if◌then◌else◌, List, [], ◌∷◌, ◌++◌, length, take, drop, codes, decimal, bytes_eq, nat_eq, Option, Some, None, option_map, option_and_then, Result, Ok, Err}
 use Rattle.std.specs.List.{starts_with}
 use Rattle.std.specs.Result.{result_ok}
 use Rattle.std.specs.Str.{all_ascii_digits}
@@ -46,15 +45,15 @@ kind_of letter = if letter == 107 then Some Key else if letter == 115 then Some 
 abbrev pub network_of : ℕ → Option ℕ
 network_of digit = if digit == 48 then Some 0 else if digit == 49 then Some 1 else None
 
--- decimal digits, with no zero in front but for 0 itself
-abbrev pub is_plain_decimal : List ℕ → Bool
-is_plain_decimal [] = false
-is_plain_decimal (digit ∷ []) = is_ascii_digit digit
-is_plain_decimal (first ∷ second ∷ rest) = not (first == 48) && all_ascii_digits (first ∷ second ∷ rest)
+-- decimal digits, of a number below 2 ^ 16
+abbrev pub number_of : List ℕ → Option ℕ
+number_of digits = if all_ascii_digits digits && nat_lt (digits_value 10 digits) 65536 then Some (digits_value 10 digits) else None
 
--- a number below 2 ^ 16
+-- at least one digit, and no zero in front of others
 abbrev pub index_of : List ℕ → Option ℕ
-index_of digits = if is_plain_decimal digits && nat_lt (digits_value 10 digits) 65536 then Some (digits_value 10 digits) else None
+index_of [] = None
+index_of (digit ∷ []) = number_of (digit ∷ [])
+index_of (first ∷ second ∷ rest) = if first == 48 then None else number_of (first ∷ second ∷ rest)
 
 -- the kind's letter, then the hash
 abbrev pub credential_of : List ℕ → Option Credential

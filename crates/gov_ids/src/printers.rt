@@ -37,8 +37,7 @@ pub fn push_account(out: &mut Vec<u8>, a: &Account) -> Result<(), NoMemory>
     ensures ok { OnOk result (out.new.items ≡ out.old.items ++ account_text a.now) }
     ensures err { OnErr result (take (vec_len out.old) out.new.items ≡ out.old.items) }
 {
-    push_number(out, u16::from(a.network))?;
-    push_credential(out, &a.cred)
+    push_place(out, a.network, &a.cred)
 }
 
 /// Appends an address. (Own)
@@ -46,8 +45,7 @@ pub fn push_address(out: &mut Vec<u8>, a: &Address) -> Result<(), NoMemory>
     ensures ok { OnOk result (out.new.items ≡ out.old.items ++ address_text a.now) }
     ensures err { OnErr result (take (vec_len out.old) out.new.items ≡ out.old.items) }
 {
-    push_number(out, u16::from(a.network))?;
-    push_credential(out, &a.payment)?;
+    push_place(out, a.network, &a.payment)?;
     push_stake(out, &a.stake)
 }
 
@@ -110,6 +108,15 @@ pub fn push_voter(out: &mut Vec<u8>, v: &Voter) -> Result<(), NoMemory>
             push_pool(out, p)
         }
     }
+}
+
+// A credential of a network.
+fn push_place(out: &mut Vec<u8>, network: u8, c: &Credential) -> Result<(), NoMemory>
+    ensures ok { OnOk result (out.new.items ≡ out.old.items ++ decimal network ++ credential_text c.now) }
+    ensures err { OnErr result (take (vec_len out.old) out.new.items ≡ out.old.items) }
+{
+    push_number(out, u16::from(network))?;
+    push_credential(out, c)
 }
 
 fn push_stake(out: &mut Vec<u8>, stake: &Option<Credential>) -> Result<(), NoMemory>

@@ -1,6 +1,6 @@
 // What a text reads as: one reader for each id.
 ghost use Rattle.std.specs.Prelude.{◌≡◌};
-ghost use Rattle.gov_ids.specs.Spelling.{kind_of, network_of, index_of, place_of, stake_of, credential_of, account_of, address_of, ref_of, action_id_of, pool_of, drep_of, voter_of};
+ghost use Rattle.gov_ids.specs.Spelling.{kind_of, network_of, number_of, index_of, place_of, stake_of, credential_of, account_of, address_of, ref_of, action_id_of, pool_of, drep_of, voter_of};
 
 use crate::hashes::read_hash;
 use crate::{Account, ActionId, Address, CredKind, Credential, Drep, OutRef, PoolId, TxId, Voter};
@@ -25,6 +25,7 @@ pub fn read_account(text: &str) -> Option<Account>
 
 /// Reads an address: the network's digit, a payment credential, then nothing or `+` and a stake
 /// credential. (Own)
+#[tactic(auto, using(crate::proofs::ReaderLemmas::address_of_short))]
 pub fn read_address(text: &str) -> Option<Address>
     ensures { result ≡ address_of text.now }
 {
@@ -40,6 +41,7 @@ pub fn read_address(text: &str) -> Option<Address>
 
 /// Reads an output reference: 64 hex digits, `#`, a decimal index below 65536 without a leading
 /// zero. (Own)
+#[tactic(auto, using(crate::proofs::ReaderLemmas::ref_of_short))]
 pub fn read_ref(text: &str) -> Option<OutRef>
     ensures { result ≡ ref_of text.now }
 {
@@ -51,6 +53,7 @@ pub fn read_ref(text: &str) -> Option<OutRef>
 }
 
 /// Reads a governance action's id, in the form of an output reference. (Own)
+#[tactic(auto, using(crate::proofs::ReaderLemmas::action_id_of_short))]
 pub fn read_action_id(text: &str) -> Option<ActionId>
     ensures { result ≡ action_id_of text.now }
 {
@@ -72,10 +75,10 @@ pub fn read_pool(text: &str) -> Option<PoolId>
 pub fn read_drep(text: &str) -> Option<Drep>
     ensures { result ≡ drep_of text.now }
 {
-    match text.as_bytes() {
-        b"abstain" => Some(Drep::Abstain),
-        b"no-confidence" => Some(Drep::NoConfidence),
-        digits => Some(Drep::Registered(credential(digits)?)),
+    match text {
+        "abstain" => Some(Drep::Abstain),
+        "no-confidence" => Some(Drep::NoConfidence),
+        _ => Some(Drep::Registered(credential(text.as_bytes())?)),
     }
 }
 
@@ -156,11 +159,22 @@ fn index(digits: &[u8]) -> Option<u16>
 {
     match digits {
         [] | [b'0', _, ..] => None,
-        _ => digits.iter().try_fold(0u16, |n, digit| {
-            if !digit.is_ascii_digit() {
-                return None;
-            }
-            n.checked_mul(10)?.checked_add(u16::from(*digit - b'0'))
-        }),
+        _ => number(digits),
     }
+}
+
+// The number below 2^16 that the digits write.
+fn number(digits: &[u8]) -> Option<u16>
+    ensures { result ≡ number_of digits.now }
+{
+    let mut number: u16 = 0;
+    for digit in digits {
+        if !digit.is_ascii_digit() {
+            return None;
+        }
+        number = number
+            .checked_mul(10)?
+            .checked_add(u16::from(*digit - b'0'))?;
+    }
+    Some(number)
 }
