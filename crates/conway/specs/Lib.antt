@@ -5,6 +5,7 @@ pub mod Pieces
 pub mod Records
 pub mod Gives
 pub mod World
+pub mod Starts
 pub mod Checks
 pub mod Step
 pub mod Texts

@@ -1,12 +1,13 @@
 -- The whole state of the ledger as plain data, and its pots. (The ledger state of the formal specification; the pots of its preservation of value)
 use Rattle.std.specs.Prelude.{◌≡◌, ℕ, true, ◌≤◌, ◌+◌, ◌==◌, Bool, List, [], ◌∷◌, Option, Some, None, map, sum_by, option_map, find, nat_lt, not}
 use Rattle.std.specs.List.{AllByRecursion}
-use Rattle.maps.specs.Maps.{sum_values, with_values, in_order, has_member}
+use Rattle.maps.specs.Maps.{with_values, in_order, has_member}
 use Rattle.maps.specs.Words.{repeats}
 use Rattle.book_records.specs.declared.Output.{Output}
 use Rattle.gov_ids.specs.declared.OutRef.{OutRef}
 use Rattle.gov_ids.specs.declared.TxId.{TxId}
 use Rattle.gov_ids.specs.Orders.{outref_cmp, txid_cmp}
+use Rattle.utxo_set.specs.Utxos.{lovelace_in}
 use Rattle.conway.specs.declared.record.Genesis.{Genesis}
 use Rattle.conway.specs.declared.record.GenesisRule.{GenesisRule}
 use Rattle.conway.specs.declared.record.GenesisRule.TheVariants.{SupplyTooLarge, Repeated, SumWrong}
@@ -21,9 +22,6 @@ pub record World : Type 0 where
   pub fees : ℕ
   pub outputs : List (OutRef × Output)
   pub used : List TxId
-
-abbrev pub lovelace_in : List (OutRef × Output) → ℕ
-lovelace_in outputs = sum_values (λ (o : Output). o.lovelace) outputs
 
 -- the seven pots; four of them stay empty so far
 abbrev pub pots_of : World → Pots

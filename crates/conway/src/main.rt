@@ -2,9 +2,12 @@
 #![tactic(auto)]
 
 mod fields;
+mod ledger;
 mod limits;
 mod lists;
 mod reading;
 mod record;
+mod rules;
+mod text;
 
 fn main() {}
