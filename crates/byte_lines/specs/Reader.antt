@@ -1,5 +1,6 @@
 -- A reader of lines as a value, and the lines that it has still to give.
-use Rattle.std.specs.Prelude.{◌≡◌, ℕ, ◌-◌, ◌++◌, Bool, List, [], ◌∷◌, Option, Some, None, length, take, ◌==◌, if◌then◌else◌}
+use Rattle.std.specs.Prelude.{◌≡◌, ℕ, ◌-◌, ◌≤◌, ◌++◌, Bool, List, [], ◌∷◌, Option, Some, None, length, take, ◌==◌, if◌then◌else◌}
+use Rattle.std.specs.Option.{ForSome}
 use Rattle.byte_lines.specs.Pieces.{line_feed, kept, lines_of}
 
 -- a reader of lines
@@ -57,3 +58,7 @@ with_run max (Some line) run = kept max (line ++ run)
 abbrev pub weight : Option (List ℕ) → ℕ
 weight None = 1
 weight (Some line) = length line
+
+-- the line begun is no longer than max
+abbrev pub FitsIn : ℕ → Option (List ℕ) → Type 0
+FitsIn max begun = ForSome begun (λ line. length line ≤ max)
