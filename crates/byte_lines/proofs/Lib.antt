@@ -1,3 +1,4 @@
+pub mod GivenLemmas
 pub mod PieceLemmas
 pub mod RunLemmas
 pub mod TurnLemmas

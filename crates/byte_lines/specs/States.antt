@@ -1,6 +1,6 @@
 -- Where a reader of lines stands.
 use Rattle.std.specs.Prelude.{◌≡◌, ℕ, ◌+◌, ◌≤◌, ◌<◌, Bool, true, false, List, [], Option, Some, IsTrue, length}
-use Rattle.byte_lines.specs.Reader.{weight}
+use Rattle.byte_lines.specs.Reader.{FitsIn, weight}
 use Rattle.byte_lines.specs.declared.lines.State.{State}
 use Rattle.byte_lines.specs.declared.lines.State.TheVariants.{Reading, Ended, TooMuch, NoMemory}
 
@@ -26,9 +26,11 @@ bytes_over TooMuch = 1
 bytes_over NoMemory = 0
 
 -- what holds of the fields of a reader
-pub record IsSound (state : State) (taken stream_max number : ℕ) (begun : Option (List ℕ)) (ahead : List ℕ) : Type 0 where
+pub record IsSound (state : State) (line_max stream_max taken number : ℕ) (begun : Option (List ℕ)) (ahead text : List ℕ) : Type 0 where
   -- each line took a byte
   pub counted : number + length ahead + weight begun ≤ taken
   pub within : taken ≤ stream_max
+  pub fits : FitsIn line_max begun
+  pub text_fits : length text ≤ line_max
   pub ended : IsTrue (is_ended state) → (ahead ≡ []) × (begun ≡ Some [])
   pub over : 0 < bytes_over state → (taken ≡ stream_max) × (ahead ≡ [])

@@ -3,7 +3,7 @@ ghost use Rattle.std.specs.Prelude.{◌≡◌, ℕ, ◌<◌, ◌≤◌, List, []
 ghost use Rattle.byte_lines.specs.Faults.{Rose, before_bytes};
 
 use super::lines::LineFault;
-use super::source::Source;
+use super::source::{ReadFault, Source};
 use std::alloc::Global;
 use std::marker::Model;
 
@@ -67,14 +67,29 @@ impl Ahead {
         ensures other { result ≡ Err LineFault.TooMuch → ⊥ }
         ensures counted { S.faults source.old ≤ S.faults source.new }
     {
-        self.start = 0;
-        self.end = 0;
         if self.chunk.is_empty() {
             self.chunk.resize(CHUNK, 0)?;
         }
-        let most = self.chunk.len().min(max);
-        let count = source.read(&mut self.chunk[..most])?;
+        self.start = 0;
+        self.end = 0;
+        let count = read_front(source, &mut self.chunk, max)?;
         self.end = count;
         Ok(count)
     }
+}
+
+/// Reads once into the front of `chunk`, at most `max` bytes.
+fn read_front<S: Source>(source: &mut S, chunk: &mut [u8], max: usize) -> Result<usize, ReadFault>
+    requires chunk { 0 < length chunk.old }
+    requires room { 0 < max }
+    ensures fits { IfOk result (λ n. n ≤ length chunk.old) }
+    ensures most { IfOk result (λ n. n ≤ max) }
+    ensures gave { IfOk result (λ n. S.left source.old ≡ before_bytes (take n chunk.new) (S.left source.new)) }
+    ensures end { IfOk result (λ n. n ≡ 0 → IfSome (S.left source.old) (λ bytes. bytes ≡ [])) }
+    ensures stays { OnErr result (S.left source.new ≡ S.left source.old) }
+    ensures rose { OnErr result (Rose (S.faults source.old) (S.faults source.new)) }
+    ensures counted { S.faults source.old ≤ S.faults source.new }
+{
+    let most = chunk.len().min(max);
+    source.read(&mut chunk[..most])
 }

@@ -1,10 +1,11 @@
 //! The line that is being read.
-ghost use Rattle.std.specs.Prelude.{◌≡◌, ℕ, List, [], Some, ◌↔◌, IsTrue, OnOk, IfSome};
+ghost use Rattle.std.specs.Prelude.{◌≡◌, ℕ, List, [], Some, ◌↔◌, IsTrue, OnOk, OnErr};
 ghost use Rattle.byte_lines.specs.Reader.{with_run};
 ghost use Rattle.byte_lines.specs.Begun.{Finishes};
 
 use super::lines::Line;
-use std::alloc::{AllocError, Global};
+use coin_frac::NoMemory;
+use std::alloc::Global;
 use std::marker::Model;
 use std::mem;
 
@@ -40,18 +41,19 @@ impl Begun {
     }
 
     /// Adds a run of bytes. A line that grows beyond `max` bytes is let go.
-    pub fn extend(&mut self, max: usize, run: &[u8]) -> Result<(), AllocError>
-        ensures { OnOk result (self.new ≡ with_run max self.old run.now) }
+    pub fn extend(&mut self, max: usize, run: &[u8]) -> Result<(), NoMemory>
+        ensures ok { OnOk result (self.new ≡ with_run max self.old run.now) }
+        ensures err { OnErr result (self.new ≡ self.old) }
     {
         if self.is_too_long {
             return Ok(());
         }
         if self.line.len() + run.len() > max {
-            self.line.clear();
             self.is_too_long = true;
             return Ok(());
         }
-        self.line.extend_from_slice(run)
+        self.line.extend_from_slice(run)?;
+        Ok(())
     }
 
     /// Ends the line: `text` becomes it where it is not too long, and another line is begun.
@@ -61,6 +63,7 @@ impl Begun {
     {
         if self.is_too_long {
             self.is_too_long = false;
+            self.line.clear();
             return Line::TooLong;
         }
         mem::swap(&mut self.line, text);

@@ -112,7 +112,7 @@ impl Model for Lines {
       failed = is_failed a.state;
     } };
 
-    ghost invariant = { λ a. IsSound a.state a.taken a.stream_max a.number a.begun a.ahead };
+    ghost invariant = { λ a. IsSound a.state a.line_max a.stream_max a.taken a.number a.begun a.ahead a.text.items };
 }
 
 impl Lines {
@@ -183,7 +183,8 @@ impl Lines {
 
     /// The line of the last `Whole`, without its line feed; empty before the first.
     pub fn text(&self) -> &[u8]
-        ensures { result.now ≡ self.now.text }
+        ensures line { result.now ≡ self.now.text }
+        ensures fits { length result.now ≤ self.now.line_max }
     {
         &self.text
     }

@@ -66,10 +66,9 @@ pub fn put_all<K: Sink>(sink: &mut K, piece: &[u8]) -> Result<(), SinkFault>
     ensures counted { K.faults sink.old ≤ K.faults sink.new }
     ensures empty { piece.now ≡ [] → (result ≡ Ok tt) × (sink.new ≡ sink.old) }
 {
-    let mut rest = piece;
-    while !rest.is_empty() {
-        let taken = sink.write(rest)?;
-        rest = &rest[taken..];
+    let mut at = 0;
+    while at < piece.len() {
+        at += sink.write(&piece[at..])?;
     }
     Ok(())
 }
