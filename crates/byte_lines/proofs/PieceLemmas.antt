@@ -1,8 +1,8 @@
 -- Lemmas on the pieces of a stream.
 use Rattle.std.proofs.Common.{◌≡◌, ℕ, ◌+◌, ◌-◌, ◌<◌, ◌≤◌, ◌++◌, ◌⊎◌, inl, inr, Bool, true, false, List, [], ◌∷◌, Option, Some, None, length, map, take, refl, sym, ap, subst, ◌∙◌, arith, append_assoc}
-use Rattle.std.specs.Prelude.{◌==◌, nat_le, if◌then◌else◌}
+use Rattle.std.specs.Prelude.{◌==◌, slice_index, suc, if◌then◌else◌}
 use Rattle.std.specs.List.{list_any}
-use Rattle.std.proofs.lemmas.Bool.{false≢true, eqb-true}
+use Rattle.std.proofs.lemmas.Bool.{eqb-true, eq-eqb}
 use Rattle.std.proofs.lemmas.List.{append-nil, map-append}
 use Rattle.std.proofs.lemmas.List.Folds.{list_any-append}
 use Rattle.std.proofs.lemmas.Grind.{common_steps}
@@ -31,6 +31,14 @@ pub feed_cases : (b : ℕ) → (b ≡ line_feed) ⊎ ((b == line_feed) ≡ false
 feed_cases b = elim (b == line_feed) as (λ t. (b == line_feed) ≡ t → (b ≡ line_feed) ⊎ (t ≡ false)) [
     true ↦ λ e. inl (eqb-true b line_feed e)
     | false ↦ λ e. inr refl ] refl
+
+-- no place has a line feed
+pub no_feed : (bytes : List ℕ) → ((k : ℕ) → k < length bytes → ¬ ((slice_index bytes k == line_feed) ≡ true)) → has_feed bytes ≡ false
+no_feed [] none = refl
+no_feed (b ∷ bs) none =
+    elim (feed_cases b) [
+      inl feed ↦ absurd (none 0 (omega arith) (eq-eqb b line_feed feed))
+      | inr other ↦ rw other (no_feed bs (λ k below. none (suc k) (omega arith))) ]
 
 -- a run without a line feed goes on the piece begun
 pub pieces_from-run : (begun run rest : List ℕ) → has_feed run ≡ false → pieces_from begun (run ++ rest) ≡ pieces_from (begun ++ run) rest

@@ -218,16 +218,20 @@ impl Lines {
         ensures { LooksAhead self.old self.new result }
     {
         let ahead = self.ahead.as_slice();
-        let feed = memchr(b'\n', ahead);
-        let count = feed.unwrap_or(ahead.len());
-        self.begun.extend(self.line_max as usize, &ahead[..count])?;
-        self.ahead.pass(count);
-        if feed.is_none() {
-            return Ok(None);
+        match memchr(b'\n', ahead) {
+            Some(at) => {
+                self.begun.extend(self.line_max as usize, &ahead[..at])?;
+                self.ahead.pass(at + 1);
+                self.number += 1;
+                Ok(Some(self.begun.finish(&mut self.text)))
+            }
+            None => {
+                let count = ahead.len();
+                self.begun.extend(self.line_max as usize, ahead)?;
+                self.ahead.pass(count);
+                Ok(None)
+            }
         }
-        self.ahead.pass(1);
-        self.number += 1;
-        Ok(Some(self.begun.finish(&mut self.text)))
     }
 
     /// The line that the end of the source ends.
