@@ -269,6 +269,7 @@ impl Lines {
     fn look_beyond<S: Source>(&mut self, source: &mut S) -> Result<usize, LineFault>
         requires reading { IsReading self.old }
         requires looked { self.old.ahead ≡ [] }
+        requires full { self.old.stream_max ≤ self.old.taken }
         ensures takes { TakesMore self.old self.new (S.left source.old) (S.left source.new) result }
         ensures counted { S.faults source.old ≤ S.faults source.new }
         ensures rose { result ≡ Err LineFault.ReadFault → Rose (S.faults source.old) (S.faults source.new) }
