@@ -1,0 +1,9 @@
+pub mod Answers
+pub mod Begun
+pub mod Faults
+pub mod InMemory
+pub mod Laws
+pub mod Pieces
+pub mod Reader
+pub mod States
+pub mod Turns
