@@ -1,19 +1,18 @@
 -- Each form: its text reads back, what reads is spelled so, and the case of hex digits does not count.
-use Rattle.std.proofs.Common.{◌≡◌, ℕ, ◌+◌, ◌*◌, ◌<◌, ◌==◌, List, [], ◌∷◌, ◌++◌, length, take, drop, map, codes, decimal, Option, Some, None, option_map, option_and_then, IfSome, Result, Ok, Err, refl, sym, ap, ◌∙◌, append_assoc, arith, inl, inr}
+use Rattle.std.proofs.Common.{◌≡◌, ℕ, ◌+◌, ◌<◌, ◌==◌, List, [], ◌∷◌, ◌++◌, length, take, drop, codes, decimal, Option, Some, None, option_map, option_and_then, IfSome, Result, Ok, Err, refl, sym, ap, ◌∙◌, append_assoc, arith, inl, inr}
 use Rattle.std.proofs.lemmas.Bool.{cases_eq, ne_eqb}
 use Rattle.std.proofs.lemmas.Fmt.{decimal_digit}
 use Rattle.std.proofs.lemmas.List.{drop-map, drop_at, map-append, take-append-drop, take-map, take_at}
 use Rattle.std.proofs.lemmas.Option.{none-some, same_Some}
 use Rattle.std.specs.Result.{result_ok}
 use Rattle.hex.proofs.HexLemmas.{length-encode_with}
-use Rattle.hex.specs.Hex.{encode_lower, lower_digits}
+use Rattle.hex.specs.Hex.{lower_digits}
 use Rattle.gov_ids.specs.declared.Account.{Account}
 use Rattle.gov_ids.specs.declared.ActionId.{ActionId}
 use Rattle.gov_ids.specs.declared.Address.{Address}
 use Rattle.gov_ids.specs.declared.CredKind.{CredKind}
 use Rattle.gov_ids.specs.declared.CredKind.TheVariants.{Key, Script}
 use Rattle.gov_ids.specs.declared.Credential.{Credential}
-use Rattle.gov_ids.specs.declared.IdFault.{IdFault}
 use Rattle.gov_ids.specs.declared.OutRef.{OutRef}
 use Rattle.gov_ids.specs.declared.PoolId.{PoolId}
 use Rattle.gov_ids.specs.Laws.{IsAccount, IsActionId, IsAddress, IsCredential, IsHash, IsOutRef, IsPoolId, digit_lowered, lowered}
@@ -129,7 +128,7 @@ stake_of-text None is = refl
 stake_of-text (Some c) is = rw (credential_of-text c is) refl
 
 -- what a mapped option shows
-map_some : {A B : Type 0} (f : A → B) (o : Option A) (y : B) → option_map f o ≡ Some y → (x : A) × (o ≡ Some x) × (f x ≡ y)
+pub map_some : {A B : Type 0} (f : A → B) (o : Option A) (y : B) → option_map f o ≡ Some y → (x : A) × (o ≡ Some x) × (f x ≡ y)
 map_some f None y e = absurd (none-some y e)
 map_some f (Some x) y e = (x, refl, same_Some (f x) y e)
 
@@ -157,9 +156,14 @@ pub address_of-text : (a : Address) → IsAddress a → address_of (address_text
 address_of-text a is =
     let small = is.0 in
     let len = length-credential_text a.payment is.1 in
-    rw (decimal_digit a.network (omega arith), network_digit a.network is.0,
-      take_at (credential_text a.payment) (stake_text a.stake) 57 len, drop_at (credential_text a.payment) (stake_text a.stake) 57 len,
-      credential_of-text a.payment is.1, stake_of-text a.stake is.2) refl
+    rw (
+      decimal_digit a.network (omega arith),
+      network_digit a.network is.0,
+      take_at (credential_text a.payment) (stake_text a.stake) 57 len,
+      drop_at (credential_text a.payment) (stake_text a.stake) 57 len,
+      credential_of-text a.payment is.1,
+      stake_of-text a.stake is.2,
+    ) refl
 
 address_parts : (d n : ℕ) (rest : List ℕ) (c : Credential) (o : Option Credential) (a : Address) → network_of d ≡ Some n
     → credential_of (take 57 rest) ≡ Some c → stake_of (drop 57 rest) ≡ Some o
@@ -169,9 +173,12 @@ address_parts d n rest c o a network payment stake e =
     let p = credential_of-read (take 57 rest) c payment in
     let s = stake_of-read (drop 57 rest) o stake in
     let halves : lowered rest ≡ credential_text c ++ stake_text o =
-        ap lowered (sym (take-append-drop 57 rest)) ∙ map-append digit_lowered (take 57 rest) (drop 57 rest) ∙ rw (p.1, s.1) refl in
-    rw (← e) ((v.0, p.0, s.0), ap (λ xs. digit_lowered d ∷ xs) halves
-      ∙ ap (λ (xs : List ℕ). xs ++ (credential_text c ++ stake_text o)) v.1 ∙ sym (append_assoc (decimal n) (credential_text c) (stake_text o)))
+    ap lowered (sym (take-append-drop 57 rest)) ∙ map-append digit_lowered (take 57 rest) (drop 57 rest) ∙ rw (p.1, s.1) refl in
+    rw (← e) (
+      (v.0, p.0, s.0),
+      ap (λ xs. digit_lowered d ∷ xs) halves
+          ∙ ap (λ (xs : List ℕ). xs ++ (credential_text c ++ stake_text o)) v.1 ∙ sym (append_assoc (decimal n) (credential_text c) (stake_text o)),
+    )
 
 pub address_of-read : (s : List ℕ) (a : Address) → address_of s ≡ Some a → IsAddress a × (lowered s ≡ address_text a)
 address_of-read [] a e = absurd (none-some a e)
@@ -222,7 +229,7 @@ place_parts s h n hash place =
       r.0,
       p.0,
       ap lowered (sym (take-append-drop 64 s)) ∙ map-append digit_lowered (take 64 s) (drop 64 s)
-      ∙ rw (r.1, p.1) (sym (append_assoc (hash_text h) (codes "#") (decimal n))),
+          ∙ rw (r.1, p.1) (sym (append_assoc (hash_text h) (codes "#") (decimal n))),
     )
 
 pub ref_of-lowered : (s : List ℕ) → ref_of (lowered s) ≡ ref_of s

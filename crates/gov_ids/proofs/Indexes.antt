@@ -1,6 +1,6 @@
 -- An index reads from its decimal text and from no other.
-use Rattle.std.proofs.Common.{◌≡◌, ◌≢◌, ℕ, zero, suc, ◌+◌, ◌-◌, ◌*◌, ◌/◌, ◌%◌, ◌<◌, ◌≤◌, ◌==◌, ◌⊎◌, inl, inr, Bool, true, false, ◌&&◌, not, nat_lt, if◌then◌else◌, List, [], ◌∷◌, ◌++◌, length, take, slice_index, map, decimal, Option, Some, None, refl, sym, ap, ◌∙◌, arith, rules}
-use Rattle.std.proofs.lemmas.Bool.{and_parts, cases_eq, eq-eqb, eqb-true, ltb-true, lt-ltb, ne_eqb}
+use Rattle.std.proofs.Common.{◌≡◌, ◌≢◌, ℕ, zero, suc, ◌+◌, ◌-◌, ◌*◌, ◌/◌, ◌%◌, ◌<◌, ◌==◌, ◌⊎◌, inl, inr, Bool, true, false, ◌&&◌, nat_lt, List, [], ◌∷◌, ◌++◌, length, take, slice_index, decimal, Some, None, refl, sym, ap, ◌∙◌, arith}
+use Rattle.std.proofs.lemmas.Bool.{and_parts, cases_eq, eq-eqb, ltb-true, lt-ltb, ne_eqb}
 use Rattle.std.proofs.lemmas.Fmt.{decimal_digit, decimal_nonempty, decimal_step, digits_decimal, digits_value-decimal, first_decimal}
 use Rattle.std.proofs.lemmas.Int.Digits.{digits_value_more}
 use Rattle.std.proofs.lemmas.List.{take_all, take_more}
@@ -9,7 +9,7 @@ use Rattle.std.proofs.lemmas.Str.Parse.{IsNumeralModel, digit_at, digits_value-t
 use Rattle.std.specs.Char.{digit_value, is_ascii_digit}
 use Rattle.std.specs.Int.{IsInRange}
 use Rattle.std.specs.Str.{all_ascii_digits}
-use Rattle.std.specs.Str.Parse.{digits_value, digits_value_after}
+use Rattle.std.specs.Str.Parse.{digits_value}
 use Rattle.gov_ids.specs.Spelling.{index_of, number_of}
 use Rattle.gov_ids.specs.Laws.{digit_lowered, lowered}
 
@@ -119,7 +119,7 @@ front_is ds digits small other (suc k) within =
     let fits = digits_value-take-le 10 ds (suc k + 1) (omega arith) in (
       omega arith,
       step (digits_value 10 (take (suc k) ds)) (slice_index ds (suc k)) (digits_value 10 (take (suc k + 1) ds)) (take (suc k) ds) more range v (omega arith) text
-      ∙ sym (take_more ds (suc k) 0 within),
+          ∙ sym (take_more ds (suc k) 0 within),
     )
 
 text_is : (ds : List ℕ) (k : ℕ) → k + 1 ≡ length ds → all_ascii_digits ds ≡ true → digits_value 10 ds < 65536
