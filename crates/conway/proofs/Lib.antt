@@ -1,3 +1,4 @@
+pub mod Heard
 pub mod Items
 pub mod Json
 pub mod Words

@@ -1,7 +1,6 @@
 pub mod Limits
 pub mod Options
 pub mod Fields
-pub mod Pieces
 pub mod Records
 pub mod Gives
 pub mod World
@@ -10,3 +9,8 @@ pub mod Checks
 pub mod Step
 pub mod Texts
 pub mod Runs
+pub mod Statuses
+pub mod Commands
+pub mod Heard
+pub mod Endings
+pub mod Turns

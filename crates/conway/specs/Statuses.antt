@@ -1,5 +1,5 @@
 -- The endings of a run. (Own)
-use Rattle.std.specs.Prelude.{ℕ}
+use Rattle.std.specs.Prelude.{ℕ, Result, Ok, Err}
 use Rattle.byte_lines.specs.declared.lines.LineFault.{LineFault}
 use Rattle.byte_lines.specs.declared.lines.LineFault.TheVariants as line_faults
 use Rattle.byte_lines.specs.declared.sink.SinkFault.{SinkFault}
@@ -35,3 +35,8 @@ status_of_sink_fault sink_faults.NoMemory = statuses.NoMemory
 abbrev pub status_of_genesis_fault : GenesisFault → Status
 status_of_genesis_fault (genesis_faults.Broken rule) = statuses.BadGenesis (Broken rule)
 status_of_genesis_fault genesis_faults.NoMemory = statuses.NoMemory
+
+-- how a run ends that answers so
+abbrev pub status_by : {A : Type 0} → Result A Status → Status
+status_by (Ok x) = statuses.Done
+status_by (Err status) = status

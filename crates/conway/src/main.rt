@@ -18,10 +18,13 @@ use byte_lines::{ReaderSource, WriterSink};
 use run::run;
 use std::env;
 use std::process::ExitCode;
+use std::rt::Env;
 
 /// The words after the program's name, where the system gives them.
-fn words_of(rt: &(impl Env + Alloc)) -> Option<Vec<String>> {
-    None
+fn words_of(rt: &(impl Env + AllocGlobal)) -> Option<Vec<String>> {
+    let mut words = env::args(rt).ok()?;
+    let _program = words.next();
+    words.collect(rt.alloc()).ok()
 }
 
 fn main(rt: HostRuntime) -> ExitCode {
