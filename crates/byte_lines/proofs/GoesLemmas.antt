@@ -23,6 +23,7 @@ Goes-look old now mid l0 l1 goes looks =
         taken = λ told. ap (λ (r : Reader). r.taken) is ∙ goes.taken told;
         lines = λ told rest. goes.lines told rest ∙ looks.1 rest;
         reader = let F : Reader → Reader = λ r. record r { taken = mid.taken; begun = mid.begun; ahead = mid.ahead } in ap F is ∙ ap F goes.reader;
+        grows = omega (arith, goes.grows, ap (λ (r : Reader). r.taken) is);
         within = omega (arith, goes.within, ap (λ (r : Reader). r.taken) is, ap (λ (r : Reader). r.stream_max) is)
       },
       ap (λ (r : Reader). r.ahead) is,
@@ -50,6 +51,9 @@ Goes-take old mid new l0 l1 l2 count goes looked takes =
           ∙ ap (λ (xs : List ℕ). lines_from mid.line_max mid.begun (xs ++ (new.ahead ++ rest))) looked
           ∙ ap (λ (r : Reader). lines_from r.line_max r.begun (new.ahead ++ rest)) (sym is);
       reader = let F : Reader → Reader = λ r. record r { taken = new.taken; begun = new.begun; ahead = new.ahead } in ap F is ∙ ap F goes.reader;
+      grows =
+          let now : new.taken ≡ mid.taken + count = ap (λ (r : Reader). r.taken) is in
+          omega (arith, goes.grows);
       within =
           let now : new.taken ≡ mid.taken + count = ap (λ (r : Reader). r.taken) is in
           let limit : new.stream_max ≡ mid.stream_max = ap (λ (r : Reader). r.stream_max) is in
@@ -71,6 +75,8 @@ Reads-fault old new l0 l1 fault reading goes looked other =
     record {
       gave = goes.gave;
       taken = goes.taken;
+      grows = goes.grows;
+      bound = omega (arith, goes.within);
       lines = λ told. gives fault (λ rest after_end.
           ap (λ (xs : List ℕ). lines_left old (xs ++ rest)) (all_heard old new l0 l1 goes told) ∙ goes.lines told rest);
       text = ap (λ (r : Reader). r.text) goes.reader;
@@ -109,6 +115,8 @@ Reads-beyond old mid new l0 l1 l2 reading goes looked takes =
           let came : length (given l0 l2) ≡ length (given l0 l1) + 1 = ap length (gave.1 told) ∙ length-append (given l0 l1) (takes.2.0 ∷ []) in
           let before : mid.taken ≡ old.taken + length (given l0 l1) = goes.taken told in
           omega arith;
+      grows = omega (arith, goes.grows);
+      bound = let top : new.stream_max ≡ mid.stream_max = ap (λ (r : Reader). r.stream_max) is in omega arith;
       lines = λ told rest after_end.
           let before : mid.taken ≡ old.taken + length (given l0 l1) = goes.taken told in
           let heeded : take (old.stream_max - old.taken) bytes ≡ given l0 l1 =
@@ -165,6 +173,8 @@ Reads-end old mid more new l0 l1 l2 line reading goes looked takes ends =
     record {
       gave = went.gave;
       taken = λ told. taken ∙ went.taken told;
+      grows = omega (arith, went.grows);
+      bound = omega (arith, went.within);
       lines = λ told rest after_end.
           let last : rest ≡ [] = after_end ends.ended in
           let nothing : lines_left new rest ≡ [] =

@@ -61,12 +61,15 @@ pub record Goes (old new : Reader) (left left' : Option (List ℕ)) : Type 0 whe
   pub taken : IsSome left → new.taken ≡ old.taken + length (given left left')
   pub lines : IsSome left → (rest : List ℕ) → lines_left old (given left left' ++ rest) ≡ lines_left new rest
   pub reader : new ≡ record old { taken = new.taken; begun = new.begun; ahead = new.ahead }
+  pub grows : old.taken ≤ new.taken
   pub within : new.taken ≤ new.stream_max
 
 -- what a call of `next` does, if the reader has not stopped
 pub record Reads (old new : Reader) (left left' : Option (List ℕ)) (result : Result Line LineFault) : Type 0 where
   pub gave : left ≡ before_bytes (given left left') left'
   pub taken : IsSome left → new.taken ≡ old.taken + length (given left left')
+  pub grows : old.taken ≤ new.taken
+  pub bound : new.taken ≤ new.stream_max + 1
   pub lines : IsSome left → GivesNext old new (given left left') result
   pub text : TextStays old new result
   pub number : new.number ≡ old.number + length (line_given result new)
