@@ -1,4 +1,5 @@
 pub mod GivenLemmas
+pub mod GoesLemmas
 pub mod LookLemmas
 pub mod PieceLemmas
 pub mod RunLemmas

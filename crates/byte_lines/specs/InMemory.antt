@@ -1,5 +1,7 @@
 -- Sources and sinks in memory as values.
-use Rattle.std.specs.Prelude.{ℕ, ◌+◌, ◌-◌, ◌^◌, List, min}
+use Rattle.std.specs.Prelude.{ℕ, ◌+◌, ◌-◌, ◌^◌, List, Result, Ok, Err, min}
+use Rattle.byte_lines.specs.declared.sink.SinkFault.{SinkFault}
+use Rattle.byte_lines.specs.declared.sink.SinkFault.TheVariants.{WriteFault, NoMemory}
 
 -- a source: the bytes left, and how many one read gives at most
 pub record Given : Type 0 where
@@ -25,3 +27,9 @@ pub record FaultyTaken : Type 0 where
 -- a count and one more, up to its last value
 abbrev pub one_more : ℕ → ℕ
 one_more n = min (n + 1) (2 ^ 64 - 1)
+
+-- how many writes failed, after one more
+abbrev pub faults_after : Result ℕ SinkFault → ℕ → ℕ
+faults_after (Err WriteFault) faults = one_more faults
+faults_after (Err NoMemory) faults = faults
+faults_after (Ok n) faults = faults

@@ -2,7 +2,7 @@
 use Rattle.std.specs.Prelude.{◌≡◌, ◌≢◌, ℕ, ◌+◌, ◌<◌, ◌++◌, List, [], ◌∷◌, Option, Result, Err, IsTrue, length}
 use Rattle.byte_lines.specs.Pieces.{line_feed, kept, lines_of, whole_of, open_of}
 use Rattle.byte_lines.specs.Reader.{Reader, lines_left}
-use Rattle.byte_lines.specs.Answers.{line_given, GivesNext, HasGiven}
+use Rattle.byte_lines.specs.Answers.{line_given, IsDone, GivesNext, HasGiven}
 use Rattle.byte_lines.specs.declared.lines.Line.{Line}
 use Rattle.byte_lines.specs.declared.lines.LineFault.{LineFault}
 use Rattle.byte_lines.specs.declared.lines.LineFault.TheVariants.{NoMemory}
@@ -24,6 +24,10 @@ FeedEndsBegun = (r : Reader) → r.ahead ≡ [] → lines_left r (line_feed ∷ 
 -- where a line feed is to come, a line is
 abbrev pub FeedGivesLine : Type 0
 FeedGivesLine = (r : Reader) (bytes : List ℕ) → 0 < length (lines_left r (bytes ++ line_feed ∷ []))
+
+-- a reader that is done gives no line more, if nothing comes
+abbrev pub DoneGivesNone : Type 0
+DoneGivesNone = (r : Reader) → IsDone r → lines_left r [] ≡ []
 
 -- what a call of `next` says of a source that tells its bytes
 pub record IsNext (old new : Reader) (more : List ℕ) (result : Result Line LineFault) : Type 0 where

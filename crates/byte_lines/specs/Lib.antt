@@ -5,5 +5,7 @@ pub mod InMemory
 pub mod Laws
 pub mod Pieces
 pub mod Reader
+pub mod Sinks
+pub mod Sources
 pub mod States
 pub mod Turns

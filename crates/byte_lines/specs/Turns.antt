@@ -31,11 +31,14 @@ LooksAhead old new (Ok None) =
     (new ≡ record old { begun = new.begun; ahead = [] }) × ((rest : List ℕ) → lines_left old rest ≡ lines_left new rest)
 LooksAhead old new (Err error) = new ≡ old
 
--- the end of the source came, with a line begun or with none
-abbrev pub Ends : Reader → Reader → Line → Type 0
-Ends old new End = (new ≡ record old { ended = true }) × (old.begun ≡ Some [])
-Ends old new Whole = EndsLine old new Whole × (new.ended ≡ true) × (lines_left old [] ≡ Some new.text ∷ [])
-Ends old new TooLong = EndsLine old new TooLong × (new.ended ≡ true) × (lines_left old [] ≡ None ∷ [])
+-- the end of the source came: it ended the line begun, if there was one
+pub record Ends (old new : Reader) (line : Line) : Type 0 where
+  pub reader : new ≡ record old { begun = new.begun; ahead = new.ahead; text = new.text; number = new.number; ended = new.ended }
+  pub ended : new.ended ≡ true
+  pub done : IsDone new
+  pub given : lines_left old [] ≡ line_given (Ok line) new
+  pub text : TextStays old new (Ok line)
+  pub number : new.number ≡ old.number + length (line_given (Ok line) new)
 
 -- a read brought bytes, the end, or a fault
 abbrev pub TakesMore : Reader → Reader → Option (List ℕ) → Option (List ℕ) → Result ℕ LineFault → Type 0
@@ -58,12 +61,15 @@ pub record Goes (old new : Reader) (left left' : Option (List ℕ)) : Type 0 whe
   pub taken : IsSome left → new.taken ≡ old.taken + length (given left left')
   pub lines : IsSome left → (rest : List ℕ) → lines_left old (given left left' ++ rest) ≡ lines_left new rest
   pub reader : new ≡ record old { taken = new.taken; begun = new.begun; ahead = new.ahead }
+  pub grows : old.taken ≤ new.taken
   pub within : new.taken ≤ new.stream_max
 
 -- what a call of `next` does, if the reader has not stopped
 pub record Reads (old new : Reader) (left left' : Option (List ℕ)) (result : Result Line LineFault) : Type 0 where
   pub gave : left ≡ before_bytes (given left left') left'
   pub taken : IsSome left → new.taken ≡ old.taken + length (given left left')
+  pub grows : old.taken ≤ new.taken
+  pub bound : new.taken ≤ new.stream_max + 1
   pub lines : IsSome left → GivesNext old new (given left left') result
   pub text : TextStays old new result
   pub number : new.number ≡ old.number + length (line_given result new)

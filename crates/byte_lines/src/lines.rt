@@ -3,7 +3,7 @@ ghost use Rattle.std.specs.Prelude.{◌≡◌, ℕ, ◌+◌, ◌<◌, ◌≤◌,
 ghost use Rattle.byte_lines.specs.Pieces.{lines_of};
 ghost use Rattle.byte_lines.specs.Faults.{Rose, before_bytes, given};
 ghost use Rattle.byte_lines.specs.Reader.{lines_left, with_run};
-ghost use Rattle.byte_lines.specs.Answers.{GivesNext, TextStays, IsDone, IsStopped, line_given};
+ghost use Rattle.byte_lines.specs.Answers.{HasGiven, GivesNext, TextStays, IsDone, IsStopped, line_given};
 ghost use Rattle.byte_lines.specs.Turns.{IsReading, Reads, LooksAhead, Ends, TakesMore};
 
 use super::ahead::Ahead;
@@ -130,6 +130,7 @@ impl Lines {
           failed = false;
         } }
         ensures lines { (rest : List ℕ) → lines_left result rest ≡ lines_of line_max rest }
+        ensures given { HasGiven result [] [] }
     {
         Lines {
             line_max,
@@ -149,6 +150,8 @@ impl Lines {
         ensures counted { S.faults source.old ≤ S.faults source.new }
         ensures taken { IsSome (S.left source.old) →
             self.new.taken ≡ self.old.taken + length (given (S.left source.old) (S.left source.new)) }
+        ensures grows { self.old.taken ≤ self.new.taken }
+        ensures bound { self.new.taken ≤ self.new.stream_max + 1 }
         ensures lines { IsSome (S.left source.old) →
             GivesNext self.old self.new (given (S.left source.old) (S.left source.new)) result }
         ensures text { TextStays self.old self.new result }

@@ -1,7 +1,9 @@
 //! Sources and sinks in memory.
-ghost use Rattle.std.specs.Prelude.{◌≡◌, ℕ, ◌+◌, ◌-◌, ◌<◌, ◌≤◌, ◌^◌, ◌↔◌, ◌++◌, List, [], Some, None, Ok, Err, length, take, drop, min, IsTrue, IsErr, IfOk, OnErr, IfSome, Contains};
+ghost use Rattle.std.specs.Prelude.{◌≡◌, ℕ, ◌+◌, ◌-◌, ◌<◌, ◌≤◌, ◌^◌, ◌↔◌, ◌++◌, List, [], Some, None, Ok, Err, length, take, drop, min, IsTrue, IsErr, IfOk, is_ok, if◌then◌else◌, OnErr, IfSome, Contains};
 ghost use Rattle.byte_lines.specs.Faults.{Rose, before_bytes, with_bytes};
-ghost use Rattle.byte_lines.specs.InMemory.{one_more};
+ghost use Rattle.byte_lines.specs.InMemory.{one_more, faults_after};
+ghost use Rattle.byte_lines.specs.Sources.{IsRead};
+ghost use Rattle.byte_lines.specs.Sinks.{IsWrite};
 
 use super::sink::{Sink, SinkFault};
 use super::source::{ReadFault, Source};
@@ -41,7 +43,12 @@ impl Source for MemorySource<'_> {
 
     ghost faults = { λ _. 0 };
 
-    fn read(&mut self, into: &mut [u8]) -> Result<usize, ReadFault> {
+    fn read(&mut self, into: &mut [u8]) -> Result<usize, ReadFault>
+        requires { 0 < length into.old }
+        ensures reads { IsRead (Some self.old.left) (Some self.new.left) 0 0 into.new result }
+        ensures count { result ≡ Ok (min (min self.old.part (length self.old.left)) (length into.old)) }
+        ensures part { self.new.part ≡ self.old.part }
+    {
         let count = self.part.min(self.rest.len()).min(into.len());
         let (front, rest) = self.rest.split_at(count);
         into[..count].copy_from_slice(front);
@@ -93,7 +100,16 @@ impl Source for FaultySource<'_> {
 
     ghost faults = { λ source. source.faults };
 
-    fn read(&mut self, into: &mut [u8]) -> Result<usize, ReadFault> {
+    fn read(&mut self, into: &mut [u8]) -> Result<usize, ReadFault>
+        requires { 0 < length into.old }
+        ensures reads { IsRead (Some self.old.left) (Some self.new.left) self.old.faults self.new.faults into.new result }
+        ensures fails { IsErr result ↔ Contains self.old.failing self.old.calls }
+        ensures count { IfOk result (λ n. n ≡ min (min self.old.part (length self.old.left)) (length into.old)) }
+        ensures calls { self.new ≡ record self.old {
+            left = self.new.left;
+            calls = one_more self.old.calls;
+            faults = (if is_ok result then self.old.faults else one_more self.old.faults) } }
+    {
         let fails = self.failing.contains(&self.calls);
         self.calls = self.calls.saturating_add(1);
         if fails {
@@ -140,7 +156,11 @@ impl Sink for MemorySink {
 
     ghost faults = { λ _. 0 };
 
-    fn write(&mut self, piece: &[u8]) -> Result<usize, SinkFault> {
+    fn write(&mut self, piece: &[u8]) -> Result<usize, SinkFault>
+        requires { 0 < length piece.now }
+        ensures writes { IsWrite (Some self.old) (Some self.new) 0 0 piece.now result }
+        ensures whole { IfOk result (λ n. n ≡ length piece.now) }
+    {
         self.bytes.extend_from_slice(piece)?;
         Ok(piece.len())
     }
@@ -201,7 +221,17 @@ impl Sink for FaultySink<'_> {
 
     ghost faults = { λ sink. sink.faults };
 
-    fn write(&mut self, piece: &[u8]) -> Result<usize, SinkFault> {
+    fn write(&mut self, piece: &[u8]) -> Result<usize, SinkFault>
+        requires { 0 < length piece.now }
+        ensures writes { IsWrite (Some self.old.bytes) (Some self.new.bytes) self.old.faults self.new.faults piece.now result }
+        ensures fails { (result ≡ Err SinkFault.WriteFault) ↔ Contains self.old.failing self.old.calls }
+        ensures count { IfOk result (λ n. n ≡ min self.old.part (length piece.now)) }
+        ensures calls { self.new ≡ record self.old {
+            bytes = self.new.bytes;
+            calls = one_more self.old.calls;
+            faults = self.new.faults } }
+        ensures faults { self.new.faults ≡ faults_after result self.old.faults }
+    {
         let fails = self.failing.contains(&self.calls);
         self.calls = self.calls.saturating_add(1);
         if fails {

@@ -1,6 +1,7 @@
 //! Where bytes go.
 ghost use Rattle.std.specs.Prelude.{◌≡◌, ℕ, ◌<◌, ◌≤◌, List, [], Option, length, take, Ok, IfOk, OnOk, OnErr};
 ghost use Rattle.byte_lines.specs.Faults.{Rose, with_bytes};
+ghost use Rattle.byte_lines.specs.Sinks.{IsWrite};
 
 use coin_frac::NoMemory;
 use std::alloc::AllocError;
@@ -48,12 +49,7 @@ pub trait Sink {
     /// Takes the first bytes of `piece`, at least one, and answers how many.
     fn write(&mut self, piece: &[u8]) -> Result<usize, SinkFault>
         requires { 0 < length piece.now }
-        ensures some { IfOk result (λ n. 0 < n) }
-        ensures fits { IfOk result (λ n. n ≤ length piece.now) }
-        ensures took { IfOk result (λ n. taken self.new ≡ with_bytes (taken self.old) (take n piece.now)) }
-        ensures stays { OnErr result (taken self.new ≡ taken self.old) }
-        ensures rose { result ≡ Err SinkFault.WriteFault → Rose (faults self.old) (faults self.new) }
-        ensures counted { faults self.old ≤ faults self.new };
+        ensures { IsWrite (taken self.old) (taken self.new) (faults self.old) (faults self.new) piece.now result };
 }
 
 /// Hands the whole piece to the sink. After an error the sink has taken a prefix of it; an empty

@@ -1,6 +1,6 @@
 //! Where bytes come from.
-ghost use Rattle.std.specs.Prelude.{◌≡◌, ℕ, ◌<◌, ◌≤◌, List, [], Option, length, take, IfSome, IfOk, OnErr};
-ghost use Rattle.byte_lines.specs.Faults.{Rose, before_bytes};
+ghost use Rattle.std.specs.Prelude.{ℕ, ◌<◌, List, Option, length};
+ghost use Rattle.byte_lines.specs.Sources.{IsRead};
 
 use thiserror::Error;
 
@@ -20,10 +20,5 @@ pub trait Source {
     /// Reads into the front of `into`, and answers how many bytes it read: 0 at the end alone.
     fn read(&mut self, into: &mut [u8]) -> Result<usize, ReadFault>
         requires { 0 < length into.old }
-        ensures fits { IfOk result (λ n. n ≤ length into.old) }
-        ensures gave { IfOk result (λ n. left self.old ≡ before_bytes (take n into.new) (left self.new)) }
-        ensures end { IfOk result (λ n. n ≡ 0 → IfSome (left self.old) (λ bytes. bytes ≡ [])) }
-        ensures stays { OnErr result (left self.new ≡ left self.old) }
-        ensures rose { OnErr result (Rose (faults self.old) (faults self.new)) }
-        ensures counted { faults self.old ≤ faults self.new };
+        ensures { IsRead (left self.old) (left self.new) (faults self.old) (faults self.new) into.new result };
 }

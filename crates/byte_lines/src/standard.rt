@@ -1,5 +1,8 @@
 //! A reader of `std::io` as a source, and a writer as a sink.
-ghost use Rattle.std.specs.Prelude.{◌≡◌, ℕ, ◌<◌, ◌≤◌, None, IfSome, length};
+ghost use Rattle.std.specs.Prelude.{◌≡◌, ℕ, ◌<◌, ◌≤◌, None, IfSome, length, is_ok, if◌then◌else◌};
+ghost use Rattle.byte_lines.specs.Sources.{IsRead};
+ghost use Rattle.byte_lines.specs.Sinks.{IsWrite};
+ghost use Rattle.byte_lines.specs.InMemory.{one_more};
 
 use super::sink::{Sink, SinkFault};
 use super::source::{ReadFault, Source};
@@ -34,7 +37,10 @@ impl<R: Read> Source for ReaderSource<R> {
 
     ghost faults = { λ count. count };
 
-    fn read(&mut self, into: &mut [u8]) -> Result<usize, ReadFault> {
+    fn read(&mut self, into: &mut [u8]) -> Result<usize, ReadFault>
+        ensures reads { IsRead None None self.old self.new into.new result }
+        ensures count { self.new ≡ (if is_ok result then self.old else one_more self.old) }
+    {
         match self.reader.read(into) {
             Ok(count) => Ok(count),
             Err(_) => {
@@ -86,7 +92,10 @@ impl<W: Write> Sink for WriterSink<W> {
 
     ghost faults = { λ count. count };
 
-    fn write(&mut self, piece: &[u8]) -> Result<usize, SinkFault> {
+    fn write(&mut self, piece: &[u8]) -> Result<usize, SinkFault>
+        ensures writes { IsWrite None None self.old self.new piece.now result }
+        ensures count { self.new ≡ (if is_ok result then self.old else one_more self.old) }
+    {
         match self.write_through(piece) {
             Some(count) => Ok(count),
             None => {

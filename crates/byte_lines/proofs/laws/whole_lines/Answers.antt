@@ -19,3 +19,7 @@ returns-clause-line c = λ r bytes. rw (sym (append_assoc r.ahead bytes (line_fe
 
 pub returns-clause-calls : goal.returns-clause-calls
 returns-clause-calls c = λ old new got more given result so_far next. HasGiven-more old new got more given result so_far next
+
+pub returns-clause-done : goal.returns-clause-done
+returns-clause-done c = λ r done.
+    ap (λ (xs : List ℕ). lines_from r.line_max r.begun (xs ++ [])) done.ahead ∙ ap (λ (o : Option (List ℕ)). lines_from r.line_max o []) done.begun
