@@ -89,7 +89,7 @@ Reads-fault old new l0 l1 fault reading goes looked other =
       drained = λ yes. cc;
       too_much = (λ is. let same : fault ≡ TooMuch = cc in absurd (other same), λ over. absurd (omega (arith, goes.within)));
       looked = λ either. looked;
-      no_memory = λ is. ended
+      unfinished = λ is. ended
     } where
   gives : (f : LineFault) → GoesOn old new (heard old (given l0 l1)) [] → GivesNext old new (given l0 l1) (Err f)
   gives ReadFault on = on
@@ -137,7 +137,7 @@ Reads-beyond old mid new l0 l1 l2 reading goes looked takes =
       drained = λ yes. cc;
       too_much = (λ same. omega arith, λ over. refl);
       looked = λ either. ap (λ (r : Reader). r.ahead) is ∙ looked;
-      no_memory = λ is. ended
+      unfinished = λ is. ended
     }
 
 -- a fault of the source, in whichever way, stops the call
@@ -197,5 +197,5 @@ Reads-end old mid more new l0 l1 l2 line reading goes looked takes ends =
       drained = λ yes. drained;
       too_much = (λ is. cc, λ beyond. absurd (omega (arith, went.within)));
       looked = λ either. ends.done.ahead;
-      no_memory = λ is. cc
+      unfinished = λ is. cc
     }

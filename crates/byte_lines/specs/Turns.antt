@@ -1,5 +1,5 @@
 -- What the steps of a reader of lines do.
-use Rattle.std.specs.Prelude.{◌≡◌, ℕ, ◌+◌, ◌≤◌, ◌<◌, ◌++◌, ◌⊎◌, ◌↔◌, Bool, true, false, IsTrue, List, [], ◌∷◌, Option, Some, None, Result, Ok, Err, IfSome, IsSome, length}
+use Rattle.std.specs.Prelude.{◌≡◌, ℕ, ◌+◌, ◌≤◌, ◌<◌, ◌++◌, ◌⊎◌, ◌↔◌, Bool, true, false, IsTrue, List, [], ◌∷◌, Option, Some, None, Result, Ok, Err, IfSome, IsErr, IsSome, length}
 use Rattle.coin_frac.specs.declared.NoMemory.{NoMemory as OutOfMemory}
 use Rattle.byte_lines.specs.Faults.{Rose, before_bytes, given}
 use Rattle.byte_lines.specs.Reader.{Reader, lines_left}
@@ -81,4 +81,4 @@ pub record Reads (old new : Reader) (left left' : Option (List ℕ)) (result : R
   pub drained : IsTrue new.ended → IfSome left' (λ bytes. bytes ≡ [])
   pub too_much : (result ≡ Err TooMuch) ↔ (old.stream_max < new.taken)
   pub looked : (result ≡ Err ReadFault) ⊎ (result ≡ Err TooMuch) → new.ahead ≡ []
-  pub no_memory : result ≡ Err NoMemory → new.ended ≡ false
+  pub unfinished : IsErr result → new.ended ≡ false

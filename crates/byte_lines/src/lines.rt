@@ -1,5 +1,5 @@
 //! The reader of lines.
-ghost use Rattle.std.specs.Prelude.{◌≡◌, ℕ, ◌+◌, ◌<◌, ◌≤◌, ◌↔◌, ◌⊎◌, List, [], ◌∷◌, ◌++◌, Some, Ok, Err, length, false, IsSome, IsTrue, IsOk, IfSome, IfOk, OnOk, take, drop, ⊤};
+ghost use Rattle.std.specs.Prelude.{◌≡◌, ℕ, ◌+◌, ◌<◌, ◌≤◌, ◌↔◌, ◌⊎◌, List, [], ◌∷◌, ◌++◌, Some, Ok, Err, length, false, IsSome, IsTrue, IsOk, IsErr, IfSome, IfOk, OnOk, take, drop, ⊤};
 ghost use Rattle.byte_lines.specs.Pieces.{lines_of};
 ghost use Rattle.byte_lines.specs.Faults.{Rose, before_bytes, given};
 ghost use Rattle.byte_lines.specs.Reader.{lines_left, with_run};
@@ -163,6 +163,7 @@ impl Lines {
         ensures done { IsTrue self.new.ended → IsDone self.new }
         ensures drained { self.old.ended ≡ false → IsTrue self.new.ended →
             IfSome (S.left source.new) (λ bytes. bytes ≡ []) }
+        ensures unfinished { IsErr result → self.new.ended ≡ false }
         ensures end_again { IsTrue self.old.ended → result ≡ Ok Line.End }
         ensures read_fault { result ≡ Err LineFault.ReadFault → Rose (S.faults source.old) (S.faults source.new) }
         ensures too_much { (result ≡ Err LineFault.TooMuch) ↔ (self.old.stream_max < self.new.taken) }
