@@ -156,6 +156,8 @@ impl Lines {
             GivesNext self.old self.new (given (S.left source.old) (S.left source.new)) result }
         ensures text { TextStays self.old self.new result }
         ensures number { self.new.number ≡ self.old.number + length (line_given result self.new) }
+        // each line took a byte
+        ensures few { self.new.number ≤ self.new.taken }
         ensures line_max { self.new.line_max ≡ self.old.line_max }
         ensures stream_max { self.new.stream_max ≡ self.old.stream_max }
         // at the end nothing is left, in the source or here

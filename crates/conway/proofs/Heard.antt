@@ -1,13 +1,11 @@
 -- The records of a stream, as a reader of lines gives them.
 use Rattle.std.proofs.Common.{◌≡◌, ◌≢◌, ℕ, ◌+◌, ◌-◌, ◌<◌, ◌≤◌, ◌⊎◌, List, [], ◌∷◌, ◌++◌, Bool, true, false, Option, Some, None, Result, Ok, Err, length, take, drop, map, refl, sym, ap, subst, ◌∙◌, arith, append_assoc, inl, inr}
 use Rattle.std.specs.Prelude.{IsTrue, IsSome, IfSome, filter_map, option_map}
-use Rattle.std.specs.List.{enumerate_from}
+use Rattle.std.specs.List.{enumerate_from, cons_option}
 use Rattle.std.proofs.lemmas.List.{append-nil, take_at, length-append, take-append-drop, take_all}
-use Rattle.byte_lines.specs.Answers.{HasGiven, GivesNext, IsDone, line_given}
+use Rattle.byte_lines.specs.Answers.{HasGiven, GivesNext, line_given}
 use Rattle.byte_lines.specs.Faults.{before_bytes, given}
-use Rattle.byte_lines.specs.Laws.{IsNext}
-use Rattle.byte_lines.specs.Pieces.{line_feed, kept, lines_of, whole_of, open_of}
-use Rattle.byte_lines.specs.Reader.{Reader, lines_left, lines_from}
+use Rattle.byte_lines.specs.Reader.{Reader, lines_left}
 use Rattle.byte_lines.specs.declared.lines.Line.{Line}
 use Rattle.byte_lines.specs.declared.lines.LineFault.{LineFault}
 use Rattle.byte_lines.specs.declared.lines.LineFault.TheVariants as faults
@@ -15,36 +13,32 @@ use Rattle.byte_lines.proofs.TurnLemmas.{HasGiven-more}
 use Rattle.conway.specs.declared.record.Reading.{Reading}
 use Rattle.conway.specs.Heard.{HasHeard, HadHeard}
 use Rattle.conway.specs.Limits.{line_limit, stream_limit}
-use Rattle.conway.specs.Records.{records_from, record_of, reading_of_line}
+use Rattle.conway.specs.Records.{records_from, record_of}
 
--- what is found, before others
-abbrev cons_found : Option (ℕ × Reading) → List (ℕ × Reading) → List (ℕ × Reading)
-cons_found None rs = rs
-cons_found (Some r) rs = r ∷ rs
-
-filter_map-cons : (o : Option (ℕ × Reading)) (rs xs ys : List (ℕ × Reading)) → rs ≡ xs ++ ys → cons_found o rs ≡ cons_found o xs ++ ys
-filter_map-cons None rs xs ys e = e
-filter_map-cons (Some r) rs xs ys e = ap (λ (l : List (ℕ × Reading)). r ∷ l) e
+-- what is found first stands before others
+cons_option-append : (o : Option (ℕ × Reading)) (rs xs ys : List (ℕ × Reading)) → rs ≡ xs ++ ys → cons_option o rs ≡ cons_option o xs ++ ys
+cons_option-append None rs xs ys e = e
+cons_option-append (Some r) rs xs ys e = ap (λ (l : List (ℕ × Reading)). r ∷ l) e
 
 -- the records of lines and of more lines
 pub records_from-append : (n : ℕ) (xs ys : List (Option (List ℕ))) → records_from n (xs ++ ys) ≡ records_from n xs ++ records_from (n + length xs) ys
 records_from-append n [] ys = ap (λ m. records_from m ys) (omega arith)
-records_from-append n (x ∷ xs) ys = ?
+records_from-append n (x ∷ xs) ys =
+    let rest : records_from (n + 1) (xs ++ ys) ≡ records_from (n + 1) xs ++ records_from (n + length (x ∷ xs)) ys =
+        records_from-append (n + 1) xs ys ∙ ap (λ m. records_from (n + 1) xs ++ records_from m ys) (omega arith) in
+    cons_option-append (record_of (n, x)) (records_from (n + 1) (xs ++ ys)) (records_from (n + 1) xs) (records_from (n + length (x ∷ xs)) ys) rest
 
 -- at the start nothing was read
-pub hears_nothing : (bytes : List ℕ) (r : Reader) → r.taken ≡ 0 → r.number ≡ 0 → r.ended ≡ false → r.line_max ≡ line_limit → r.stream_max ≡ stream_limit
-    → ((rest : List ℕ) → lines_left r rest ≡ lines_of line_limit rest) → HasHeard bytes r (Some bytes) []
-hears_nothing bytes r taken number ended max stream lines = record {
+pub hears_nothing : (bytes : List ℕ) (r : Reader) → HasGiven r [] [] → r.number ≡ 0 → r.ended ≡ false → r.line_max ≡ line_limit → r.stream_max ≡ stream_limit
+    → HasHeard bytes r (Some bytes) []
+hears_nothing bytes r given number ended max stream = record {
   came = [];
   rest = bytes;
   cut = refl;
   told = refl;
   drained = λ ends. cc;
   lines = [];
-  given = record {
-    taken = taken;
-    lines = λ rest ends. lines rest ∙ ap (λ m. lines_of m rest) (sym max) ∙ ap (λ (xs : List ℕ). lines_of r.line_max (xs ++ rest)) (sym (take_all r.stream_max [] (omega arith)));
-  };
+  given = given;
   numbered = number;
   read = refl;
   line_max = max;
@@ -56,3 +50,101 @@ pub gave_front : (left left' : Option (List ℕ)) (rest : List ℕ) → left ≡
     → (rest' : List ℕ) × (rest ≡ given left left' ++ rest') × (left' ≡ Some rest')
 gave_front left None rest told gave = cc
 gave_front left (Some rest') rest told gave = (rest', cc, refl)
+
+-- what stays as it is gave nothing
+given_same : (left : Option (List ℕ)) → given left left ≡ []
+given_same None = refl
+given_same (Some bytes) = let none : length bytes - length bytes ≡ 0 = omega arith in ap (λ n. take n bytes) none
+
+some_only : (left : Option (List ℕ)) (rest : List ℕ) → left ≡ Some rest → IfSome left (λ b. b ≡ []) → rest ≡ []
+some_only None rest told empty = cc
+some_only (Some bytes) rest told empty = cc
+
+-- nothing is left behind the end
+still_drained : (b : Bool) (old new : Reader) (left left' : Option (List ℕ)) (rest rest' : List ℕ) → old.ended ≡ b → left ≡ Some rest → left' ≡ Some rest'
+    → (IsTrue old.ended → rest ≡ [])
+    → (IsTrue old.ended → left' ≡ left)
+    → (old.ended ≡ false → IsTrue new.ended → IfSome left' (λ b. b ≡ []))
+    → IsTrue new.ended → rest' ≡ []
+still_drained true old new left left' rest rest' e told told' drained stopped ends ended =
+    let empty : rest ≡ [] = drained e in
+    let same : left' ≡ left = stopped e in
+    let equal : Some rest' ≡ Some rest = sym told' ∙ same ∙ told in
+    cc
+still_drained false old new left left' rest rest' e told told' drained stopped ends ended = some_only left' rest' told' (ends e ended)
+
+-- the next line, or none
+pub hears_line : (bytes : List ℕ) (old new : Reader) (left left' : Option (List ℕ)) (records : List (ℕ × Reading)) (result : Result Line LineFault)
+    → HasHeard bytes old left records
+    → left ≡ before_bytes (given left left') left'
+    → (IsSome left → new.taken ≡ old.taken + length (given left left'))
+    → (IsSome left → GivesNext old new (given left left') result)
+    → new.number ≡ old.number + length (line_given result new)
+    → new.line_max ≡ old.line_max
+    → new.stream_max ≡ old.stream_max
+    → (old.ended ≡ false → IsTrue new.ended → IfSome left' (λ b. b ≡ []))
+    → (IsTrue old.ended → (new ≡ old) × (left' ≡ left))
+    → result ≢ Err faults.NoMemory
+    → HasHeard bytes new left' (records ++ records_from (old.number + 1) (line_given result new))
+hears_line bytes old new left left' records result heard gave taken lines number max stream ends stopped memory =
+    let is_told : IsSome left = subst (λ (o : Option (List ℕ)). IsSome o) (sym heard.told) refl in
+    let front = gave_front left left' heard.rest heard.told gave in
+    let more : List ℕ = given left left' in
+    let nothing : IsTrue old.ended → more ≡ [] = λ ended. ap (λ (o : Option (List ℕ)). given left o) (stopped ended).1 ∙ given_same left in
+    record {
+      came = heard.came ++ more;
+      rest = front.0;
+      cut = heard.cut ∙ ap (λ (l : List ℕ). heard.came ++ l) front.1 ∙ sym (append_assoc heard.came more front.0);
+      told = front.2;
+      drained = still_drained old.ended old new left left' heard.rest front.0 refl heard.told front.2 heard.drained (λ ended. (stopped ended).1) ends;
+      lines = heard.lines ++ line_given result new;
+      given = HasGiven-more old new heard.came more heard.lines result heard.given record {
+        line_max = max;
+        stream_max = stream;
+        taken = taken is_told;
+        lines = lines is_told;
+        memory = memory;
+        stopped = λ ended. ((stopped ended).0, nothing ended);
+      };
+      numbered = omega (arith, number, heard.numbered, length-append heard.lines (line_given result new));
+      read =
+          ap (λ (rs : List (ℕ × Reading)). rs ++ records_from (old.number + 1) (line_given result new)) heard.read
+          ∙ ap (λ n. records_from 1 heard.lines ++ records_from n (line_given result new)) (omega (arith, heard.numbered))
+          ∙ sym (records_from-append 1 heard.lines (line_given result new));
+      line_max = max ∙ heard.line_max;
+      stream_max = stream ∙ heard.stream_max;
+    }
+
+-- where memory ran out, the records are those of before
+pub had_heard : (bytes : List ℕ) (old new : Reader) (left left' : Option (List ℕ)) (records : List (ℕ × Reading))
+    → HasHeard bytes old left records
+    → left ≡ before_bytes (given left left') left'
+    → (IsSome left → new.taken ≡ old.taken + length (given left left'))
+    → new.taken ≤ stream_limit
+    → HadHeard bytes left' records
+had_heard bytes old new left left' records heard gave taken within =
+    let is_told : IsSome left = subst (λ (o : Option (List ℕ)). IsSome o) (sym heard.told) refl in
+    let front = gave_front left left' heard.rest heard.told gave in
+    record {
+      reader = old;
+      then_left = left;
+      heard = heard;
+      more = given left left';
+      rest = front.0;
+      since = heard.told ∙ ap Some front.1;
+      told = front.2;
+      within = omega (arith, taken is_told, within);
+    }
+
+-- records that were read now were read
+pub heard_now : (bytes : List ℕ) (r : Reader) (left : Option (List ℕ)) (records : List (ℕ × Reading)) → HasHeard bytes r left records → r.taken ≤ stream_limit → HadHeard bytes left records
+heard_now bytes r left records heard within = record {
+  reader = r;
+  then_left = left;
+  heard = heard;
+  more = [];
+  rest = heard.rest;
+  since = heard.told;
+  told = heard.told;
+  within = omega (arith, within);
+}

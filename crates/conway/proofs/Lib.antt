@@ -1,3 +1,5 @@
+pub mod Ends
+pub mod Fronts
 pub mod Heard
 pub mod Items
 pub mod Json
