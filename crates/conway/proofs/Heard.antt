@@ -1,19 +1,21 @@
 -- The records of a stream, as a reader of lines gives them.
-use Rattle.std.proofs.Common.{◌≡◌, ◌≢◌, ℕ, ◌+◌, ◌-◌, ◌<◌, ◌≤◌, ◌⊎◌, List, [], ◌∷◌, ◌++◌, Bool, true, false, Option, Some, None, Result, Ok, Err, length, take, drop, map, refl, sym, ap, subst, ◌∙◌, arith, append_assoc, inl, inr}
-use Rattle.std.specs.Prelude.{IsTrue, IsSome, IfSome, filter_map, option_map}
+use Rattle.std.proofs.Common.{◌≡◌, ◌≢◌, ℕ, ◌+◌, ◌-◌, ◌<◌, ◌≤◌, ◌⊎◌, ◌↔◌, List, [], ◌∷◌, ◌++◌, Bool, true, false, Option, Some, None, Result, Ok, Err, length, take, drop, map, refl, sym, ap, subst, ◌∙◌, arith, append_assoc, inl, inr}
+use Rattle.std.specs.Prelude.{IsTrue, IsSome, IsErr, IfSome, filter_map, option_map}
 use Rattle.std.specs.List.{enumerate_from, cons_option}
 use Rattle.std.proofs.lemmas.List.{append-nil, take_at, length-append, take-append-drop, take_all}
-use Rattle.byte_lines.specs.Answers.{HasGiven, GivesNext, line_given}
+use Rattle.byte_lines.specs.Answers.{HasGiven, GivesNext, IsDone, line_given}
 use Rattle.byte_lines.specs.Faults.{before_bytes, given}
 use Rattle.byte_lines.specs.Reader.{Reader, lines_left}
 use Rattle.byte_lines.specs.declared.lines.Line.{Line}
+use Rattle.byte_lines.specs.declared.lines.Line.TheVariants.{Whole, TooLong, End}
 use Rattle.byte_lines.specs.declared.lines.LineFault.{LineFault}
 use Rattle.byte_lines.specs.declared.lines.LineFault.TheVariants as faults
 use Rattle.byte_lines.proofs.TurnLemmas.{HasGiven-more}
 use Rattle.conway.specs.declared.record.Reading.{Reading}
-use Rattle.conway.specs.Heard.{HasHeard, HadHeard}
+use Rattle.conway.specs.declared.record.Reading.TheVariants as readings
+use Rattle.conway.specs.Heard.{HasHeard, HadHeard, Hears}
 use Rattle.conway.specs.Limits.{line_limit, stream_limit}
-use Rattle.conway.specs.Records.{records_from, record_of}
+use Rattle.conway.specs.Records.{records_from, record_of, reading_of_line}
 
 -- what is found first stands before others
 cons_option-append : (o : Option (ℕ × Reading)) (rs xs ys : List (ℕ × Reading)) → rs ≡ xs ++ ys → cons_option o rs ≡ cons_option o xs ++ ys
@@ -148,3 +150,75 @@ heard_now bytes r left records heard within = record {
   told = heard.told;
   within = omega (arith, within);
 }
+
+-- what is not above is at most that
+not_above : (m n : ℕ) → (n < m → ⊥) → m ≤ n
+not_above m n h = omega arith
+
+-- but where the answer says so, no more bytes were taken than the limit
+within : (old new : Reader) (result : Result Line LineFault) → old.stream_max ≡ stream_limit → ((result ≡ Err faults.TooMuch) ↔ (old.stream_max < new.taken)) → result ≢ Err faults.TooMuch → new.taken ≤ stream_limit
+within old new result limit over other = not_above new.taken stream_limit (λ above. other (over.1 (subst (λ n. n < new.taken) (sym limit) above)))
+
+-- a call for the next line
+pub hears : (bytes : List ℕ) (old new : Reader) (left left' : Option (List ℕ)) (records : List (ℕ × Reading)) (result : Result Line LineFault)
+    → HasHeard bytes old left records
+    → left ≡ before_bytes (given left left') left'
+    → (IsSome left → new.taken ≡ old.taken + length (given left left'))
+    → (IsSome left → GivesNext old new (given left left') result)
+    → new.number ≡ old.number + length (line_given result new)
+    → new.line_max ≡ old.line_max
+    → new.stream_max ≡ old.stream_max
+    → (old.ended ≡ false → IsTrue new.ended → IfSome left' (λ b. b ≡ []))
+    → (IsTrue old.ended → (new ≡ old) × (left' ≡ left))
+    → ((result ≡ Err faults.TooMuch) ↔ (old.stream_max < new.taken))
+    → (result ≡ Ok End → IsTrue new.ended)
+    → (IsTrue new.ended → IsDone new)
+    → (IsErr result → new.ended ≡ false)
+    → ((result ≡ Err faults.ReadFault) ⊎ (result ≡ Err faults.TooMuch) → new.ahead ≡ [])
+    → Hears bytes new left' records result
+hears bytes old new left left' records (Ok Whole) heard gave taken lines number max stream ends stopped over end done going looked =
+    let next = hears_line bytes old new left left' records (Ok Whole) heard gave taken lines number max stream ends stopped (λ is. cc) in
+    let same : old.number + 1 ≡ new.number = sym number in (
+      subst (λ n. HasHeard bytes new left' (records ++ records_from n (Some new.text ∷ []))) same next,
+      within old new (Ok Whole) heard.stream_max over (λ is. cc),
+      had_heard bytes old new left left' records heard gave taken (within old new (Ok Whole) heard.stream_max over (λ is. cc)),
+    )
+hears bytes old new left left' records (Ok TooLong) heard gave taken lines number max stream ends stopped over end done going looked =
+    let next = hears_line bytes old new left left' records (Ok TooLong) heard gave taken lines number max stream ends stopped (λ is. cc) in
+    let same : old.number + 1 ≡ new.number = sym number in (
+      subst (λ n. HasHeard bytes new left' (records ++ (n, readings.TooLong) ∷ [])) same next,
+      within old new (Ok TooLong) heard.stream_max over (λ is. cc),
+    )
+hears bytes old new left left' records (Ok End) heard gave taken lines number max stream ends stopped over end done going looked =
+    let next = hears_line bytes old new left left' records (Ok End) heard gave taken lines number max stream ends stopped (λ is. cc) in
+    let ended : IsTrue new.ended = end refl in (
+      subst (λ (rs : List (ℕ × Reading)). HasHeard bytes new left' rs) (append-nil records) next,
+      within old new (Ok End) heard.stream_max over (λ is. cc),
+      ended,
+      (done ended).ahead,
+      (done ended).begun,
+    )
+hears bytes old new left left' records (Err faults.ReadFault) heard gave taken lines number max stream ends stopped over end done going looked =
+    let next = hears_line bytes old new left left' records (Err faults.ReadFault) heard gave taken lines number max stream ends stopped (λ is. cc) in (
+      subst (λ (rs : List (ℕ × Reading)). HasHeard bytes new left' rs) (append-nil records) next,
+      within old new (Err faults.ReadFault) heard.stream_max over (λ is. cc),
+      going refl,
+      looked (inl refl),
+    )
+hears bytes old new left left' records (Err faults.TooMuch) heard gave taken lines number max stream ends stopped over end done going looked =
+    let next = hears_line bytes old new left left' records (Err faults.TooMuch) heard gave taken lines number max stream ends stopped (λ is. cc) in (
+      subst (λ (rs : List (ℕ × Reading)). HasHeard bytes new left' rs) (append-nil records) next,
+      subst (λ n. n < new.taken) heard.stream_max (over.0 refl),
+      going refl,
+      looked (inr refl),
+    )
+hears bytes old new left left' records (Err faults.NoMemory) heard gave taken lines number max stream ends stopped over end done going looked =
+    had_heard bytes old new left left' records heard gave taken (within old new (Err faults.NoMemory) heard.stream_max over (λ is. cc))
+
+-- a whole line that says nothing gives no record, and one that says something gives that one
+pub whole_gives : (bytes : List ℕ) (new : Reader) (left : Option (List ℕ)) (records : List (ℕ × Reading)) (said : Option Reading)
+    → said ≡ reading_of_line (Some new.text)
+    → Hears bytes new left records (Ok Whole)
+    → HasHeard bytes new left (records ++ cons_option (option_map (λ r. (new.number, r)) said) []) × (new.taken ≤ stream_limit)
+whole_gives bytes new left records said is heard =
+    (subst (λ (o : Option Reading). HasHeard bytes new left (records ++ cons_option (option_map (λ r. (new.number, r)) o) [])) (sym is) heard.0, heard.1)

@@ -2,11 +2,18 @@
 use Rattle.std.specs.Prelude.{◌≡◌, ℕ, ◌+◌, ◌≤◌, ◌<◌, List, [], ◌∷◌, ◌++◌, Option, Some, None, Result, Ok, Err, IsTrue, false, length}
 use Rattle.byte_lines.specs.Answers.{HasGiven}
 use Rattle.byte_lines.specs.Reader.{Reader}
+use Rattle.byte_lines.specs.declared.lines.Line.{Line}
+use Rattle.byte_lines.specs.declared.lines.Line.TheVariants.{Whole, TooLong, End}
+use Rattle.byte_lines.specs.declared.lines.LineFault.{LineFault}
 use Rattle.conway.specs.declared.record.Reading.{Reading}
+use Rattle.conway.specs.declared.record.Reading.TheVariants as readings
+use Rattle.conway.specs.declared.replay.Found.{Found}
+use Rattle.conway.specs.declared.replay.Found.TheVariants as found
 use Rattle.conway.specs.declared.status.Status.{Status}
 use Rattle.conway.specs.declared.status.Status.TheVariants as statuses
 use Rattle.conway.specs.Limits.{line_limit, stream_limit}
-use Rattle.conway.specs.Records.{records_from}
+use Rattle.conway.specs.Records.{records_from, IsWithin}
+use Rattle.conway.specs.Statuses.{status_of_line_fault}
 
 -- of a source that held bytes the reader has these records, and the source has left what it tells
 pub record HasHeard (bytes : List ℕ) (r : Reader) (left : Option (List ℕ)) (records : List (ℕ × Reading)) : Type 0 where
@@ -48,3 +55,24 @@ HearsNext bytes new left records (Err statuses.TooMuch) =
 HearsNext bytes new left records (Err statuses.NoMemory) =
     HadHeard bytes left records
 HearsNext bytes new left records (Err status) = ⊥
+
+-- what a call for the next line leaves
+abbrev pub Hears : List ℕ → Reader → Option (List ℕ) → List (ℕ × Reading) → Result Line LineFault → Type 0
+Hears bytes new left records (Ok Whole) =
+    HasHeard bytes new left (records ++ records_from new.number (Some new.text ∷ [])) × (new.taken ≤ stream_limit) × HadHeard bytes left records
+Hears bytes new left records (Ok TooLong) = HearsNext bytes new left records (Ok (Some readings.TooLong))
+Hears bytes new left records (Ok End) = HearsNext bytes new left records (Ok None)
+Hears bytes new left records (Err fault) = HearsNext bytes new left records (Err (status_of_line_fault fault))
+
+-- what the next line leaves
+abbrev pub HearsLine : List ℕ → Reader → Option (List ℕ) → List (ℕ × Reading) → Result Found Status → Type 0
+HearsLine bytes new left records (Ok found.End) = HearsNext bytes new left records (Ok None)
+HearsLine bytes new left records (Ok found.Blank) = HasHeard bytes new left records × (new.taken ≤ stream_limit)
+HearsLine bytes new left records (Ok (found.Record reading)) = HearsNext bytes new left records (Ok (Some reading))
+HearsLine bytes new left records (Err status) = HearsNext bytes new left records (Err status)
+
+-- a record that was found is within its limits
+abbrev pub IsFoundWithin : Found → Type 0
+IsFoundWithin found.End = Unit {0}
+IsFoundWithin found.Blank = Unit {0}
+IsFoundWithin (found.Record reading) = IsWithin reading

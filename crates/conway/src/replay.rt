@@ -1,10 +1,10 @@
-#![tactic(none)]
-ghost use Rattle.std.specs.Prelude.{◌≡◌, ◌≢◌, ℕ, ◌<◌, ◌≤◌, List, [], Ok, Err, None, Some, IfOk, IfSome, IsTrue, length};
+ghost use Rattle.std.specs.Prelude.{◌≡◌, ◌≢◌, ℕ, ◌+◌, ◌<◌, ◌≤◌, List, [], Ok, Err, None, Some, IfOk, IfSome, IsTrue, length};
+ghost use Rattle.byte_lines.specs.Answers.{line_given};
 ghost use Rattle.byte_lines.specs.Faults.{Rose};
 ghost use Rattle.conway.specs.declared.record.Reading.{Reading};
 ghost use Rattle.conway.specs.declared.rules.TheConstants.{NOT_BUILT};
 ghost use Rattle.conway.specs.Endings.{IsReplay};
-ghost use Rattle.conway.specs.Heard.{HasHeard, HearsNext};
+ghost use Rattle.conway.specs.Heard.{HasHeard, Hears, HearsLine, HearsNext, IsFoundWithin};
 ghost use Rattle.conway.specs.Limits.{output_limit};
 ghost use Rattle.conway.specs.Records.{IsWithin};
 ghost use Rattle.conway.specs.Statuses.{status_by};
@@ -19,9 +19,52 @@ use crate::record::{Reading, Reply, Rule};
 use crate::rules::NOT_BUILT;
 use crate::status::{GenesisCause, Status};
 use crate::text::{genesis_line, reply_line};
-use byte_lines::{Line, Lines, Sink, Source, put_all};
+use byte_lines::{Line, LineFault, Lines, Sink, Source, put_all};
 use coin_frac::NoMemory;
 use std::alloc::Global;
+
+/// The next line.
+fn hear<S: Source>(lines: &mut Lines, source: &mut S) -> Result<Line, LineFault>
+    ensures heard { (bytes : List ℕ) (records : List (ℕ × Reading)) → HasHeard bytes lines.old (S.left source.old) records →
+        Hears bytes lines.new (S.left source.new) records result }
+    ensures number { lines.new.number ≡ lines.old.number + length (line_given result lines.new) }
+    ensures few { lines.new.number ≤ lines.new.stream_max + 1 }
+    ensures stream_max { lines.new.stream_max ≡ lines.old.stream_max }
+    ensures counted { S.faults source.old ≤ S.faults source.new }
+    ensures read_fault { result ≡ Err LineFault.ReadFault → Rose (S.faults source.old) (S.faults source.new) }
+{
+    lines.next(source)
+}
+
+/// What a line came to.
+#[derive(Drop)]
+enum Found {
+    End,
+    Blank,
+    Record(Reading),
+}
+
+/// The next line.
+fn next_line<S: Source>(alloc: Global, lines: &mut Lines, source: &mut S) -> Result<Found, Status>
+    ensures heard { (bytes : List ℕ) (records : List (ℕ × Reading)) → HasHeard bytes lines.old (S.left source.old) records →
+        HearsLine bytes lines.new (S.left source.new) records result }
+    ensures within { IfOk result IsFoundWithin }
+    ensures number { IfOk result (λ found. found ≢ Found.End → lines.new.number ≡ lines.old.number + 1) }
+    ensures few { lines.new.number ≤ lines.new.stream_max + 1 }
+    ensures stream_max { lines.new.stream_max ≡ lines.old.stream_max }
+    ensures counted { S.faults source.old ≤ S.faults source.new }
+    ensures read_fault { result ≡ Err Status.ReadFault → Rose (S.faults source.old) (S.faults source.new) }
+    ensures no_write_fault { result ≢ Err Status.WriteFault }
+{
+    match hear(lines, source)? {
+        Line::End => Ok(Found::End),
+        Line::TooLong => Ok(Found::Record(Reading::TooLong)),
+        Line::Whole => match read_line(alloc, lines.text())? {
+            None => Ok(Found::Blank),
+            Some(reading) => Ok(Found::Record(reading)),
+        },
+    }
+}
 
 /// The next record, past blank lines; nothing at the end.
 fn next_record<S: Source>(alloc: Global, lines: &mut Lines, source: &mut S) -> Result<Option<Reading>, Status>
@@ -29,19 +72,17 @@ fn next_record<S: Source>(alloc: Global, lines: &mut Lines, source: &mut S) -> R
         HearsNext bytes lines.new (S.left source.new) records result }
     ensures within { IfOk result (λ found. IfSome found IsWithin) }
     ensures number { IfOk result (λ found. IfSome found (λ _. lines.old.number < lines.new.number)) }
+    ensures few { lines.new.number ≤ lines.new.stream_max + 1 }
+    ensures stream_max { lines.new.stream_max ≡ lines.old.stream_max }
     ensures counted { S.faults source.old ≤ S.faults source.new }
     ensures read_fault { result ≡ Err Status.ReadFault → Rose (S.faults source.old) (S.faults source.new) }
     ensures no_write_fault { result ≢ Err Status.WriteFault }
 {
     loop {
-        match lines.next(source)? {
-            Line::End => return Ok(None),
-            Line::TooLong => return Ok(Some(Reading::TooLong)),
-            Line::Whole => {
-                if let Some(reading) = read_line(alloc, lines.text())? {
-                    return Ok(Some(reading));
-                }
-            }
+        match next_line(alloc, lines, source)? {
+            Found::End => return Ok(None),
+            Found::Blank => {}
+            Found::Record(reading) => return Ok(Some(reading)),
         }
     }
 }
