@@ -8,5 +8,6 @@ pub mod World
 pub mod Starts
 pub mod Checks
 pub mod Step
+pub mod Laws
 pub mod Texts
 pub mod Runs
