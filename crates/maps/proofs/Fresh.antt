@@ -1,10 +1,11 @@
 -- Keys that are put in one after another, none of which is there.
-use Rattle.std.proofs.Common.{◌≡◌, ℕ, ◌+◌, List, [], ◌∷◌, Bool, true, false, ◌||◌, cond, Some, None, refl, ap, sym, ◌∙◌, arith}
+use Rattle.std.proofs.Common.{◌≡◌, ℕ, ◌+◌, ◌<◌, List, [], ◌∷◌, length, get_or, drop, Bool, true, false, not, ◌||◌, cond, Some, None, refl, ap, sym, ◌∙◌, arith}
 use Rattle.std.specs.declared.cmp.Ordering.{Ordering}
 use Rattle.std.specs.Ordering.{eq_by_cmp}
 use Rattle.std.specs.Cmp.{IsTotalOrder}
 use Rattle.std.specs.List.{list_any, AllByRecursion, IsDistinct}
 use Rattle.std.specs.Map.{keys_of, values_of}
+use Rattle.std.proofs.lemmas.List.{at_drop_more}
 use Rattle.std.proofs.lemmas.List.Sums.{sum_by-cons}
 use Rattle.maps.proofs.Lookups.{value_at-with_value}
 use Rattle.maps.proofs.Sets.{all-with_key, has_member-with_key}
@@ -102,3 +103,26 @@ module _ {K X : Type 0} {cmp : K → K → Ordering} (o : IsTotalOrder cmp) wher
   unfolding IsDistinct
   fresh_from_absent [] es d m = tt
   fresh_from_absent (e ∷ new) es d m = (m.0, fresh_from_absent new (with_value cmp e.0 e.1 es) d.1 (absent_still e.0 e.1 es (keys_of new) d.0 m.1))
+
+yes_from_not : (m b : Bool) → b ≡ not m → b ≡ false → m ≡ true
+yes_from_not true b e f = refl
+yes_from_not false b e f = cc
+
+no_from_not : (m b : Bool) → b ≡ not m → b ≡ true → m ≡ false
+no_from_not true b e f = cc
+no_from_not false b e f = refl
+
+module _ {K X : Type 0} (cmp : K → K → Ordering) where
+  -- at an entry whose key was seen
+  pub seen_or_repeats-stop : (seen : List K) (es : List (K × X)) (i : ℕ) (d : K × X) (b : Bool) → i < length es → b ≡ not (has_member cmp seen (get_or es i d).0) → b ≡ false
+      → seen_or_repeats cmp seen (keys_of (drop i es)) ≡ true
+  seen_or_repeats-stop seen es i d b l e f =
+      at_drop_more (λ (left : List (K × X)). seen_or_repeats cmp seen (keys_of left)) es i d l
+      ∙ seen_or_repeats-seen cmp seen (get_or es i d).0 (keys_of (drop (i + 1) es)) (yes_from_not _ _ e f)
+
+  -- at an entry whose key was not
+  pub seen_or_repeats-step : IsTotalOrder cmp → (seen : List K) (es : List (K × X)) (i : ℕ) (d : K × X) (b : Bool) → i < length es → b ≡ not (has_member cmp seen (get_or es i d).0) → b ≡ true
+      → seen_or_repeats cmp seen (keys_of (drop i es)) ≡ seen_or_repeats cmp (with_key cmp (get_or es i d).0 seen) (keys_of (drop (i + 1) es))
+  seen_or_repeats-step o seen es i d b l e f =
+      at_drop_more (λ (left : List (K × X)). seen_or_repeats cmp seen (keys_of left)) es i d l
+      ∙ seen_or_repeats-more o seen (get_or es i d).0 (keys_of (drop (i + 1) es)) (no_from_not _ _ e f)
