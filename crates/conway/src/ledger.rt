@@ -1,18 +1,21 @@
-ghost use Rattle.std.specs.Prelude.{◌≡◌, ◌≤◌, ◌*◌, ◌^◌, ◌<◌, [], false, IfOk, length, None, map, sum_by};
-ghost use Rattle.maps.specs.Maps.{with_values, in_order};
+ghost use Rattle.std.specs.Prelude.{◌≡◌, ◌≤◌, ◌+◌, ◌*◌, ◌^◌, ◌<◌, [], false, IfOk, length, None, map, sum_by};
+ghost use Rattle.std.specs.List.{AllByRecursion};
+ghost use Rattle.std.specs.Map.{keys_of};
+ghost use Rattle.maps.specs.Maps.{value_at, with_values, in_order};
 ghost use Rattle.maps.specs.Words.{repeats};
 ghost use Rattle.gov_ids.specs.Orders.{outref_cmp, txid_cmp};
 ghost use Rattle.conway.specs.declared.record.Reading.TheVariants as readings;
 ghost use Rattle.conway.specs.Limits.{output_limit};
 ghost use Rattle.conway.specs.Starts.{StartsAs};
-ghost use Rattle.conway.specs.Step.{step, first_broken, world_after_transfer};
+ghost use Rattle.utxo_set.specs.Utxos.{lovelace_in};
+ghost use Rattle.conway.specs.Step.{step, first_broken, made_outputs, world_after_transfer};
 ghost use Rattle.conway.specs.World.{pots_of};
 
 use crate::limits::{OUTPUT_LIMIT, SUPPLY_LIMIT};
 use crate::record::{Genesis, GenesisRule, Pots, Reply, Rule, Transfer};
 use crate::rules::{INPUT_MISSING, NOT_BALANCED, TX_ID_USED};
 use coin_frac::NoMemory;
-use gov_ids::{OutRef, TxId};
+use gov_ids::OutRef;
 use std::alloc::Global;
 use std::collections::BTreeSet;
 use std::marker::Model;
@@ -152,7 +155,7 @@ impl Ledger {
     {
         let mut utxo = self.utxo;
         utxo.take(&transfer.input);
-        let mut utxo = with_outputs(utxo, &transfer.id, transfer.outputs.as_slice())?;
+        let mut utxo = with_outputs(utxo, transfer)?;
         utxo.mark_used(transfer.id)?;
         Ok(Ledger {
             supply: self.supply,
@@ -229,13 +232,17 @@ fn first_outputs(alloc: Global, outputs: &[(OutRef, Output)]) -> Result<UtxoSet,
     Ok(utxo)
 }
 
-/// With the outputs of a transaction whose id is new, as id#0, id#1 and so on.
-fn with_outputs(utxo: UtxoSet, id: &TxId, outputs: &[Output]) -> Result<UtxoSet, NoMemory>
+/// With the outputs of a transfer, as id#0, id#1 and so on, none of which is there.
+fn with_outputs(utxo: UtxoSet, transfer: &Transfer) -> Result<UtxoSet, NoMemory>
+    requires few { length transfer.now.outputs ≤ output_limit }
+    requires absent { AllByRecursion (λ r. value_at outref_cmp utxo.outputs r ≡ None) (keys_of (made_outputs transfer.now)) }
+    requires fits { lovelace_in utxo.outputs + sum_by (λ o. o.lovelace) transfer.now.outputs < 2 ^ 64 }
+    ensures { IfOk result (λ after. after ≡ record utxo { outputs = with_values outref_cmp (made_outputs transfer.now) utxo.outputs }) }
 {
     let mut utxo = utxo;
     let mut index = 0u16;
-    for output in outputs {
-        utxo.put(OutRef { tx: *id, index }, *output)?;
+    for output in transfer.outputs.as_slice() {
+        utxo.put(OutRef { tx: transfer.id, index }, *output)?;
         index += 1;
     }
     Ok(utxo)
