@@ -2,3 +2,5 @@ pub mod Items
 pub mod Json
 pub mod Words
 pub mod Puts
+pub mod Sound
+pub mod LawsHold
