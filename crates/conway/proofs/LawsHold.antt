@@ -7,10 +7,17 @@ use Rattle.conway.specs.declared.record.Reply.{Reply}
 use Rattle.conway.specs.declared.record.Reply.TheVariants.{Accepted, Refused}
 use Rattle.conway.specs.declared.record.Rule.{Rule}
 use Rattle.conway.specs.declared.record.Transfer.{Transfer}
-use Rattle.conway.specs.Laws.{SupplyStays, RefusedChangesNothing, Flows, AcceptedFlows, world_after_all}
+use Rattle.conway.specs.Laws.{SoundStays, SupplyStays, RefusedChangesNothing, Flows, AcceptedFlows, world_after_all}
 use Rattle.conway.specs.Step.{first_broken, world_after_transfer, refusal_of, step, step_by}
 use Rattle.conway.specs.World.{World, IsSound, supply_of, world_of_genesis}
 use Rattle.conway.proofs.Sound.{allowed, outputs_sum, sound_genesis, sound_step, supply_stays}
+
+sound_after_all : (w : World) (rs : List Reading) → IsSound w → IsSound (world_after_all w rs)
+sound_after_all w [] s = s
+sound_after_all w (r ∷ rs) s = sound_after_all (step w r).0 rs (sound_step w r s)
+
+pub sound_holds : SoundStays
+sound_holds g rs e = sound_after_all (world_of_genesis g) rs (sound_genesis g e)
 
 balanced_after : (w : World) (rs : List Reading) → IsSound w → supply_of (world_after_all w rs) ≡ w.supply
 balanced_after w [] s = s.balanced

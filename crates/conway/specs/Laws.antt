@@ -14,6 +14,10 @@ use Rattle.conway.specs.World.{World, IsSound, pots_of, supply_of, genesis_fault
 abbrev pub world_after_all : World → List Reading → World
 world_after_all w rs = fold (λ (v : World) (r : Reading). (step v r).0) w rs
 
+-- whatever the records, the ledger is sound
+abbrev pub SoundStays : Type 0
+SoundStays = (g : Genesis) (rs : List Reading) → genesis_fault g ≡ None → IsSound (world_after_all (world_of_genesis g) rs)
+
 -- whatever the records, the pots sum to the supply of the genesis
 abbrev pub SupplyStays : Type 0
 SupplyStays = (g : Genesis) (rs : List Reading) → genesis_fault g ≡ None → supply_of (world_after_all (world_of_genesis g) rs) ≡ g.supply
