@@ -1,9 +1,10 @@
 -- Each ledger is sound: that of a genesis that breaks no rule, and the one after a transfer that breaks none.
-use Rattle.std.proofs.Common.{◌≡◌, ℕ, ◌+◌, ◌≤◌, ◌==◌, List, [], ◌∷◌, Bool, true, false, not, ◌||◌, cond, Option, Some, None, is_none, option_map, fold, map, sum_by, nat_lt, find, refl, ap, sym, ◌∙◌, subst, arith}
+use Rattle.std.proofs.Common.{◌≡◌, ℕ, ◌+◌, ◌≤◌, ◌<◌, ◌^◌, ◌==◌, List, [], ◌∷◌, Bool, true, false, not, ◌||◌, cond, Option, Some, None, is_none, option_map, fold, map, sum_by, nat_lt, find, refl, ap, sym, ◌∙◌, subst, arith}
 use Rattle.std.specs.Ordering.{eq_by_cmp, is_eq}
 use Rattle.std.specs.List.{AllByRecursion}
 use Rattle.std.specs.List.Sorted.{IsStrictlySortedBy}
 use Rattle.std.specs.Map.{keys_of, values_of}
+use Rattle.std.proofs.lemmas.Bool.{le-ltb, eq-eqb}
 use Rattle.std.proofs.lemmas.Bool.Decides.{nat_tests}
 use Rattle.std.proofs.lemmas.Cmp.{tied_itself}
 use Rattle.std.proofs.lemmas.Map.Entries.{sum_by-remove_entry}
@@ -18,9 +19,9 @@ use Rattle.maps.proofs.Fresh.{AreFresh, distinct_from_repeats, fresh_from_absent
 use Rattle.maps.proofs.Kept.{keys_of-without_key, IsMap-without_key, IsMap-with_values}
 use Rattle.maps.proofs.Sets.{all-without_member, IsSet-with_key, IsSet-in_order, has_member-with_key}
 use Rattle.maps.proofs.Ties.{same_key}
-use Rattle.maps.specs.Maps.{value_at, without_key, with_values, with_key, has_member}
+use Rattle.maps.specs.Maps.{value_at, without_key, with_values, with_key, in_order, has_member}
 use Rattle.maps.specs.Words.{repeats}
-use Rattle.utxo_set.specs.Utxos.{lovelace_in}
+use Rattle.utxo_set.specs.Utxos.{Utxos, lovelace_in}
 use Rattle.conway.specs.declared.record.Genesis.{Genesis}
 use Rattle.conway.specs.declared.record.GenesisRule.{GenesisRule}
 use Rattle.conway.specs.declared.record.Reading.{Reading}
@@ -181,3 +182,44 @@ supply_stays w readings.TooLong = refl
 supply_stays w (readings.Genesis g) = refl
 supply_stays w readings.Other = refl
 supply_stays w (readings.Transfer t) = elim (first_broken w t) as (λ o. (step_by o w (readings.Transfer t)).0.supply ≡ w.supply) [ Some rule ↦ refl | None ↦ refl ]
+
+-- ---- the code's ledgers
+
+no_fault : (a b c : Bool) (x y z : GenesisRule) → a ≡ false → b ≡ false → c ≡ false → option_map (λ (k : Bool × GenesisRule). k.1) (find (λ (k : Bool × GenesisRule). k.0) ((a, x) ∷ (b, y) ∷ (c, z) ∷ [])) ≡ None
+no_fault true b c x y z p q r = cc
+no_fault false true c x y z p q r = cc
+no_fault false false true x y z p q r = cc
+no_fault false false false x y z p q r = refl
+
+-- the ledger with this book is that of a genesis
+pub sound_start : (g : Genesis) (outputs : List (OutRef × Output)) (u : Utxos) → outputs ≡ g.outputs
+    → u ≡ record { outputs = with_values outref_cmp outputs []; used = in_order txid_cmp (map (λ (o : OutRef × Output). o.0.tx) outputs) }
+    → g.supply ≤ supply_limit → repeats outref_cmp (keys_of outputs) ≡ false → sum_by lovelace_at outputs + g.treasury + g.reserves ≡ g.supply
+    → IsSound (record { supply = g.supply; reserves = g.reserves; treasury = g.treasury; fees = 0; outputs = u.outputs; used = u.used })
+sound_start g outputs u p q within apart sum =
+    let fresh : repeats outref_cmp (keys_of g.outputs) ≡ false = ap (λ (l : List (OutRef × Output)). repeats outref_cmp (keys_of l)) (sym p) ∙ apart in
+    let all : genesis_sum g ≡ g.supply = ap (λ (l : List (OutRef × Output)). sum_by lovelace_at l + g.treasury + g.reserves) (sym p) ∙ sum in
+    let none : genesis_fault g ≡ None = no_fault _ _ _ _ _ _ (le-ltb supply_limit g.supply within) fresh (ap not (eq-eqb (genesis_sum g) g.supply all)) in
+    let book : u ≡ record { outputs = (world_of_genesis g).outputs; used = (world_of_genesis g).used } =
+    q ∙ ap (λ (l : List (OutRef × Output)). record { outputs = with_values outref_cmp l []; used = in_order txid_cmp (map (λ (o : OutRef × Output). o.0.tx) l) }) p in
+    subst (λ (v : Utxos). IsSound (record { supply = g.supply; reserves = g.reserves; treasury = g.treasury; fees = 0; outputs = v.outputs; used = v.used })) (sym book) (sound_genesis g none)
+
+-- what a transfer makes fits beside what is left
+pub made_fits : (w : World) (t : Transfer) → IsSound w → IsAllowed w t → lovelace_in (left_outputs w t) + sum_by (λ (o : Output). o.lovelace) t.outputs < 2 ^ 64
+made_fits w t s a = omega (arith, left_sum w t, a.even, s.balanced, s.within)
+
+-- and its fee beside the fees
+pub fee_fits : (w : World) (t : Transfer) → IsSound w → IsAllowed w t → w.fees + t.fee < 2 ^ 64
+fee_fits w t s a = omega (arith, left_sum w t, a.even, s.balanced, s.within)
+
+-- the book after a transfer
+pub book_after : (w : World) (t : Transfer) (u v x : Utxos) → u ≡ record { outputs = left_outputs w t; used = w.used }
+    → v ≡ record u { outputs = with_values outref_cmp (made_outputs t) u.outputs }
+    → x ≡ record v { used = with_key txid_cmp t.id v.used }
+    → x ≡ record { outputs = (world_after_transfer w t).outputs; used = (world_after_transfer w t).used }
+book_after w t u v x p q r = rw (r, q, p)
+
+pub sound_with : (w : World) (t : Transfer) (x : Utxos) → IsSound w → first_broken w t ≡ None → x ≡ record { outputs = (world_after_transfer w t).outputs; used = (world_after_transfer w t).used }
+    → IsSound (record { supply = w.supply; reserves = w.reserves; treasury = w.treasury; fees = w.fees + t.fee; outputs = x.outputs; used = x.used })
+sound_with w t x s e p =
+    subst (λ (v : Utxos). IsSound (record { supply = w.supply; reserves = w.reserves; treasury = w.treasury; fees = w.fees + t.fee; outputs = v.outputs; used = v.used })) (sym p) (sound_after w t s e)

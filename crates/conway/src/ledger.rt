@@ -195,7 +195,7 @@ fn repeats_output(alloc: Global, outputs: &[(OutRef, Output)]) -> Result<bool, N
 /// What the outputs of a genesis hold, in lovelace.
 fn lovelace_of(outputs: &[(OutRef, Output)]) -> u128
     ensures sum { result ≡ sum_by (λ o. o.1.lovelace) outputs.now }
-    ensures fits { result ≤ length outputs.now * 2 ^ 64 }
+    ensures fits { result ≤ u64.MAX * u64.MAX }
 {
     let mut sum = 0;
     for (_, output) in outputs {
@@ -207,7 +207,7 @@ fn lovelace_of(outputs: &[(OutRef, Output)]) -> u128
 /// What the outputs of a transfer hold, in lovelace.
 fn lovelace_made(outputs: &[Output]) -> u128
     ensures sum { result ≡ sum_by (λ o. o.lovelace) outputs.now }
-    ensures fits { result ≤ length outputs.now * 2 ^ 64 }
+    ensures fits { result ≤ u64.MAX * u64.MAX }
 {
     let mut sum = 0;
     for output in outputs {
