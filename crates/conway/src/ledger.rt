@@ -88,8 +88,7 @@ impl Ledger {
         if repeats_output(alloc, outputs)? {
             return Err(GenesisFault::Broken(GenesisRule::Repeated));
         }
-        let sum = lovelace_of(outputs) + u128::from(genesis.treasury) + u128::from(genesis.reserves);
-        if sum != u128::from(genesis.supply) {
+        if lovelace_with_pots(outputs, genesis.treasury, genesis.reserves) != u128::from(genesis.supply) {
             return Err(GenesisFault::Broken(GenesisRule::SumWrong));
         }
         Ok(Ledger {
@@ -202,6 +201,13 @@ fn lovelace_of(outputs: &[(OutRef, Output)]) -> u128
         sum += u128::from(output.lovelace);
     }
     sum
+}
+
+/// What the outputs of a genesis and two of its pots hold, in lovelace.
+fn lovelace_with_pots(outputs: &[(OutRef, Output)], treasury: u64, reserves: u64) -> u128
+    ensures { result ≡ sum_by (λ o. o.1.lovelace) outputs.now + treasury + reserves }
+{
+    lovelace_of(outputs) + u128::from(treasury) + u128::from(reserves)
 }
 
 /// What the outputs of a transfer hold, in lovelace.
