@@ -1,14 +1,15 @@
-ghost use Rattle.std.specs.Prelude.{◌≡◌, ◌≤◌, ◌+◌, ◌*◌, ◌^◌, ◌<◌, [], false, IfOk, length, None, map, sum_by};
+ghost use Rattle.std.specs.Prelude.{◌≡◌, ◌≤◌, ◌+◌, ◌*◌, ◌^◌, ◌<◌, [], ◌∷◌, false, IfOk, length, None, map, sum_by};
 ghost use Rattle.std.specs.List.{AllByRecursion};
 ghost use Rattle.std.specs.Map.{keys_of};
 ghost use Rattle.maps.specs.Maps.{value_at, with_values, in_order};
 ghost use Rattle.maps.specs.Words.{repeats};
 ghost use Rattle.gov_ids.specs.Orders.{outref_cmp, txid_cmp};
 ghost use Rattle.conway.specs.declared.record.Reading.TheVariants as readings;
+ghost use Rattle.conway.specs.Checks.{first_among};
 ghost use Rattle.conway.specs.Limits.{output_limit};
 ghost use Rattle.conway.specs.Starts.{StartsAs};
 ghost use Rattle.utxo_set.specs.Utxos.{lovelace_in};
-ghost use Rattle.conway.specs.Step.{step, first_broken, made_outputs, world_after_transfer};
+ghost use Rattle.conway.specs.Step.{step, balance_check, first_broken, made_outputs, world_after_transfer};
 ghost use Rattle.conway.specs.World.{pots_of};
 
 use crate::limits::{OUTPUT_LIMIT, SUPPLY_LIMIT};
@@ -129,7 +130,6 @@ impl Ledger {
 
     /// The first rule that a transfer breaks.
     fn refusal(&self, transfer: &Transfer) -> Option<Rule>
-        requires { length transfer.now.outputs ≤ output_limit }
         ensures { result ≡ first_broken self.now transfer.now }
     {
         if self.utxo.used(&transfer.id) {
@@ -138,12 +138,7 @@ impl Ledger {
         let Some(spent) = self.utxo.get(&transfer.input) else {
             return Some(Rule { place: Some(0), ..breaks(INPUT_MISSING) });
         };
-        let consumed = u128::from(spent.lovelace);
-        let produced = lovelace_made(transfer.outputs.as_slice()) + u128::from(transfer.fee);
-        if consumed != produced {
-            return Some(Rule { first: consumed, second: produced, ..breaks(NOT_BALANCED) });
-        }
-        None
+        balance_refusal(u128::from(spent.lovelace), transfer)
     }
 
     /// The ledger after a transfer that breaks no rule.
@@ -164,6 +159,17 @@ impl Ledger {
             utxo,
         })
     }
+}
+
+/// The rule of balance where it is broken, for a transfer that takes so much lovelace.
+fn balance_refusal(consumed: u128, transfer: &Transfer) -> Option<Rule>
+    ensures { result ≡ first_among (balance_check consumed transfer.now ∷ []) }
+{
+    let produced = lovelace_made(transfer.outputs.as_slice()) + u128::from(transfer.fee);
+    if consumed != produced {
+        return Some(Rule { first: consumed, second: produced, ..breaks(NOT_BALANCED) });
+    }
+    None
 }
 
 /// A rule with no place that keeps no numbers.
