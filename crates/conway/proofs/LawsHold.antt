@@ -1,9 +1,7 @@
 -- The laws of the ledger hold.
-use Rattle.std.proofs.Common.{◌≡◌, List, [], ◌∷◌, Option, Some, None, refl, sym, ◌∙◌, ap}
-use Rattle.conway.specs.declared.record.Genesis.{Genesis}
+use Rattle.std.proofs.Common.{◌≡◌, List, [], ◌∷◌, Option, Some, None, refl, ◌∙◌}
 use Rattle.conway.specs.declared.record.Reading.{Reading}
 use Rattle.conway.specs.declared.record.Reading.TheVariants as readings
-use Rattle.conway.specs.declared.record.Reply.{Reply}
 use Rattle.conway.specs.declared.record.Reply.TheVariants.{Accepted, Refused}
 use Rattle.conway.specs.declared.record.Rule.{Rule}
 use Rattle.conway.specs.declared.record.Transfer.{Transfer}

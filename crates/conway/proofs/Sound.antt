@@ -1,5 +1,5 @@
 -- Each ledger is sound: that of a genesis that breaks no rule, and the one after a transfer that breaks none.
-use Rattle.std.proofs.Common.{◌≡◌, ℕ, ◌+◌, ◌≤◌, ◌<◌, ◌^◌, ◌==◌, List, [], ◌∷◌, Bool, true, false, not, ◌||◌, cond, Option, Some, None, is_none, option_map, fold, map, sum_by, nat_lt, find, refl, ap, sym, ◌∙◌, subst, arith}
+use Rattle.std.proofs.Common.{◌≡◌, ℕ, ◌+◌, ◌≤◌, ◌<◌, ◌^◌, ◌==◌, List, [], ◌∷◌, Bool, true, false, not, ◌||◌, cond, Some, None, is_none, option_map, fold, map, sum_by, nat_lt, find, refl, ap, sym, ◌∙◌, subst, arith}
 use Rattle.std.specs.Ordering.{eq_by_cmp, is_eq}
 use Rattle.std.specs.List.{AllByRecursion}
 use Rattle.std.specs.List.Sorted.{IsStrictlySortedBy}
@@ -28,7 +28,7 @@ use Rattle.conway.specs.declared.record.Reading.{Reading}
 use Rattle.conway.specs.declared.record.Reading.TheVariants as readings
 use Rattle.conway.specs.declared.record.Rule.{Rule}
 use Rattle.conway.specs.declared.record.Transfer.{Transfer}
-use Rattle.conway.specs.Checks.{Check, first_among}
+use Rattle.conway.specs.Checks.{first_among}
 use Rattle.conway.specs.Limits.{supply_limit}
 use Rattle.conway.specs.Step.{spent_output, consumed, produced, first_broken, made_outputs, world_after_transfer, step, step_by}
 use Rattle.conway.specs.World.{World, IsSound, genesis_sum, genesis_fault, world_of_genesis}

@@ -1,5 +1,5 @@
 -- What a record is answered, and the ledger that it leaves. (UTXO and LEDGERS of the formal specification, for plain transfers)
-use Rattle.std.specs.Prelude.{ℕ, ◌+◌, ◌==◌, Bool, not, List, [], ◌∷◌, Option, Some, None, is_none, map, sum_by}
+use Rattle.std.specs.Prelude.{ℕ, ◌+◌, ◌==◌, not, List, [], ◌∷◌, Option, Some, None, is_none, map, sum_by}
 use Rattle.maps.specs.Maps.{value_at, has_member, with_values, without_key, with_key}
 use Rattle.maps.specs.Words.{amount, with_places}
 use Rattle.book_records.specs.declared.Output.{Output}

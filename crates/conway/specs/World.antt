@@ -1,5 +1,5 @@
 -- The whole state of the ledger as plain data, and its pots. (The ledger state of the formal specification; the pots of its preservation of value)
-use Rattle.std.specs.Prelude.{◌≡◌, ℕ, true, ◌≤◌, ◌+◌, ◌==◌, Bool, List, [], ◌∷◌, Option, Some, None, map, sum_by, option_map, find, nat_lt, not}
+use Rattle.std.specs.Prelude.{◌≡◌, ℕ, true, ◌≤◌, ◌+◌, ◌==◌, Bool, List, [], ◌∷◌, Option, map, sum_by, option_map, find, nat_lt, not}
 use Rattle.std.specs.List.{AllByRecursion}
 use Rattle.std.specs.Map.{keys_of}
 use Rattle.maps.specs.Maps.{IsMap, IsSet, with_values, in_order, has_member}

@@ -6,5 +6,4 @@ pub fn laws()
     ensures supply { SupplyStays }
     ensures refused { RefusedChangesNothing }
     ensures flows { AcceptedFlows }
-{
-}
+{}

@@ -89,7 +89,9 @@ impl Ledger {
         if repeats_output(alloc, outputs)? {
             return Err(GenesisFault::Broken(GenesisRule::Repeated));
         }
-        if lovelace_with_pots(outputs, genesis.treasury, genesis.reserves) != u128::from(genesis.supply) {
+        if lovelace_with_pots(outputs, genesis.treasury, genesis.reserves)
+            != u128::from(genesis.supply)
+        {
             return Err(GenesisFault::Broken(GenesisRule::SumWrong));
         }
         Ok(Ledger {
@@ -136,7 +138,7 @@ impl Ledger {
             return Some(breaks(TX_ID_USED));
         }
         let Some(spent) = self.utxo.get(&transfer.input) else {
-            return Some(Rule { place: Some(0), ..breaks(INPUT_MISSING) });
+            return Some(breaks_at(0, INPUT_MISSING));
         };
         balance_refusal(u128::from(spent.lovelace), transfer)
     }
@@ -167,7 +169,11 @@ fn balance_refusal(consumed: u128, transfer: &Transfer) -> Option<Rule>
 {
     let produced = lovelace_made(transfer.outputs.as_slice()) + u128::from(transfer.fee);
     if consumed != produced {
-        return Some(Rule { first: consumed, second: produced, ..breaks(NOT_BALANCED) });
+        return Some(Rule {
+            first: consumed,
+            second: produced,
+            ..breaks(NOT_BALANCED)
+        });
     }
     None
 }
@@ -181,6 +187,16 @@ fn breaks(number: u16) -> Rule
         place: None,
         first: 0,
         second: 0,
+    }
+}
+
+/// A rule at a place that keeps no numbers.
+fn breaks_at(place: u32, number: u16) -> Rule
+    ensures { result ≡ record { number = number; place = Some place; first = 0; second = 0 } }
+{
+    Rule {
+        place: Some(place),
+        ..breaks(number)
     }
 }
 
@@ -233,8 +249,9 @@ fn first_outputs(alloc: Global, outputs: &[(OutRef, Output)]) -> Result<UtxoSet,
     requires apart { repeats outref_cmp (map (λ o. o.0) outputs.now) ≡ false }
     requires fits { sum_by (λ o. o.1.lovelace) outputs.now < 2 ^ 64 }
     ensures { IfOk result (λ utxo. utxo ≡ record {
-        outputs = with_values outref_cmp outputs.now [];
-        used = in_order txid_cmp (map (λ o. o.0.tx) outputs.now) }) }
+      outputs = with_values outref_cmp outputs.now [];
+      used = in_order txid_cmp (map (λ o. o.0.tx) outputs.now);
+    }) }
 {
     let mut utxo = UtxoSet::new(alloc);
     for (at, output) in outputs {
@@ -254,7 +271,13 @@ fn with_outputs(utxo: UtxoSet, transfer: &Transfer) -> Result<UtxoSet, NoMemory>
     let mut utxo = utxo;
     let mut index = 0u16;
     for output in transfer.outputs.as_slice() {
-        utxo.put(OutRef { tx: transfer.id, index }, *output)?;
+        utxo.put(
+            OutRef {
+                tx: transfer.id,
+                index,
+            },
+            *output,
+        )?;
         index += 1;
     }
     Ok(utxo)

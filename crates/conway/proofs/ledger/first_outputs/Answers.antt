@@ -1,13 +1,11 @@
-use Rattle.std.proofs.Common.{List, sym, ap, ◌∙◌, refl, arith, subst, drop}
+use Rattle.std.proofs.Common.{sym, ap, ◌∙◌, refl, arith, subst}
 use Rattle.std.specs.Map.{keys_of}
 use Rattle.std.proofs.lemmas.List.Sums.{sum_by-drop_more}
-use Rattle.book_records.specs.declared.Output.{Output}
-use Rattle.gov_ids.specs.declared.OutRef.{OutRef}
 use Rattle.gov_ids.proofs.Totals.{outref_total}
 use Rattle.gov_ids.specs.Orders.{outref_cmp}
 use Rattle.maps.proofs.Fresh.{AreFresh, distinct_from_repeats, fresh_from_absent}
 use Rattle.utxo_set.specs.Utxos.{Utxos, lovelace_in}
-use Rattle.conway.proofs.Puts.{lovelace_at, absent_next, fits_next, fresh_after, sum_after, none_in_empty, with_first-next}
+use Rattle.conway.proofs.Puts.{lovelace_at, absent_next, fresh_after, sum_after, none_in_empty, with_first-next}
 use Rattle.conway.proofs.ledger.first_outputs.Goals as goal
 
 pub loop-at-init : goal.loop-at-init

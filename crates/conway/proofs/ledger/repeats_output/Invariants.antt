@@ -1,4 +1,4 @@
-use Rattle.std.proofs.Common.{◌≡◌, List, drop, map}
+use Rattle.std.proofs.Common.{◌≡◌, drop, map}
 use Rattle.book_records.specs.declared.Output.{Output}
 use Rattle.gov_ids.specs.declared.OutRef.{OutRef}
 use Rattle.gov_ids.specs.Orders.{outref_cmp}

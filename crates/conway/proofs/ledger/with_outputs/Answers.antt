@@ -1,12 +1,12 @@
-use Rattle.std.proofs.Common.{◌≡◌, ◌<◌, List, None, sym, ap, ◌∙◌, refl, arith, subst, length, drop, length-drop}
+use Rattle.std.proofs.Common.{◌≡◌, None, sym, ap, ◌∙◌, refl, arith, drop, length-drop}
 use Rattle.std.proofs.lemmas.List.Sums.{sum_by-drop_more}
 use Rattle.book_records.specs.declared.Output.{Output}
 use Rattle.gov_ids.specs.Orders.{outref_cmp}
 use Rattle.gov_ids.proofs.Totals.{outref_total}
-use Rattle.maps.proofs.Fresh.{AreFresh, fresh_from_absent}
+use Rattle.maps.proofs.Fresh.{fresh_from_absent}
 use Rattle.maps.specs.Maps.{value_at}
 use Rattle.utxo_set.specs.Utxos.{Utxos}
-use Rattle.conway.proofs.Puts.{made_from, with_made, made_distinct, absent_made, fresh_made, sum_made, with_made-next}
+use Rattle.conway.proofs.Puts.{made_from, made_distinct, absent_made, fresh_made, sum_made, with_made-next}
 use Rattle.conway.proofs.ledger.with_outputs.Goals as goal
 
 pub loop-output-init : goal.loop-output-init

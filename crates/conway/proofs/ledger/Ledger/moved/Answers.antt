@@ -1,15 +1,14 @@
-use Rattle.std.proofs.Common.{◌≡◌, ◌+◌, ◌<◌, ◌^◌, List, None, sum_by, arith, ap, sym, subst, ◌∙◌}
+use Rattle.std.proofs.Common.{◌≡◌, ◌+◌, ◌<◌, ◌^◌, None, sum_by, arith, ap, sym, subst, ◌∙◌}
 use Rattle.std.specs.List.{AllByRecursion}
 use Rattle.std.specs.Map.{keys_of}
 use Rattle.book_records.specs.declared.Output.{Output}
-use Rattle.gov_ids.specs.declared.OutRef.{OutRef}
 use Rattle.gov_ids.specs.Orders.{outref_cmp}
 use Rattle.maps.specs.Maps.{value_at}
 use Rattle.utxo_set.specs.Utxos.{Utxos, lovelace_in}
 use Rattle.conway.specs.contracts.ledger.Ledger.{the_view}
 use Rattle.conway.specs.Step.{first_broken, made_outputs}
 use Rattle.conway.specs.World.{World}
-use Rattle.conway.proofs.Sound.{IsAllowed, allowed, made_absent, made_fits, fee_fits, book_after, sound_with}
+use Rattle.conway.proofs.Sound.{allowed, made_absent, made_fits, fee_fits, book_after, sound_with}
 use Rattle.conway.proofs.ledger.Ledger.moved.Goals as goal
 
 pub with_outputs-requires-clause-absent : goal.with_outputs-requires-clause-absent
