@@ -4,3 +4,6 @@ pub mod Heard
 pub mod Items
 pub mod Json
 pub mod Words
+pub mod Puts
+pub mod Sound
+pub mod LawsHold

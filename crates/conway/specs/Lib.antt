@@ -7,6 +7,7 @@ pub mod World
 pub mod Starts
 pub mod Checks
 pub mod Step
+pub mod Laws
 pub mod Texts
 pub mod Runs
 pub mod Statuses

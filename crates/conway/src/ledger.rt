@@ -1,18 +1,22 @@
-ghost use Rattle.std.specs.Prelude.{◌≡◌, ◌≤◌, ◌*◌, ◌^◌, ◌<◌, [], false, IfOk, length, None, map, sum_by};
-ghost use Rattle.maps.specs.Maps.{with_values, in_order};
+ghost use Rattle.std.specs.Prelude.{◌≡◌, ◌≤◌, ◌+◌, ◌*◌, ◌^◌, ◌<◌, [], ◌∷◌, false, IfOk, length, None, map, sum_by};
+ghost use Rattle.std.specs.List.{AllByRecursion};
+ghost use Rattle.std.specs.Map.{keys_of};
+ghost use Rattle.maps.specs.Maps.{value_at, with_values, in_order};
 ghost use Rattle.maps.specs.Words.{repeats};
 ghost use Rattle.gov_ids.specs.Orders.{outref_cmp, txid_cmp};
 ghost use Rattle.conway.specs.declared.record.Reading.TheVariants as readings;
+ghost use Rattle.conway.specs.Checks.{first_among};
 ghost use Rattle.conway.specs.Limits.{output_limit};
 ghost use Rattle.conway.specs.Starts.{StartsAs};
-ghost use Rattle.conway.specs.Step.{step, first_broken, world_after_transfer};
+ghost use Rattle.utxo_set.specs.Utxos.{lovelace_in};
+ghost use Rattle.conway.specs.Step.{step, balance_check, first_broken, made_outputs, world_after_transfer};
 ghost use Rattle.conway.specs.World.{pots_of};
 
 use crate::limits::{OUTPUT_LIMIT, SUPPLY_LIMIT};
 use crate::record::{Genesis, GenesisRule, Pots, Reply, Rule, Transfer};
 use crate::rules::{INPUT_MISSING, NOT_BALANCED, TX_ID_USED};
 use coin_frac::NoMemory;
-use gov_ids::{OutRef, TxId};
+use gov_ids::OutRef;
 use std::alloc::Global;
 use std::collections::BTreeSet;
 use std::marker::Model;
@@ -85,8 +89,9 @@ impl Ledger {
         if repeats_output(alloc, outputs)? {
             return Err(GenesisFault::Broken(GenesisRule::Repeated));
         }
-        let sum = lovelace_of(outputs) + u128::from(genesis.treasury) + u128::from(genesis.reserves);
-        if sum != u128::from(genesis.supply) {
+        if lovelace_with_pots(outputs, genesis.treasury, genesis.reserves)
+            != u128::from(genesis.supply)
+        {
             return Err(GenesisFault::Broken(GenesisRule::SumWrong));
         }
         Ok(Ledger {
@@ -127,21 +132,15 @@ impl Ledger {
 
     /// The first rule that a transfer breaks.
     fn refusal(&self, transfer: &Transfer) -> Option<Rule>
-        requires { length transfer.now.outputs ≤ output_limit }
         ensures { result ≡ first_broken self.now transfer.now }
     {
         if self.utxo.used(&transfer.id) {
             return Some(breaks(TX_ID_USED));
         }
         let Some(spent) = self.utxo.get(&transfer.input) else {
-            return Some(Rule { place: Some(0), ..breaks(INPUT_MISSING) });
+            return Some(breaks_at(0, INPUT_MISSING));
         };
-        let consumed = u128::from(spent.lovelace);
-        let produced = lovelace_made(transfer.outputs.as_slice()) + u128::from(transfer.fee);
-        if consumed != produced {
-            return Some(Rule { first: consumed, second: produced, ..breaks(NOT_BALANCED) });
-        }
-        None
+        balance_refusal(u128::from(spent.lovelace), transfer)
     }
 
     /// The ledger after a transfer that breaks no rule.
@@ -152,7 +151,7 @@ impl Ledger {
     {
         let mut utxo = self.utxo;
         utxo.take(&transfer.input);
-        let mut utxo = with_outputs(utxo, &transfer.id, transfer.outputs.as_slice())?;
+        let mut utxo = with_outputs(utxo, transfer)?;
         utxo.mark_used(transfer.id)?;
         Ok(Ledger {
             supply: self.supply,
@@ -164,6 +163,21 @@ impl Ledger {
     }
 }
 
+/// The rule of balance where it is broken, for a transfer that takes so much lovelace.
+fn balance_refusal(consumed: u128, transfer: &Transfer) -> Option<Rule>
+    ensures { result ≡ first_among (balance_check consumed transfer.now ∷ []) }
+{
+    let produced = lovelace_made(transfer.outputs.as_slice()) + u128::from(transfer.fee);
+    if consumed != produced {
+        return Some(Rule {
+            first: consumed,
+            second: produced,
+            ..breaks(NOT_BALANCED)
+        });
+    }
+    None
+}
+
 /// A rule with no place that keeps no numbers.
 fn breaks(number: u16) -> Rule
     ensures { result ≡ record { number = number; place = None; first = 0; second = 0 } }
@@ -173,6 +187,16 @@ fn breaks(number: u16) -> Rule
         place: None,
         first: 0,
         second: 0,
+    }
+}
+
+/// A rule at a place that keeps no numbers.
+fn breaks_at(place: u32, number: u16) -> Rule
+    ensures { result ≡ record { number = number; place = Some place; first = 0; second = 0 } }
+{
+    Rule {
+        place: Some(place),
+        ..breaks(number)
     }
 }
 
@@ -192,7 +216,7 @@ fn repeats_output(alloc: Global, outputs: &[(OutRef, Output)]) -> Result<bool, N
 /// What the outputs of a genesis hold, in lovelace.
 fn lovelace_of(outputs: &[(OutRef, Output)]) -> u128
     ensures sum { result ≡ sum_by (λ o. o.1.lovelace) outputs.now }
-    ensures fits { result ≤ length outputs.now * 2 ^ 64 }
+    ensures fits { result ≤ u64.MAX * u64.MAX }
 {
     let mut sum = 0;
     for (_, output) in outputs {
@@ -201,10 +225,17 @@ fn lovelace_of(outputs: &[(OutRef, Output)]) -> u128
     sum
 }
 
+/// What the outputs of a genesis and two of its pots hold, in lovelace.
+fn lovelace_with_pots(outputs: &[(OutRef, Output)], treasury: u64, reserves: u64) -> u128
+    ensures { result ≡ sum_by (λ o. o.1.lovelace) outputs.now + treasury + reserves }
+{
+    lovelace_of(outputs) + u128::from(treasury) + u128::from(reserves)
+}
+
 /// What the outputs of a transfer hold, in lovelace.
 fn lovelace_made(outputs: &[Output]) -> u128
     ensures sum { result ≡ sum_by (λ o. o.lovelace) outputs.now }
-    ensures fits { result ≤ length outputs.now * 2 ^ 64 }
+    ensures fits { result ≤ u64.MAX * u64.MAX }
 {
     let mut sum = 0;
     for output in outputs {
@@ -218,8 +249,9 @@ fn first_outputs(alloc: Global, outputs: &[(OutRef, Output)]) -> Result<UtxoSet,
     requires apart { repeats outref_cmp (map (λ o. o.0) outputs.now) ≡ false }
     requires fits { sum_by (λ o. o.1.lovelace) outputs.now < 2 ^ 64 }
     ensures { IfOk result (λ utxo. utxo ≡ record {
-        outputs = with_values outref_cmp outputs.now [];
-        used = in_order txid_cmp (map (λ o. o.0.tx) outputs.now) }) }
+      outputs = with_values outref_cmp outputs.now [];
+      used = in_order txid_cmp (map (λ o. o.0.tx) outputs.now);
+    }) }
 {
     let mut utxo = UtxoSet::new(alloc);
     for (at, output) in outputs {
@@ -229,13 +261,23 @@ fn first_outputs(alloc: Global, outputs: &[(OutRef, Output)]) -> Result<UtxoSet,
     Ok(utxo)
 }
 
-/// With the outputs of a transaction whose id is new, as id#0, id#1 and so on.
-fn with_outputs(utxo: UtxoSet, id: &TxId, outputs: &[Output]) -> Result<UtxoSet, NoMemory>
+/// With the outputs of a transfer, as id#0, id#1 and so on, none of which is there.
+fn with_outputs(utxo: UtxoSet, transfer: &Transfer) -> Result<UtxoSet, NoMemory>
+    requires few { length transfer.now.outputs ≤ output_limit }
+    requires absent { AllByRecursion (λ r. value_at outref_cmp utxo.outputs r ≡ None) (keys_of (made_outputs transfer.now)) }
+    requires fits { lovelace_in utxo.outputs + sum_by (λ o. o.lovelace) transfer.now.outputs < 2 ^ 64 }
+    ensures { IfOk result (λ after. after ≡ record utxo { outputs = with_values outref_cmp (made_outputs transfer.now) utxo.outputs }) }
 {
     let mut utxo = utxo;
     let mut index = 0u16;
-    for output in outputs {
-        utxo.put(OutRef { tx: *id, index }, *output)?;
+    for output in transfer.outputs.as_slice() {
+        utxo.put(
+            OutRef {
+                tx: transfer.id,
+                index,
+            },
+            *output,
+        )?;
         index += 1;
     }
     Ok(utxo)

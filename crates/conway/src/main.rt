@@ -3,6 +3,7 @@
 
 mod command;
 mod fields;
+mod laws;
 mod ledger;
 mod limits;
 mod lists;
