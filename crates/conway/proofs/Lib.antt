@@ -1,0 +1,4 @@
+pub mod Heard
+pub mod Items
+pub mod Json
+pub mod Words

@@ -1,0 +1,16 @@
+pub mod Limits
+pub mod Options
+pub mod Fields
+pub mod Records
+pub mod Gives
+pub mod World
+pub mod Starts
+pub mod Checks
+pub mod Step
+pub mod Texts
+pub mod Runs
+pub mod Statuses
+pub mod Commands
+pub mod Heard
+pub mod Endings
+pub mod Turns
