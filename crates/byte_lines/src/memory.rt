@@ -1,6 +1,5 @@
 //! Sources and sinks in memory.
-ghost use Rattle.std.specs.Prelude.{◌≡◌, ℕ, ◌+◌, ◌-◌, ◌<◌, ◌≤◌, ◌^◌, ◌↔◌, ◌++◌, List, [], Some, None, Ok, Err, length, take, drop, min, IsTrue, IsErr, IfOk, is_ok, if◌then◌else◌, OnErr, IfSome, Contains};
-ghost use Rattle.byte_lines.specs.Faults.{Rose, before_bytes, with_bytes};
+ghost use Rattle.std.specs.Prelude.{◌≡◌, ◌<◌, ◌↔◌, [], Some, length, min, IsErr, IfOk, is_ok, if◌then◌else◌, Contains};
 ghost use Rattle.byte_lines.specs.InMemory.{one_more, faults_after};
 ghost use Rattle.byte_lines.specs.Sources.{IsRead};
 ghost use Rattle.byte_lines.specs.Sinks.{IsWrite};
