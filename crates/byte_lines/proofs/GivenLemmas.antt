@@ -1,5 +1,5 @@
 -- Lemmas on the bytes that a source gave and a sink took.
-use Rattle.std.proofs.Common.{◌≡◌, ℕ, ◌+◌, ◌-◌, ◌<◌, ◌≤◌, ◌++◌, List, [], ◌∷◌, Option, Some, None, length, take, drop, refl, sym, ap, subst, ◌∙◌, arith, append_assoc}
+use Rattle.std.proofs.Common.{◌≡◌, ℕ, ◌+◌, ◌-◌, ◌++◌, List, [], Option, Some, None, length, take, drop, refl, sym, ap, subst, ◌∙◌, arith, append_assoc}
 use Rattle.std.proofs.lemmas.List.{take-append-drop, drop-take, take-take, take_rest, take_at, length-append}
 use Rattle.std.specs.Prelude.{IsSome}
 use Rattle.byte_lines.specs.Faults.{given, before_bytes, with_bytes}
@@ -16,12 +16,12 @@ pub with_bytes-more : (had mid new : Option (List ℕ)) (xs : List ℕ) (i n : �
     mid ≡ with_bytes had (take i xs) → new ≡ with_bytes mid (take n (take (length xs - i) (drop i xs))) → new ≡ with_bytes had (take (i + n) xs)
 with_bytes-more had mid new xs i n first next =
     next ∙ ap (λ (o : Option (List ℕ)). with_bytes o (take n (take (length xs - i) (drop i xs)))) first ∙ joined had where
-  joined : (o : Option (List ℕ)) → with_bytes (with_bytes o (take i xs)) (take n (take (length xs - i) (drop i xs))) ≡ with_bytes o (take (i + n) xs)
-  joined None = refl
-  joined (Some bytes) =
-      ap Some (append_assoc bytes (take i xs) (take n (take (length xs - i) (drop i xs)))
-      ∙ ap (λ (ys : List ℕ). bytes ++ (take i xs ++ take n ys)) (take_rest xs i)
-      ∙ ap (λ (ys : List ℕ). bytes ++ ys) (take-drop xs i n))
+      joined : (o : Option (List ℕ)) → with_bytes (with_bytes o (take i xs)) (take n (take (length xs - i) (drop i xs))) ≡ with_bytes o (take (i + n) xs)
+      joined None = refl
+      joined (Some bytes) =
+          ap Some (append_assoc bytes (take i xs) (take n (take (length xs - i) (drop i xs)))
+          ∙ ap (λ (ys : List ℕ). bytes ++ (take i xs ++ take n ys)) (take_rest xs i)
+          ∙ ap (λ (ys : List ℕ). bytes ++ ys) (take-drop xs i n))
 
 -- what was given stands in front, also when the slice is written back
 pub before_bytes-written : (had left : Option (List ℕ)) (n len : ℕ) (new old : List ℕ) → length new ≡ len →
@@ -36,7 +36,7 @@ given-before : (left : Option (List ℕ)) (bytes : List ℕ) →
 given-before None bytes = (refl, λ told. cc)
 given-before (Some rest) bytes =
     let same : take (length (bytes ++ rest) - length rest) (bytes ++ rest) ≡ bytes =
-        take_at bytes rest (length (bytes ++ rest) - length rest) (omega (arith, length-append bytes rest)) in
+    take_at bytes rest (length (bytes ++ rest) - length rest) (omega (arith, length-append bytes rest)) in
     (ap (λ (xs : List ℕ). Some (xs ++ rest)) (sym same), λ told. same)
 
 -- a source that tells gave the bytes that it had before

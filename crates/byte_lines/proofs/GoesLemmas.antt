@@ -1,30 +1,29 @@
 -- Lemmas on the turns of a reader on its way to the next line.
-use Rattle.std.proofs.Common.{◌≡◌, ℕ, ◌+◌, ◌-◌, ◌<◌, ◌≤◌, ◌++◌, ◌⊎◌, inl, inr, Bool, true, false, List, [], ◌∷◌, Option, Some, None, Result, Ok, Err, length, take, refl, sym, ap, subst, ◌∙◌, arith, append_assoc}
-use Rattle.std.specs.Prelude.{◌≢◌, IsTrue, IsSome, IfSome}
+use Rattle.std.proofs.Common.{◌≡◌, ℕ, ◌+◌, ◌-◌, ◌++◌, false, List, [], ◌∷◌, Option, None, Ok, Err, length, take, refl, sym, ap, subst, ◌∙◌, arith, append_assoc}
+use Rattle.std.specs.Prelude.{◌≢◌, IsSome, IfSome}
 use Rattle.std.proofs.lemmas.List.{append-nil, length-append, take_all, take_at, nil_from_length}
 use Rattle.byte_lines.specs.Faults.{given, before_bytes}
 use Rattle.byte_lines.specs.Reader.{Reader, lines_from, lines_left, heard}
-use Rattle.byte_lines.specs.Answers.{line_given, GoesOn, GivesNext, TextStays, IsDone}
-use Rattle.byte_lines.specs.Turns.{IsReading, EndsLine, LooksAhead, Ends, TakesMore, Goes, Reads}
+use Rattle.byte_lines.specs.Answers.{line_given, GoesOn, GivesNext, TextStays}
+use Rattle.byte_lines.specs.Turns.{IsReading, LooksAhead, Ends, TakesMore, Goes, Reads}
 use Rattle.byte_lines.specs.declared.lines.Line.{Line}
 use Rattle.byte_lines.specs.declared.lines.Line.TheVariants.{Whole, TooLong, End}
 use Rattle.byte_lines.specs.declared.lines.LineFault.{LineFault}
 use Rattle.byte_lines.specs.declared.lines.LineFault.TheVariants.{ReadFault, TooMuch, NoMemory}
-use Rattle.byte_lines.proofs.GivenLemmas.{given_is, before_bytes-append, still_told, gave_nothing}
+use Rattle.byte_lines.proofs.GivenLemmas.{given_is, before_bytes-append, gave_nothing}
 
 -- nothing more was given after a look
 pub Goes-look : (old now mid : Reader) (l0 l1 : Option (List ℕ)) → Goes old now l0 l1 → LooksAhead now mid (Ok None) →
     Goes old mid l0 l1 × (mid.ahead ≡ [])
 Goes-look old now mid l0 l1 goes looks =
-    let is : mid ≡ record now { begun = mid.begun; ahead = [] } = looks.0 in
-    (
+    let is : mid ≡ record now { begun = mid.begun; ahead = [] } = looks.0 in (
       record {
         gave = goes.gave;
         taken = λ told. ap (λ (r : Reader). r.taken) is ∙ goes.taken told;
         lines = λ told rest. goes.lines told rest ∙ looks.1 rest;
         reader = let F : Reader → Reader = λ r. record r { taken = mid.taken; begun = mid.begun; ahead = mid.ahead } in ap F is ∙ ap F goes.reader;
         grows = omega (arith, goes.grows, ap (λ (r : Reader). r.taken) is);
-        within = omega (arith, goes.within, ap (λ (r : Reader). r.taken) is, ap (λ (r : Reader). r.stream_max) is)
+        within = omega (arith, goes.within, ap (λ (r : Reader). r.taken) is, ap (λ (r : Reader). r.stream_max) is);
       },
       ap (λ (r : Reader). r.ahead) is,
     )
@@ -35,7 +34,7 @@ pub Goes-take : (old mid new : Reader) (l0 l1 l2 : Option (List ℕ)) (count : �
 Goes-take old mid new l0 l1 l2 count goes looked takes =
     let is : new ≡ record mid { taken = mid.taken + count; ahead = new.ahead } = takes.0 in
     let joined : l0 ≡ before_bytes (given l0 l1 ++ new.ahead) l2 =
-        goes.gave ∙ ap (λ (o : Option (List ℕ)). before_bytes (given l0 l1) o) takes.3 ∙ before_bytes-append l2 (given l0 l1) new.ahead in
+    goes.gave ∙ ap (λ (o : Option (List ℕ)). before_bytes (given l0 l1) o) takes.3 ∙ before_bytes-append l2 (given l0 l1) new.ahead in
     let gave = given_is l0 l2 (given l0 l1 ++ new.ahead) joined in
     record {
       gave = gave.0;
@@ -57,7 +56,7 @@ Goes-take old mid new l0 l1 l2 count goes looked takes =
       within =
           let now : new.taken ≡ mid.taken + count = ap (λ (r : Reader). r.taken) is in
           let limit : new.stream_max ≡ mid.stream_max = ap (λ (r : Reader). r.stream_max) is in
-          omega (arith, takes.2)
+          omega (arith, takes.2);
     }
 
 -- within the limit all is heard
@@ -89,12 +88,12 @@ Reads-fault old new l0 l1 fault reading goes looked other =
       drained = λ yes. cc;
       too_much = (λ is. let same : fault ≡ TooMuch = cc in absurd (other same), λ over. absurd (omega (arith, goes.within)));
       looked = λ either. looked;
-      unfinished = λ is. ended
+      unfinished = λ is. ended;
     } where
-  gives : (f : LineFault) → GoesOn old new (heard old (given l0 l1)) [] → GivesNext old new (given l0 l1) (Err f)
-  gives ReadFault on = on
-  gives TooMuch on = on
-  gives NoMemory on = tt
+      gives : (f : LineFault) → GoesOn old new (heard old (given l0 l1)) [] → GivesNext old new (given l0 l1) (Err f)
+      gives ReadFault on = on
+      gives TooMuch on = on
+      gives NoMemory on = tt
 
 -- a byte beyond the limit stops the call
 pub Reads-beyond : (old mid new : Reader) (l0 l1 l2 : Option (List ℕ)) → IsReading old → Goes old mid l0 l1 → mid.ahead ≡ [] →
@@ -104,7 +103,7 @@ Reads-beyond old mid new l0 l1 l2 reading goes looked takes =
     let full : mid.taken ≡ mid.stream_max = takes.1 in
     let bytes = given l0 l1 ++ takes.2.0 ∷ [] in
     let joined : l0 ≡ before_bytes bytes l2 =
-        goes.gave ∙ ap (λ (o : Option (List ℕ)). before_bytes (given l0 l1) o) takes.2.1 ∙ before_bytes-append l2 (given l0 l1) (takes.2.0 ∷ []) in
+    goes.gave ∙ ap (λ (o : Option (List ℕ)). before_bytes (given l0 l1) o) takes.2.1 ∙ before_bytes-append l2 (given l0 l1) (takes.2.0 ∷ []) in
     let gave = given_is l0 l2 bytes joined in
     let taken : new.taken ≡ mid.taken + 1 = ap (λ (r : Reader). r.taken) is in
     let ended : new.ended ≡ false = ap (λ (r : Reader). r.ended) is ∙ ap (λ (r : Reader). r.ended) goes.reader ∙ reading.ended in
@@ -120,7 +119,7 @@ Reads-beyond old mid new l0 l1 l2 reading goes looked takes =
       lines = λ told rest after_end.
           let before : mid.taken ≡ old.taken + length (given l0 l1) = goes.taken told in
           let heeded : take (old.stream_max - old.taken) bytes ≡ given l0 l1 =
-              take_at (given l0 l1) (takes.2.0 ∷ []) (old.stream_max - old.taken) (omega arith) in
+          take_at (given l0 l1) (takes.2.0 ∷ []) (old.stream_max - old.taken) (omega arith) in
           ap (λ (xs : List ℕ). lines_left old (take (old.stream_max - old.taken) xs ++ rest)) (gave.1 told)
           ∙ ap (λ (xs : List ℕ). lines_left old (xs ++ rest)) heeded
           ∙ goes.lines told rest
@@ -137,7 +136,7 @@ Reads-beyond old mid new l0 l1 l2 reading goes looked takes =
       drained = λ yes. cc;
       too_much = (λ same. omega arith, λ over. refl);
       looked = λ either. ap (λ (r : Reader). r.ahead) is ∙ looked;
-      unfinished = λ is. ended
+      unfinished = λ is. ended;
     }
 
 -- a fault of the source, in whichever way, stops the call
@@ -178,9 +177,9 @@ Reads-end old mid more new l0 l1 l2 line reading goes looked takes ends =
       lines = λ told rest after_end.
           let last : rest ≡ [] = after_end ends.ended in
           let nothing : lines_left new rest ≡ [] =
-              ap (λ (xs : List ℕ). lines_from new.line_max new.begun (new.ahead ++ xs)) last
-              ∙ ap (λ (xs : List ℕ). lines_from new.line_max new.begun (xs ++ [])) ends.done.ahead
-              ∙ ap (λ (o : Option (List ℕ)). lines_from new.line_max o []) ends.done.begun in
+          ap (λ (xs : List ℕ). lines_from new.line_max new.begun (new.ahead ++ xs)) last
+          ∙ ap (λ (xs : List ℕ). lines_from new.line_max new.begun (xs ++ [])) ends.done.ahead
+          ∙ ap (λ (o : Option (List ℕ)). lines_from new.line_max o []) ends.done.begun in
           ap (λ (xs : List ℕ). lines_left old (xs ++ rest)) (all_heard old more l0 l2 went told)
           ∙ went.lines told rest
           ∙ ap (λ (xs : List ℕ). lines_left more xs) last
@@ -197,5 +196,5 @@ Reads-end old mid more new l0 l1 l2 line reading goes looked takes ends =
       drained = λ yes. drained;
       too_much = (λ is. cc, λ beyond. absurd (omega (arith, went.within)));
       looked = λ either. ends.done.ahead;
-      unfinished = λ is. cc
+      unfinished = λ is. cc;
     }

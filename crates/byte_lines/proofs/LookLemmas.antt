@@ -1,6 +1,6 @@
 -- Lemmas on a look at what is ahead.
-use Rattle.std.proofs.Common.{◌≡◌, ℕ, ◌+◌, ◌-◌, ◌<◌, ◌≤◌, ◌++◌, Bool, true, false, List, [], ◌∷◌, Option, Some, None, Ok, length, take, drop, refl, sym, ap, subst, ◌∙◌, arith, append_assoc, rules}
-use Rattle.std.specs.Prelude.{◌==◌, slice_index}
+use Rattle.std.proofs.Common.{◌≡◌, ℕ, ◌+◌, ◌<◌, ◌++◌, false, List, [], ◌∷◌, Option, Some, None, Ok, length, take, drop, refl, sym, ap, subst, ◌∙◌, arith, append_assoc}
+use Rattle.std.specs.Prelude.{slice_index}
 use Rattle.std.proofs.lemmas.Bool.{eqb-true}
 use Rattle.std.proofs.lemmas.List.{take-append-drop, drop_more, get_or-take, length-take}
 use Rattle.memchr.specs.Find.{IsFirstByte, is_byte}
@@ -8,9 +8,8 @@ use Rattle.byte_lines.specs.Pieces.{line_feed}
 use Rattle.byte_lines.specs.Reader.{Reader, FitsIn, with_run, lines_from, lines_left}
 use Rattle.byte_lines.specs.Begun.{Finishes}
 use Rattle.byte_lines.specs.Answers.{line_given, TextStays}
-use Rattle.byte_lines.specs.Turns.{EndsLine, LooksAhead}
+use Rattle.byte_lines.specs.Turns.{LooksAhead}
 use Rattle.byte_lines.specs.declared.lines.Line.{Line}
-use Rattle.byte_lines.specs.declared.lines.Line.TheVariants.{Whole, TooLong}
 use Rattle.byte_lines.proofs.PieceLemmas.{has_feed, no_feed}
 use Rattle.byte_lines.proofs.RunLemmas.{lines_from-run}
 
@@ -44,19 +43,18 @@ looks_some old at mid begun ahead text line fits found goes_on ends started pass
     let gives = given-finish mid old new line ends in
     let run = take at old.ahead in
     let none : has_feed run ≡ false = no_feed run (λ k below.
-        let within : k < at = omega (arith, below, length-take at old.ahead) in
-        rw (get_or-take at old.ahead k 0 within) (found.0.before k (omega arith) within)) in
+    let within : k < at = omega (arith, below, length-take at old.ahead) in
+    rw (get_or-take at old.ahead k 0 within) (found.0.before k (omega arith) within)) in
     let feed : slice_index old.ahead at ≡ line_feed = eqb-true (slice_index old.ahead at) line_feed found.1 in
     let cut : old.ahead ≡ run ++ line_feed ∷ ahead =
-        sym (take-append-drop at old.ahead)
-        ∙ ap (λ (xs : List ℕ). run ++ xs) (drop_more old.ahead at 0 found.0.high)
-        ∙ ap (λ (x : ℕ). run ++ x ∷ drop (at + 1) old.ahead) feed
-        ∙ ap (λ (xs : List ℕ). run ++ line_feed ∷ xs) (sym passed) in
-    (
+    sym (take-append-drop at old.ahead)
+    ∙ ap (λ (xs : List ℕ). run ++ xs) (drop_more old.ahead at 0 found.0.high)
+    ∙ ap (λ (x : ℕ). run ++ x ∷ drop (at + 1) old.ahead) feed
+    ∙ ap (λ (xs : List ℕ). run ++ line_feed ∷ xs) (sym passed) in (
       record {
         reader = ap (λ (o : Option (List ℕ)). record old { begun = o; ahead = ahead; text = text; number = old.number + 1 }) started;
         given = ap length gives.0;
-        text = gives.1
+        text = gives.1;
       },
       refl,
       λ rest.

@@ -1,5 +1,5 @@
 -- Lemmas on the steps of a reader as values.
-use Rattle.std.proofs.Common.{◌≡◌, ℕ, ◌+◌, ◌-◌, ◌<◌, ◌≤◌, ◌++◌, Bool, true, false, List, [], ◌∷◌, Option, Some, None, length, refl, sym, ap, ◌∙◌, arith, inl, inr}
+use Rattle.std.proofs.Common.{◌≡◌, ℕ, ◌+◌, ◌<◌, ◌≤◌, Bool, false, List, [], ◌∷◌, Option, length, sym, ap, ◌∙◌, arith, inl, inr}
 use Rattle.std.proofs.lemmas.Bool.{cases_lt}
 use Rattle.byte_lines.specs.Faults.{before_bytes}
 use Rattle.byte_lines.specs.Reader.{Reader}
@@ -24,5 +24,6 @@ one_byte had left (b ∷ c ∷ bs) one gave = absurd (omega arith)
 pub nothing_over : {P : Type 0} (over taken max : ℕ) → (0 < over → (taken ≡ max) × P) → taken + over ≤ max → over ≡ 0
 nothing_over over taken max full within =
     elim (cases_lt 0 over) [
-      inl some ↦ let limit : taken ≡ max = (full some).0 in absurd (omega arith)
-      | inr none ↦ omega arith ]
+      | inl some ↦ let limit : taken ≡ max = (full some).0 in absurd (omega arith)
+      | inr none ↦ omega arith
+    ]

@@ -1,5 +1,5 @@
 -- What the answers of a reader of lines say.
-use Rattle.std.specs.Prelude.{◌≡◌, ℕ, ◌+◌, ◌<◌, ◌⊎◌, ◌++◌, List, [], ◌∷◌, Option, Some, None, Result, Ok, Err, IsTrue, length, take, ⊤}
+use Rattle.std.specs.Prelude.{◌≡◌, ℕ, ◌<◌, ◌⊎◌, ◌++◌, List, [], ◌∷◌, Option, Some, None, Result, Ok, Err, IsTrue, length, take, ⊤}
 use Rattle.byte_lines.specs.Pieces.{lines_of}
 use Rattle.byte_lines.specs.Reader.{Reader, lines_left, heard}
 use Rattle.byte_lines.specs.declared.lines.Line.{Line}

@@ -1,5 +1,5 @@
 -- A stream of bytes as its lines. A line ends at a line feed, or at the end where it is not empty.
-use Rattle.std.specs.Prelude.{◌≡◌, ℕ, ◌++◌, List, [], ◌∷◌, Option, Some, None, length, map, nat_le, ◌==◌, if◌then◌else◌}
+use Rattle.std.specs.Prelude.{ℕ, ◌++◌, List, [], ◌∷◌, Option, Some, None, length, map, nat_le, ◌==◌, if◌then◌else◌}
 
 -- the byte that ends a line
 abbrev pub line_feed : ℕ

@@ -1,7 +1,7 @@
 -- A reader of lines as a value, and the lines that it has still to give.
-use Rattle.std.specs.Prelude.{◌≡◌, ℕ, ◌-◌, ◌≤◌, ◌++◌, Bool, List, [], ◌∷◌, Option, Some, None, length, take, ◌==◌, if◌then◌else◌}
+use Rattle.std.specs.Prelude.{ℕ, ◌-◌, ◌≤◌, ◌++◌, Bool, List, [], ◌∷◌, Option, Some, None, length, take, ◌==◌, if◌then◌else◌}
 use Rattle.std.specs.Option.{ForSome}
-use Rattle.byte_lines.specs.Pieces.{line_feed, kept, lines_of}
+use Rattle.byte_lines.specs.Pieces.{line_feed, kept}
 
 -- a reader of lines
 pub record Reader : Type 0 where

@@ -1,11 +1,11 @@
 -- What the steps of a reader of lines do.
-use Rattle.std.specs.Prelude.{◌≡◌, ℕ, ◌+◌, ◌≤◌, ◌<◌, ◌++◌, ◌⊎◌, ◌↔◌, Bool, true, false, IsTrue, List, [], ◌∷◌, Option, Some, None, Result, Ok, Err, IfSome, IsErr, IsSome, length}
+use Rattle.std.specs.Prelude.{◌≡◌, ℕ, ◌+◌, ◌≤◌, ◌<◌, ◌++◌, ◌⊎◌, ◌↔◌, true, false, IsTrue, List, [], ◌∷◌, Option, Some, None, Result, Ok, Err, IfSome, IsErr, IsSome, length}
 use Rattle.coin_frac.specs.declared.NoMemory.{NoMemory as OutOfMemory}
-use Rattle.byte_lines.specs.Faults.{Rose, before_bytes, given}
+use Rattle.byte_lines.specs.Faults.{before_bytes, given}
 use Rattle.byte_lines.specs.Reader.{Reader, lines_left}
 use Rattle.byte_lines.specs.Answers.{line_given, TextStays, GivesNext, IsDone}
 use Rattle.byte_lines.specs.declared.lines.Line.{Line}
-use Rattle.byte_lines.specs.declared.lines.Line.TheVariants.{Whole, TooLong, End}
+use Rattle.byte_lines.specs.declared.lines.Line.TheVariants.{End}
 use Rattle.byte_lines.specs.declared.lines.LineFault.{LineFault}
 use Rattle.byte_lines.specs.declared.lines.LineFault.TheVariants.{ReadFault, TooMuch, NoMemory}
 

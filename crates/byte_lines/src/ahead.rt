@@ -1,6 +1,7 @@
 //! A buffer of bytes taken from a source and not looked at yet.
-ghost use Rattle.std.specs.Prelude.{◌≡◌, ℕ, ◌<◌, ◌≤◌, List, [], length, take, drop, IfOk, OnErr, IfSome, Err};
+ghost use Rattle.std.specs.Prelude.{◌≡◌, ◌<◌, ◌≤◌, [], length, drop, IfOk, OnErr, IfSome};
 ghost use Rattle.byte_lines.specs.Faults.{Rose, before_bytes};
+ghost use Rattle.byte_lines.specs.Sources.{IsRead};
 
 use super::lines::LineFault;
 use super::source::{ReadFault, Source};
@@ -82,13 +83,8 @@ impl Ahead {
 fn read_front<S: Source>(source: &mut S, chunk: &mut [u8], max: usize) -> Result<usize, ReadFault>
     requires chunk { 0 < length chunk.old }
     requires room { 0 < max }
-    ensures fits { IfOk result (λ n. n ≤ length chunk.old) }
+    ensures reads { IsRead (S.left source.old) (S.left source.new) (S.faults source.old) (S.faults source.new) chunk.new result }
     ensures most { IfOk result (λ n. n ≤ max) }
-    ensures gave { IfOk result (λ n. S.left source.old ≡ before_bytes (take n chunk.new) (S.left source.new)) }
-    ensures end { IfOk result (λ n. n ≡ 0 → IfSome (S.left source.old) (λ bytes. bytes ≡ [])) }
-    ensures stays { OnErr result (S.left source.new ≡ S.left source.old) }
-    ensures rose { OnErr result (Rose (S.faults source.old) (S.faults source.new)) }
-    ensures counted { S.faults source.old ≤ S.faults source.new }
 {
     let most = chunk.len().min(max);
     source.read(&mut chunk[..most])

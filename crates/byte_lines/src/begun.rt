@@ -1,5 +1,5 @@
 //! The line that is being read.
-ghost use Rattle.std.specs.Prelude.{◌≡◌, ℕ, List, [], Some, ◌↔◌, IsTrue, OnOk, OnErr};
+ghost use Rattle.std.specs.Prelude.{◌≡◌, [], ◌↔◌, IsTrue, OnOk, OnErr};
 ghost use Rattle.byte_lines.specs.Reader.{with_run};
 ghost use Rattle.byte_lines.specs.Begun.{Finishes};
 

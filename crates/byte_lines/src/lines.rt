@@ -1,8 +1,8 @@
 //! The reader of lines.
-ghost use Rattle.std.specs.Prelude.{◌≡◌, ℕ, ◌+◌, ◌<◌, ◌≤◌, ◌↔◌, ◌⊎◌, List, [], ◌∷◌, ◌++◌, Some, Ok, Err, length, false, IsSome, IsTrue, IsOk, IsErr, IfSome, IfOk, OnOk, take, drop, ⊤};
+ghost use Rattle.std.specs.Prelude.{◌≡◌, ℕ, ◌+◌, ◌<◌, ◌≤◌, ◌↔◌, ◌⊎◌, List, [], length, false, IsSome, IsTrue, IsErr, IfSome};
 ghost use Rattle.byte_lines.specs.Pieces.{lines_of};
 ghost use Rattle.byte_lines.specs.Faults.{Rose, before_bytes, given};
-ghost use Rattle.byte_lines.specs.Reader.{lines_left, with_run};
+ghost use Rattle.byte_lines.specs.Reader.{lines_left};
 ghost use Rattle.byte_lines.specs.Answers.{HasGiven, GivesNext, TextStays, IsDone, IsStopped, line_given};
 ghost use Rattle.byte_lines.specs.Turns.{IsReading, Reads, LooksAhead, Ends, TakesMore};
 
@@ -15,7 +15,7 @@ use std::alloc::{AllocError, Global};
 use std::marker::Model;
 use thiserror::Error;
 
-/// What `next` came to.
+/// What `next` came to. (Own)
 #[derive(Clone, Copy, Debug, PartialEq, Eq)]
 pub enum Line {
     /// A line, without its line feed: `text` has it.
@@ -80,7 +80,7 @@ enum State {
 }
 
 /// Reads the lines of a source, whatever parts the source gives. Lines are numbered from 1. A line
-/// ends at a line feed, or at the end of the source where it is not empty.
+/// ends at a line feed, or at the end of the source where it is not empty. (Own)
 #[derive(Drop)]
 pub struct Lines {
     line_max: u32,
@@ -144,7 +144,7 @@ impl Lines {
         }
     }
 
-    /// Reads on to the next line.
+    /// Reads on to the next line. After an error, `text` and `number` are those of the line before.
     pub fn next<S: Source>(&mut self, source: &mut S) -> Result<Line, LineFault>
         ensures gave { S.left source.old ≡ before_bytes (given (S.left source.old) (S.left source.new)) (S.left source.new) }
         ensures counted { S.faults source.old ≤ S.faults source.new }

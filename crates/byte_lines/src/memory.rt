@@ -1,6 +1,5 @@
 //! Sources and sinks in memory.
-ghost use Rattle.std.specs.Prelude.{◌≡◌, ℕ, ◌+◌, ◌-◌, ◌<◌, ◌≤◌, ◌^◌, ◌↔◌, ◌++◌, List, [], Some, None, Ok, Err, length, take, drop, min, IsTrue, IsErr, IfOk, is_ok, if◌then◌else◌, OnErr, IfSome, Contains};
-ghost use Rattle.byte_lines.specs.Faults.{Rose, before_bytes, with_bytes};
+ghost use Rattle.std.specs.Prelude.{◌≡◌, ◌<◌, ◌↔◌, [], Some, length, min, IsErr, IfOk, is_ok, if◌then◌else◌, Contains};
 ghost use Rattle.byte_lines.specs.InMemory.{one_more, faults_after};
 ghost use Rattle.byte_lines.specs.Sources.{IsRead};
 ghost use Rattle.byte_lines.specs.Sinks.{IsWrite};
@@ -106,9 +105,10 @@ impl Source for FaultySource<'_> {
         ensures fails { IsErr result ↔ Contains self.old.failing self.old.calls }
         ensures count { IfOk result (λ n. n ≡ min (min self.old.part (length self.old.left)) (length into.old)) }
         ensures calls { self.new ≡ record self.old {
-            left = self.new.left;
-            calls = one_more self.old.calls;
-            faults = (if is_ok result then self.old.faults else one_more self.old.faults) } }
+          left = self.new.left;
+          calls = one_more self.old.calls;
+          faults = (if is_ok result then self.old.faults else one_more self.old.faults);
+        } }
     {
         let fails = self.failing.contains(&self.calls);
         self.calls = self.calls.saturating_add(1);
@@ -227,9 +227,10 @@ impl Sink for FaultySink<'_> {
         ensures fails { (result ≡ Err SinkFault.WriteFault) ↔ Contains self.old.failing self.old.calls }
         ensures count { IfOk result (λ n. n ≡ min self.old.part (length piece.now)) }
         ensures calls { self.new ≡ record self.old {
-            bytes = self.new.bytes;
-            calls = one_more self.old.calls;
-            faults = self.new.faults } }
+          bytes = self.new.bytes;
+          calls = one_more self.old.calls;
+          faults = self.new.faults;
+        } }
         ensures faults { self.new.faults ≡ faults_after result self.old.faults }
     {
         let fails = self.failing.contains(&self.calls);

@@ -1,5 +1,5 @@
 //! Where bytes go.
-ghost use Rattle.std.specs.Prelude.{◌≡◌, ℕ, ◌<◌, ◌≤◌, List, [], Option, length, take, Ok, IfOk, OnOk, OnErr};
+ghost use Rattle.std.specs.Prelude.{◌≡◌, ℕ, ◌<◌, ◌≤◌, List, [], Option, length, take, OnOk, OnErr};
 ghost use Rattle.byte_lines.specs.Faults.{Rose, with_bytes};
 ghost use Rattle.byte_lines.specs.Sinks.{IsWrite};
 

@@ -1,5 +1,5 @@
 //! A reader of `std::io` as a source, and a writer as a sink.
-ghost use Rattle.std.specs.Prelude.{◌≡◌, ℕ, ◌<◌, ◌≤◌, None, IfSome, length, is_ok, if◌then◌else◌};
+ghost use Rattle.std.specs.Prelude.{◌≡◌, ◌<◌, ◌≤◌, None, IfSome, length, is_ok, if◌then◌else◌};
 ghost use Rattle.byte_lines.specs.Sources.{IsRead};
 ghost use Rattle.byte_lines.specs.Sinks.{IsWrite};
 ghost use Rattle.byte_lines.specs.InMemory.{one_more};
@@ -10,6 +10,7 @@ use std::io::{Read, Write};
 use std::marker::Model;
 
 /// A source that reads from `reader`. It tells nothing of the bytes left, and counts each error.
+/// (Own)
 #[derive(Drop)]
 pub struct ReaderSource<R> {
     reader: R,
@@ -52,7 +53,7 @@ impl<R: Read> Source for ReaderSource<R> {
 }
 
 /// A sink that writes to `writer`, and flushes it each time. It tells nothing of the bytes taken,
-/// and counts each error.
+/// and counts each error, and each write of nothing as one. (Own)
 #[derive(Drop)]
 pub struct WriterSink<W> {
     writer: W,

@@ -1,13 +1,12 @@
 use super::*;
 use std::io;
 use std::io::{Read, Write};
-use std::test::Fail;
 
 /// What `next` should come to, with the text and the number then.
 #[derive(Drop)]
 struct Want(Result<Line, LineFault>, &'static [u8], u64);
 
-/// A stream whose every read and write fails.
+/// A stream whose reads fail, and whose writes take nothing.
 #[derive(Drop)]
 struct Broken;
 
@@ -23,6 +22,23 @@ impl Write for Broken {
     }
 
     fn flush(&mut self) -> io::Result<()> {
+        Ok(())
+    }
+}
+
+/// A writer that takes all, and counts how often it was flushed.
+#[derive(Drop)]
+struct Watched {
+    flushes: u8,
+}
+
+impl Write for Watched {
+    fn write(&mut self, buf: &[u8]) -> io::Result<usize> {
+        Ok(buf.len())
+    }
+
+    fn flush(&mut self) -> io::Result<()> {
+        self.flushes = self.flushes.saturating_add(1);
         Ok(())
     }
 }
@@ -89,7 +105,7 @@ fn keeps_all_in_memory(rt: HostRuntime) {
 }
 
 #[test]
-fn adapts_readers_and_writers(rt: HostRuntime) -> Result<(), Fail> {
+fn adapts_readers_and_writers(rt: HostRuntime) {
     let mut source = ReaderSource::new(b"ab".as_slice());
     let mut lines = Lines::new(rt.alloc(), 16, 16);
     assert_eq!(rt; lines.next(&mut source), Ok(Line::Whole));
@@ -101,7 +117,10 @@ fn adapts_readers_and_writers(rt: HostRuntime) -> Result<(), Fail> {
     let mut sink = WriterSink::new(&mut bytes);
     assert_eq!(rt; put_all(&mut sink, b"ab"), Ok(()));
     assert_eq!(rt; bytes.as_slice(), b"ab".as_slice());
+    let mut watched = Watched { flushes: 0 };
+    let mut flushed = WriterSink::new(&mut watched);
+    assert_eq!(rt; put_all(&mut flushed, b"ab"), Ok(()));
+    assert_eq!(rt; watched.flushes, 1);
     let mut stuck = WriterSink::new(Broken);
     assert_eq!(rt; put_all(&mut stuck, b"ab"), Err(SinkFault::WriteFault));
-    Ok(())
 }

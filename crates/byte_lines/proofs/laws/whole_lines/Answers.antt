@@ -1,4 +1,4 @@
-use Rattle.std.proofs.Common.{◌≡◌, ℕ, ◌++◌, List, [], ◌∷◌, Option, Some, length, map, take, refl, ap, sym, ◌∙◌, append_assoc}
+use Rattle.std.proofs.Common.{ℕ, ◌++◌, List, [], ◌∷◌, Option, map, refl, ap, sym, ◌∙◌, append_assoc}
 use Rattle.std.proofs.lemmas.List.{map-append}
 use Rattle.byte_lines.specs.Pieces.{line_feed, kept, whole_of, open_of, pieces_of}
 use Rattle.byte_lines.specs.Reader.{lines_from}

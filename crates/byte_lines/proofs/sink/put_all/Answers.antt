@@ -1,6 +1,4 @@
-use Rattle.std.proofs.Common.{◌≡◌, ℕ, arith, rules, sym, ap, ◌∙◌, Option, List, take}
-use Rattle.std.proofs.lemmas.Grind.{common_steps}
-use Rattle.byte_lines.specs.Faults.{with_bytes}
+use Rattle.std.proofs.Common.{arith, rules}
 use Rattle.byte_lines.proofs.GivenLemmas.{with_bytes-more}
 use Rattle.byte_lines.proofs.sink.put_all.Goals as goal
 
@@ -9,5 +7,5 @@ loop-at-preserved g c = record {
   within = search rules;
   taken = with_bytes-more _ _ _ c.args.piece.now c.loop-at.at c.in_ok-at.field-0 c.loop-at.invariant.taken c.in_ok-at.ensures.took;
   counted = search rules;
-  still = λ none. absurd (omega (arith, c.in_ok-at.ensures.some))
+  still = λ none. absurd (omega (arith, c.in_ok-at.ensures.some));
 }

@@ -1,4 +1,4 @@
-use Rattle.std.proofs.Common.{◌≡◌, ◌∙◌, ◌+◌, ap, List, [], ℕ, Bool, false, length, sym, arith, rules}
+use Rattle.std.proofs.Common.{◌≡◌, ◌∙◌, ◌+◌, ap, [], false, sym, arith}
 use Rattle.std.proofs.lemmas.List.{drop_all}
 use Rattle.byte_lines.specs.contracts.lines.Lines.{the_view}
 use Rattle.byte_lines.specs.Reader.{Reader}
@@ -15,11 +15,10 @@ returns-clause-takes g c =
     let failed : old.failed ≡ false = ap (λ (r : Reader). r.failed) c.self.view_is ∙ c.requires.reading.failed in
     let looked : old.ahead ≡ [] = ap (λ (r : Reader). r.ahead) c.self.view_is ∙ c.requires.looked in
     let passed : c.pass.new.self ≡ [] =
-        c.pass.ensures ∙ drop_all c.in_ok-count.count c.refill.new.self (omega (arith, c.in_ok-count.ensures.came)) in
+    c.pass.ensures ∙ drop_all c.in_ok-count.count c.refill.new.self (omega (arith, c.in_ok-count.ensures.came)) in
     let over : bytes_over c.self.inside.state ≡ 0 =
-        nothing_over (bytes_over c.self.inside.state) c.self.inside.taken c.self.inside.stream_max c.self.invariant.over (omega arith) in
-    let more : c.self.inside.taken + 1 ≡ old.taken + 1 = omega arith in
-    (
+    nothing_over (bytes_over c.self.inside.state) c.self.inside.taken c.self.inside.stream_max c.self.invariant.over (omega arith) in
+    let more : c.self.inside.taken + 1 ≡ old.taken + 1 = omega arith in (
       goes_beyond old (c.self.inside.taken + 1) c.pass.new.self more (passed ∙ sym looked) ended failed ∙ ap (λ (r : Reader). record r { taken = r.taken + 1 }) c.self.view_is,
       omega arith,
       one_byte _ _ c.refill.new.self (omega (arith, c.in_ok-count.ensures.came, c.in_ok-count.ensures.fits)) c.in_ok-count.ensures.gave,
