@@ -1,3 +1,4 @@
+pub mod Answering
 pub mod Ends
 pub mod Fronts
 pub mod Heard
