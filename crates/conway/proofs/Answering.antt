@@ -118,3 +118,33 @@ module _ (bytes : List ℕ) (old : Reader) (before : Option (List ℕ)) (w : Wor
             (subst (λ (t : Text). Writes (stands.records ++ (new.number, r) ∷ []) (step w r).0 (written ++ t)) (sym is) (writes_more stands.records w written new.number r stands.writes));
       };
     }
+
+-- a sink that took bytes, and then more
+pub took_both : (had : Option (List ℕ)) (first more : List ℕ) → with_bytes (with_bytes had first) more ≡ with_bytes had (first ++ more)
+took_both None first more = refl
+took_both (Some bytes) first more = ap Some (append_assoc bytes first more)
+
+module _ (bytes : List ℕ) (mid : Reader) (between had now : Option (List ℕ)) (w : World) (written : Text) (so_far : GoesOn bytes mid between had now w written) where
+  -- a run that went on, and then went on
+  pub goes_further : (new : Reader) (left has : Option (List ℕ)) (after : World) → GoesOn bytes new left now has after (written ++ so_far.more) → GoesOn bytes new left had has after written
+  goes_further new left has after next = record {
+    more = so_far.more ++ next.more;
+    wrote = next.wrote ∙ ap (λ (o : Option (List ℕ)). with_bytes o next.more) so_far.wrote ∙ took_both had so_far.more next.more;
+    stands = subst (λ (t : Text). Stands bytes new left after t) (append_assoc written so_far.more next.more) next.stands;
+  }
+
+  -- a run that went on, and then ended
+  pub stops_later : (status : Status) (left has : Option (List ℕ)) → Stops status bytes left now has (written ++ so_far.more) → Stops status bytes left had has written
+  stops_later status left has next = record {
+    more = so_far.more ++ next.more;
+    wrote = next.wrote ∙ ap (λ (o : Option (List ℕ)). with_bytes o next.more) so_far.wrote ∙ took_both had so_far.more next.more;
+    ended = subst (λ (t : Text). HasEnded status bytes left t) (append_assoc written so_far.more next.more) next.ended;
+  }
+
+-- a run that did nothing yet
+pub goes_nowhere : (bytes : List ℕ) (r : Reader) (left had : Option (List ℕ)) (w : World) (written : Text) → Stands bytes r left w written → GoesOn bytes r left had had w written
+goes_nowhere bytes r left had w written stands = record {
+  more = [];
+  wrote = took_nothing had;
+  stands = subst (λ (t : Text). Stands bytes r left w t) (sym (append-nil written)) stands;
+}

@@ -1,4 +1,5 @@
 pub mod Answering
+pub mod Starting
 pub mod Ends
 pub mod Fronts
 pub mod Heard

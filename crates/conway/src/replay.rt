@@ -99,7 +99,8 @@ fn start<S: Source>(alloc: Global, lines: &mut Lines, source: &mut S) -> Result<
         None => Err(Status::BadGenesis(GenesisCause::Missing)),
         Some(Reading::TooLong) => Err(Status::BadGenesis(GenesisCause::TooLong)),
         Some(Reading::Genesis(genesis)) => Ok(Ledger::from_genesis(alloc, &genesis)?),
-        Some(Reading::Transfer(_) | Reading::Other) => Err(Status::BadGenesis(GenesisCause::NotBuilt)),
+        Some(Reading::Transfer(_)) => Err(Status::BadGenesis(GenesisCause::NotBuilt)),
+        Some(Reading::Other) => Err(Status::BadGenesis(GenesisCause::NotBuilt)),
     }
 }
 
@@ -139,6 +140,8 @@ fn answer_next<S: Source, K: Sink>(
     ensures answers { (bytes : List ℕ) (written : Text) → Stands bytes lines.old (S.left source.old) ledger written →
         Answers bytes lines.new (S.left source.new) (K.taken sink.old) (K.taken sink.new) written result }
     ensures number { IfOk result (λ found. IfSome found (λ _. lines.old.number < lines.new.number)) }
+    ensures few { lines.new.number ≤ lines.new.stream_max + 1 }
+    ensures stream_max { lines.new.stream_max ≡ lines.old.stream_max }
     ensures reads { S.faults source.old ≤ S.faults source.new }
     ensures writes { K.faults sink.old ≤ K.faults sink.new }
     ensures read_fault { result ≡ Err Status.ReadFault → Rose (S.faults source.old) (S.faults source.new) }
