@@ -187,7 +187,6 @@ pub fn replay<S: Source, K: Sink>(alloc: Global, source: &mut S, sink: &mut K) -
     ensures writes { K.faults sink.old ≤ K.faults sink.new }
     ensures read_fault { result ≡ Err Status.ReadFault → Rose (S.faults source.old) (S.faults source.new) }
     ensures write_fault { result ≡ Err Status.WriteFault → Rose (K.faults sink.old) (K.faults sink.new) }
-    ensures not_done { result ≢ Err Status.Done }
 {
     let mut lines = Lines::new(alloc, LINE_LIMIT, STREAM_LIMIT);
     let ledger = start(alloc, &mut lines, source)?;
