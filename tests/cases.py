@@ -150,6 +150,10 @@ def genesis_fields():
     yield begins("no treasury", no_treasury, pots(2000, 0, 1000, 3000))
     yield no_genesis("a treasury of -0", but(no_treasury, '"treasury":0', '"treasury":-0'))
     yield begins("fields that nobody names", genesis(network=7, epochLength="x", params=[], fee=-1, note={"kind": "tx"}))
+    for value in READABLE:
+        yield begins(f"a note of {value[:20]!r} in the genesis", with_note(genesis(), value))
+    for value in UNREADABLE:
+        yield no_genesis(f"a note of {value[:20]!r} in the genesis", with_note(genesis(), value))
     yield begins("an earlier kind", but(genesis(), '{"kind":"genesis"', '{"kind":"tx","kind":"genesis"'))
     yield no_genesis("a later kind", but(genesis(), '"slot":0', '"slot":0,"kind":"tx"'))
     yield begins("earlier accounts", but(genesis(), '"slot":0', '"slot":0,"accounts":[0],"accounts":[]'))
@@ -426,9 +430,9 @@ def rules():
 # ---- JSON
 
 
-def noted(n, value):
-    """Transfer n with a field that nobody names, of this text."""
-    return but(transfer(n), '"size":0', b'"size":0,"note":' + (value if isinstance(value, bytes) else value.encode()))
+def with_note(line, value):
+    """The record with one more field, which nobody names, of this text."""
+    return line[:-1] + b',"note":' + (value if isinstance(value, bytes) else value.encode()) + b"}"
 
 
 READABLE = [
@@ -508,8 +512,8 @@ UNREADABLE = [
 
 
 def json_forms():
-    yield all_accepted("what is read and passed over", *(noted(n, it) for n, it in enumerate(READABLE, 2)))
-    yield passed_over("what no JSON value is", *(noted(2, it) for it in UNREADABLE))
+    yield all_accepted("what is read and passed over", *(with_note(transfer(n), it) for n, it in enumerate(READABLE, 2)))
+    yield passed_over("what no JSON value is", *(with_note(transfer(2), it) for it in UNREADABLE))
     yield passed_over(
         "lines that are no transfer",
         b"x",
