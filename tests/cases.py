@@ -99,7 +99,6 @@ NO_TEXT = but(genesis(note="?"), b"?", b"\xff")
 
 def first_lines():
     start, end = genesis(), b"\n"
-    yield no_genesis("nothing", b"")
     yield no_genesis("blank lines alone", b"\n \n\t\r\n\n")
     yield no_genesis("blank lines and a blank piece", b"\n  \t")
     yield Case("a genesis with no line feed", start, wanted=text_of([START]))
