@@ -15,7 +15,7 @@ use Rattle.conway.specs.declared.status.GenesisCause.{GenesisCause}
 use Rattle.conway.specs.declared.status.GenesisCause.TheVariants as causes
 use Rattle.conway.specs.declared.status.Status.{Status}
 use Rattle.conway.specs.declared.status.Status.TheVariants as statuses
-use Rattle.conway.specs.Endings.{HasEnded, IsReplay, start_fault}
+use Rattle.conway.specs.Endings.{HasEnded, IsReplayed, start_fault}
 use Rattle.conway.specs.Heard.{HearsNext}
 use Rattle.conway.specs.Starts.{StartsAs}
 use Rattle.conway.specs.Runs.{text_from, text_by_genesis, genesis_text}
@@ -59,7 +59,7 @@ module _ (bytes : List ℕ) (new : Reader) (left : Option (List ℕ)) where
   has_started g w is heard = record { genesis = g; heard = heard.0; within = heard.1; sound = is.0; ledger = is.1 }
 
 -- a run that wrote nothing
-pub replay_of_nothing : (status : Status) (bytes : List ℕ) (left had : Option (List ℕ)) → HasEnded status bytes left [] → IsReplay status bytes left had had
+pub replay_of_nothing : (status : Status) (bytes : List ℕ) (left had : Option (List ℕ)) → HasEnded status bytes left [] → IsReplayed status bytes left had had
 replay_of_nothing status bytes left had ended = record { written = []; wrote = took_nothing had; ended = ended }
 
 module _ (bytes : List ℕ) (r : Reader) (left : Option (List ℕ)) (w : World) (started : HasStarted bytes r left w) where
@@ -78,13 +78,13 @@ module _ (bytes : List ℕ) (r : Reader) (left : Option (List ℕ)) (w : World) 
       ∙ ap (λ (v : World). Some (first_line ++ text_from v more)) (sym started.ledger)
 
   -- memory ran out before the first line was handed on
-  pub first_without_memory : (had : Option (List ℕ)) → IsReplay statuses.NoMemory bytes left had had
+  pub first_without_memory : (had : Option (List ℕ)) → IsReplayed statuses.NoMemory bytes left had had
   first_without_memory had =
       replay_of_nothing statuses.NoMemory bytes left had (ends_early bytes left _ (heard_now bytes r left _ started.heard started.within))
 
   -- the sink did not take the whole first line
   pub first_at_sink : (had has : Option (List ℕ)) (line : Text) (fault : SinkFault) (k : ℕ) → line ≡ first_line → has ≡ with_bytes had (take k line)
-      → IsReplay (status_of_sink_fault fault) bytes left had has
+      → IsReplayed (status_of_sink_fault fault) bytes left had has
   first_at_sink had has line sink_faults.WriteFault k is took = record {
     written = take k line;
     wrote = took;
@@ -109,7 +109,7 @@ module _ (bytes : List ℕ) (r : Reader) (left : Option (List ℕ)) (w : World) 
 
 -- after the first line all others were answered
 pub replay_after : (bytes : List ℕ) (left had now has : Option (List ℕ)) (line : Text) (status : Status) → now ≡ with_bytes had line
-    → Stops status bytes left now has line → IsReplay status bytes left had has
+    → Stops status bytes left now has line → IsReplayed status bytes left had has
 replay_after bytes left had now has line status took stops = record {
   written = line ++ stops.more;
   wrote = stops.wrote ∙ ap (λ (o : Option (List ℕ)). with_bytes o stops.more) took ∙ took_both had line stops.more;

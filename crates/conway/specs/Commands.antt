@@ -3,5 +3,5 @@ use Rattle.std.specs.Prelude.{◌≡◌, List, [], ◌∷◌, String, codes, map
 use Rattle.std.specs.declared.alloc.Global.{Global}
 
 -- the one word `replay`
-abbrev pub IsReplay : List (String Global) → Type 0
-IsReplay words = map string_bytes words ≡ codes "replay" ∷ []
+abbrev pub IsReplayCommand : List (String Global) → Type 0
+IsReplayCommand words = map string_bytes words ≡ codes "replay" ∷ []

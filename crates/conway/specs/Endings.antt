@@ -76,7 +76,7 @@ pub record HasEnded (status : Status) (bytes : List ℕ) (left : Option (List �
   pub too_much : (status ≡ statuses.TooMuch) ↔ (stream_limit < length came)
 
 -- what a run of `replay` came to, where its source told its bytes: the sink took what was written
-pub record IsReplay (status : Status) (bytes : List ℕ) (left had has : Option (List ℕ)) : Type 0 where
+pub record IsReplayed (status : Status) (bytes : List ℕ) (left had has : Option (List ℕ)) : Type 0 where
   pub written : Text
   pub wrote : has ≡ with_bytes had written
   pub ended : HasEnded status bytes left written

@@ -1,9 +1,9 @@
 ghost use Rattle.std.specs.Prelude.{◌≡◌, ◌↔◌, IsTrue};
-ghost use Rattle.conway.specs.Commands.{IsReplay};
+ghost use Rattle.conway.specs.Commands.{IsReplayCommand};
 
 /// Whether the words are those of the replay: the one word `replay`.
 pub fn is_replay(words: &[String]) -> bool
-    ensures { IsTrue result ↔ IsReplay words.now }
+    ensures { IsTrue result ↔ IsReplayCommand words.now }
 {
     match words {
         [word] => word.as_str() == "replay",

@@ -3,7 +3,7 @@ ghost use Rattle.byte_lines.specs.Answers.{line_given};
 ghost use Rattle.byte_lines.specs.Faults.{Rose};
 ghost use Rattle.conway.specs.declared.record.Reading.{Reading};
 ghost use Rattle.conway.specs.declared.rules.TheConstants.{NOT_BUILT};
-ghost use Rattle.conway.specs.Endings.{IsReplay};
+ghost use Rattle.conway.specs.Endings.{IsReplayed};
 ghost use Rattle.conway.specs.Heard.{HasHeard, Hears, HearsLine, HearsNext, IsFoundWithin};
 ghost use Rattle.conway.specs.Limits.{output_limit};
 ghost use Rattle.conway.specs.Records.{IsWithin};
@@ -55,6 +55,7 @@ fn next_line<S: Source>(alloc: Global, lines: &mut Lines, source: &mut S) -> Res
     ensures counted { S.faults source.old ≤ S.faults source.new }
     ensures read_fault { result ≡ Err Status.ReadFault → Rose (S.faults source.old) (S.faults source.new) }
     ensures no_write_fault { result ≢ Err Status.WriteFault }
+    ensures no_usage { result ≢ Err Status.Usage }
 {
     match hear(lines, source)? {
         Line::End => Ok(Found::End),
@@ -77,6 +78,7 @@ fn next_record<S: Source>(alloc: Global, lines: &mut Lines, source: &mut S) -> R
     ensures counted { S.faults source.old ≤ S.faults source.new }
     ensures read_fault { result ≡ Err Status.ReadFault → Rose (S.faults source.old) (S.faults source.new) }
     ensures no_write_fault { result ≢ Err Status.WriteFault }
+    ensures no_usage { result ≢ Err Status.Usage }
 {
     loop {
         match next_line(alloc, lines, source)? {
@@ -94,6 +96,7 @@ fn start<S: Source>(alloc: Global, lines: &mut Lines, source: &mut S) -> Result<
     ensures counted { S.faults source.old ≤ S.faults source.new }
     ensures read_fault { result ≡ Err Status.ReadFault → Rose (S.faults source.old) (S.faults source.new) }
     ensures no_write_fault { result ≢ Err Status.WriteFault }
+    ensures no_usage { result ≢ Err Status.Usage }
 {
     match next_record(alloc, lines, source)? {
         None => Err(Status::BadGenesis(GenesisCause::Missing)),
@@ -146,6 +149,7 @@ fn answer_next<S: Source, K: Sink>(
     ensures writes { K.faults sink.old ≤ K.faults sink.new }
     ensures read_fault { result ≡ Err Status.ReadFault → Rose (S.faults source.old) (S.faults source.new) }
     ensures write_fault { result ≡ Err Status.WriteFault → Rose (K.faults sink.old) (K.faults sink.new) }
+    ensures no_usage { result ≢ Err Status.Usage }
 {
     let Some(reading) = next_record(alloc, lines, source)? else {
         return Ok(None);
@@ -171,6 +175,7 @@ fn answer_all<S: Source, K: Sink>(
     ensures writes { K.faults sink.old ≤ K.faults sink.new }
     ensures read_fault { result ≡ Err Status.ReadFault → Rose (S.faults source.old) (S.faults source.new) }
     ensures write_fault { result ≡ Err Status.WriteFault → Rose (K.faults sink.old) (K.faults sink.new) }
+    ensures no_usage { result ≢ Err Status.Usage }
 {
     let mut ledger = ledger;
     while let Some(after) = answer_next(alloc, ledger, text, lines, source, sink)? {
@@ -182,11 +187,12 @@ fn answer_all<S: Source, K: Sink>(
 /// Reads a stream from its genesis to its end, and writes the text of each record before it asks for a further line.
 pub fn replay<S: Source, K: Sink>(alloc: Global, source: &mut S, sink: &mut K) -> Result<(), Status>
     ensures replays { (bytes : List ℕ) → S.left source.old ≡ Some bytes →
-        IsReplay (status_by result) bytes (S.left source.new) (K.taken sink.old) (K.taken sink.new) }
+        IsReplayed (status_by result) bytes (S.left source.new) (K.taken sink.old) (K.taken sink.new) }
     ensures reads { S.faults source.old ≤ S.faults source.new }
     ensures writes { K.faults sink.old ≤ K.faults sink.new }
     ensures read_fault { result ≡ Err Status.ReadFault → Rose (S.faults source.old) (S.faults source.new) }
     ensures write_fault { result ≡ Err Status.WriteFault → Rose (K.faults sink.old) (K.faults sink.new) }
+    ensures no_usage { result ≢ Err Status.Usage }
 {
     let mut lines = Lines::new(alloc, LINE_LIMIT, STREAM_LIMIT);
     let ledger = start(alloc, &mut lines, source)?;

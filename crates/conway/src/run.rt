@@ -1,11 +1,38 @@
+ghost use Rattle.std.specs.Prelude.{◌≡◌, ◌⊎◌, ◌↔◌, ℕ, ◌≤◌, List, Some, None, length};
+ghost use Rattle.byte_lines.specs.Faults.{Rose};
+ghost use Rattle.conway.specs.Commands.{IsReplayCommand};
+ghost use Rattle.conway.specs.Endings.{IsReplayed, start_fault};
+ghost use Rattle.conway.specs.Limits.{stream_limit};
+ghost use Rattle.conway.specs.Records.{records_of};
+
 use crate::command::is_replay;
 use crate::replay::replay;
 use crate::status::Status;
 use byte_lines::{Sink, Source};
 use std::alloc::Global;
 
-/// Runs the command that the words name.
-pub fn run<S: Source, K: Sink>(alloc: Global, words: &[String], source: &mut S, sink: &mut K) -> Status {
+/// Runs the command that the words name, after the program's name: `replay` reads records from the source and writes
+/// their text to the sink, that of each record before it asks for a further line. (Own)
+pub fn run<S: Source, K: Sink>(alloc: Global, words: &[String], source: &mut S, sink: &mut K) -> Status
+    ensures usage { (result ≡ Status.Usage) ↔ (¬ IsReplayCommand words.now) }
+    ensures unread { result ≡ Status.Usage → (source.new ≡ source.old) × (sink.new ≡ sink.old) }
+
+    // Each ending of a replay, with what was written: `Ends` says it for each status.
+    ensures replays { (bytes : List ℕ) → IsReplayCommand words.now → S.left source.old ≡ Some bytes →
+        IsReplayed result bytes (S.left source.new) (K.taken sink.old) (K.taken sink.new) }
+
+    // A fault is answered only where its count rose.
+    ensures read_fault { result ≡ Status.ReadFault → Rose (S.faults source.old) (S.faults source.new) }
+    ensures write_fault { result ≡ Status.WriteFault → Rose (K.faults sink.old) (K.faults sink.new) }
+    ensures reads { S.faults source.old ≤ S.faults source.new }
+    ensures writes { K.faults sink.old ≤ K.faults sink.new }
+
+    // A good stream of at most 2^48 bytes and no fault: all is done, or memory ran out.
+    ensures complete { (bytes : List ℕ) → IsReplayCommand words.now → S.left source.old ≡ Some bytes →
+        start_fault (records_of bytes) ≡ None → length bytes ≤ stream_limit →
+        (¬ Rose (S.faults source.old) (S.faults source.new)) → (¬ Rose (K.faults sink.old) (K.faults sink.new)) →
+        (result ≡ Status.Done) ⊎ (result ≡ Status.NoMemory) }
+{
     if !is_replay(words) {
         return Status::Usage;
     }
