@@ -1,6 +1,7 @@
 -- Laws on lines.
 use Rattle.std.specs.Prelude.{◌≡◌, ◌≢◌, ℕ, ◌+◌, ◌<◌, ◌++◌, List, [], ◌∷◌, Option, Result, Err, IsTrue, length}
 use Rattle.byte_lines.specs.Pieces.{line_feed, kept, lines_of, whole_of, open_of}
+use Rattle.byte_lines.specs.Faults.{given, before_bytes}
 use Rattle.byte_lines.specs.Reader.{Reader, lines_left}
 use Rattle.byte_lines.specs.Answers.{line_given, IsDone, GivesNext, HasGiven}
 use Rattle.byte_lines.specs.declared.lines.Line.{Line}
@@ -28,6 +29,17 @@ FeedGivesLine = (r : Reader) (bytes : List ℕ) → 0 < length (lines_left r (by
 -- a reader that is done gives no line more, if nothing comes
 abbrev pub DoneGivesNone : Type 0
 DoneGivesNone = (r : Reader) → IsDone r → lines_left r [] ≡ []
+
+-- a source that stays gives nothing
+abbrev pub StayingGivesNone : Type 0
+StayingGivesNone = (left : Option (List ℕ)) → given left left ≡ []
+
+-- what was given at one time and then at another was given in all
+abbrev pub GivenAddsUp : Type 0
+GivenAddsUp =
+    (first mid last : Option (List ℕ)) →
+    first ≡ before_bytes (given first mid) mid → mid ≡ before_bytes (given mid last) last →
+    (given first last ≡ given first mid ++ given mid last) × (first ≡ before_bytes (given first last) last)
 
 -- what a call of `next` says of a source that tells its bytes
 pub record IsNext (old new : Reader) (more : List ℕ) (result : Result Line LineFault) : Type 0 where

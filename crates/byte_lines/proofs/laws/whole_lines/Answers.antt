@@ -2,6 +2,7 @@ use Rattle.std.proofs.Common.{ℕ, ◌++◌, List, [], ◌∷◌, Option, map, r
 use Rattle.std.proofs.lemmas.List.{map-append}
 use Rattle.byte_lines.specs.Pieces.{line_feed, kept, whole_of, open_of, pieces_of}
 use Rattle.byte_lines.specs.Reader.{lines_from}
+use Rattle.byte_lines.proofs.GivenLemmas.{given-same, given-append}
 use Rattle.byte_lines.proofs.PieceLemmas.{whole_open, pieces_from-feed}
 use Rattle.byte_lines.proofs.RunLemmas.{lines_from-feed}
 use Rattle.byte_lines.proofs.TurnLemmas.{HasGiven-more}
@@ -23,3 +24,9 @@ returns-clause-calls c = λ old new got more given result so_far next. HasGiven-
 pub returns-clause-done : goal.returns-clause-done
 returns-clause-done c = λ r done.
     ap (λ (xs : List ℕ). lines_from r.line_max r.begun (xs ++ [])) done.ahead ∙ ap (λ (o : Option (List ℕ)). lines_from r.line_max o []) done.begun
+
+pub returns-clause-stays : goal.returns-clause-stays
+returns-clause-stays c = given-same
+
+pub returns-clause-given : goal.returns-clause-given
+returns-clause-given c = given-append
