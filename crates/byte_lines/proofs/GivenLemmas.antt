@@ -72,12 +72,12 @@ pub given-append : (first mid last : Option (List ℕ)) →
     (given first last ≡ given first mid ++ given mid last) × (first ≡ before_bytes (given first last) last)
 given-append first mid last before after =
     let joined : first ≡ before_bytes (given first mid ++ given mid last) last =
-        before ∙ ap (λ (o : Option (List ℕ)). before_bytes (given first mid) o) after ∙ before_bytes-append last (given first mid) (given mid last) in
+    before ∙ ap (λ (o : Option (List ℕ)). before_bytes (given first mid) o) after ∙ before_bytes-append last (given first mid) (given mid last) in
     let gave = given_is first last (given first mid ++ given mid last) joined in
     (all first mid last before after gave.1, gave.0) where
-  all : (a b c : Option (List ℕ)) → a ≡ before_bytes (given a b) b → b ≡ before_bytes (given b c) c →
-      (IsSome a → given a c ≡ given a b ++ given b c) → given a c ≡ given a b ++ given b c
-  all (Some xs) b c before after told = told refl
-  all None None None before after told = refl
-  all None (Some ys) c before after told = cc
-  all None None (Some zs) before after told = cc
+      all : (a b c : Option (List ℕ)) → a ≡ before_bytes (given a b) b → b ≡ before_bytes (given b c) c →
+          (IsSome a → given a c ≡ given a b ++ given b c) → given a c ≡ given a b ++ given b c
+      all (Some xs) b c before after told = told refl
+      all None None None before after told = refl
+      all None (Some ys) c before after told = cc
+      all None None (Some zs) before after told = cc
