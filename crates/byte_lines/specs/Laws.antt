@@ -1,9 +1,9 @@
 -- Laws on lines.
-use Rattle.std.specs.Prelude.{◌≡◌, ◌≢◌, ℕ, ◌+◌, ◌<◌, ◌++◌, List, [], ◌∷◌, Option, Result, Err, IsTrue, length}
+use Rattle.std.specs.Prelude.{◌≡◌, ◌≢◌, ℕ, ◌+◌, ◌<◌, ◌≤◌, ◌++◌, false, List, [], ◌∷◌, Option, Result, Err, IsTrue, IsSome, IfSome, length, take}
 use Rattle.byte_lines.specs.Pieces.{line_feed, kept, lines_of, whole_of, open_of}
 use Rattle.byte_lines.specs.Faults.{given, before_bytes}
 use Rattle.byte_lines.specs.Reader.{Reader, lines_left}
-use Rattle.byte_lines.specs.Answers.{line_given, IsDone, GivesNext, HasGiven}
+use Rattle.byte_lines.specs.Answers.{line_given, IsDone, GivesNext, HasGiven, HasRead}
 use Rattle.byte_lines.specs.declared.lines.Line.{Line}
 use Rattle.byte_lines.specs.declared.lines.LineFault.{LineFault}
 use Rattle.byte_lines.specs.declared.lines.LineFault.TheVariants.{NoMemory}
@@ -55,3 +55,23 @@ abbrev pub CallsAddUp : Type 0
 CallsAddUp =
     (old new : Reader) (got more : List ℕ) (given : List (Option (List ℕ))) (result : Result Line LineFault) →
     HasGiven old got given → IsNext old new more result → HasGiven new (got ++ more) (given ++ line_given result new)
+
+-- at the end of a source that was not too long, the lines given are those of all its bytes
+abbrev pub EndGivesAll : Type 0
+EndGivesAll =
+    (r : Reader) (first left : Option (List ℕ)) (ls : List (Option (List ℕ))) →
+    HasRead r first left ls → IsTrue r.ended → IsDone r → r.taken ≤ r.stream_max → IfSome first (λ bytes. ls ≡ lines_of r.line_max bytes)
+
+-- where reading broke off with nothing ahead, the lines given are the whole lines of the bytes heard
+abbrev pub BreakGivesWhole : Type 0
+BreakGivesWhole =
+    (r : Reader) (first left : Option (List ℕ)) (ls : List (Option (List ℕ))) →
+    HasRead r first left ls → IsSome first → r.ended ≡ false → r.ahead ≡ [] →
+    ls ≡ lines_of r.line_max (whole_of (take r.stream_max (given first left)))
+
+-- whatever comes then, the lines given are the first of the whole lines of all the bytes heard
+abbrev pub GivesFirst : Type 0
+GivesFirst =
+    (r : Reader) (first left : Option (List ℕ)) (ls : List (Option (List ℕ))) (more : List ℕ) →
+    HasRead r first left ls → IsSome first → r.ended ≡ false →
+    (later : List (Option (List ℕ))) × (ls ++ later ≡ lines_of r.line_max (whole_of (take r.stream_max (given first left) ++ more)))
