@@ -60,3 +60,24 @@ still_told had (Some rest) bytes gave told = refl
 pub gave_nothing : (had left : Option (List ℕ)) (bytes : List ℕ) → bytes ≡ [] → had ≡ before_bytes bytes left → left ≡ had
 gave_nothing had None bytes none gave = sym gave
 gave_nothing had (Some rest) bytes none gave = sym (gave ∙ ap (λ (xs : List ℕ). Some (xs ++ rest)) none)
+
+-- a source that stays gives nothing
+pub given-same : (left : Option (List ℕ)) → given left left ≡ []
+given-same None = refl
+given-same (Some rest) = let none : length rest - length rest ≡ 0 = omega arith in ap (λ (n : ℕ). take n rest) none
+
+-- what was given at one time and then at another was given in all
+pub given-append : (first mid last : Option (List ℕ)) →
+    first ≡ before_bytes (given first mid) mid → mid ≡ before_bytes (given mid last) last →
+    (given first last ≡ given first mid ++ given mid last) × (first ≡ before_bytes (given first last) last)
+given-append first mid last before after =
+    let joined : first ≡ before_bytes (given first mid ++ given mid last) last =
+    before ∙ ap (λ (o : Option (List ℕ)). before_bytes (given first mid) o) after ∙ before_bytes-append last (given first mid) (given mid last) in
+    let gave = given_is first last (given first mid ++ given mid last) joined in
+    (all first mid last before after gave.1, gave.0) where
+      all : (a b c : Option (List ℕ)) → a ≡ before_bytes (given a b) b → b ≡ before_bytes (given b c) c →
+          (IsSome a → given a c ≡ given a b ++ given b c) → given a c ≡ given a b ++ given b c
+      all (Some xs) b c before after told = told refl
+      all None None None before after told = refl
+      all None (Some ys) c before after told = cc
+      all None None (Some zs) before after told = cc

@@ -1,3 +1,4 @@
+pub mod BreakLemmas
 pub mod GivenLemmas
 pub mod GoesLemmas
 pub mod LookLemmas

@@ -1,12 +1,15 @@
 -- Lemmas on the calls of a reader, and on the bytes that a source gave.
-use Rattle.std.proofs.Common.{◌≡◌, ℕ, ◌+◌, ◌-◌, ◌++◌, inl, inr, List, [], Option, Result, Ok, Err, length, take, refl, sym, ap, ◌∙◌, arith, append_assoc}
-use Rattle.std.specs.Prelude.{◌≢◌, IsTrue}
+use Rattle.std.proofs.Common.{◌≡◌, ℕ, ◌+◌, ◌-◌, ◌++◌, inl, inr, false, List, [], Option, Some, None, Result, Ok, Err, length, take, refl, sym, ap, ◌∙◌, arith, append_assoc}
+use Rattle.std.specs.Prelude.{◌≢◌, IsTrue, IsSome}
 use Rattle.std.proofs.lemmas.List.{append-nil, length-append, take_all, take-append-le}
 use Rattle.std.proofs.Math.Seq.{take-append-add}
 use Rattle.std.proofs.lemmas.Bool.{cases_lt}
 use Rattle.byte_lines.specs.Pieces.{lines_of}
 use Rattle.byte_lines.specs.Reader.{Reader, lines_left, heard}
-use Rattle.byte_lines.specs.Answers.{line_given, GoesOn, GivesNext, HasGiven}
+use Rattle.byte_lines.specs.Answers.{line_given, GoesOn, GivesNext, HasGiven, HasRead, ReadsOn}
+use Rattle.byte_lines.specs.Faults.{given, before_bytes}
+use Rattle.byte_lines.specs.Turns.{Reads}
+use Rattle.byte_lines.proofs.GivenLemmas.{given-same, given-append, still_told}
 use Rattle.byte_lines.specs.Laws.{IsNext}
 use Rattle.byte_lines.specs.declared.lines.Line.{Line}
 use Rattle.byte_lines.specs.declared.lines.LineFault.{LineFault}
@@ -58,3 +61,34 @@ HasGiven-more old new got more lines result so_far next = record {
       ∙ ap (λ (n : ℕ). lines_of n (take old.stream_max got ++ (heard old more ++ rest))) (sym next.line_max)
       ∙ ap (λ (xs : List ℕ). lines_of new.line_max xs) (sym (append_assoc (take old.stream_max got) (heard old more) rest) ∙ ap (λ (xs : List ℕ). xs ++ rest) (sym came));
 }
+
+-- before the first call
+pub HasRead-begin : (r : Reader) (left : Option (List ℕ)) → HasGiven r [] [] → r.ended ≡ false → HasRead r left left []
+HasRead-begin r left begins open_still = record {
+  gave = stays left;
+  lines = λ told. rw (given-same left) begins;
+  drained = λ ended. cc;
+} where
+  stays : (o : Option (List ℕ)) → o ≡ before_bytes (given o o) o
+  stays None = refl
+  stays (Some rest) = ap (λ (xs : List ℕ). Some (xs ++ rest)) (sym (given-same (Some rest)))
+
+-- after a call of a reader that has not come to the end
+pub HasRead-more : (old new : Reader) (l1 l2 : Option (List ℕ)) (result : Result Line LineFault) → old.ended ≡ false →
+    Reads old new l1 l2 result → ReadsOn old new l1 l2 result
+HasRead-more old new l1 l2 result going reads = λ memory first ls so_far.
+    let all = given-append first l1 l2 so_far.gave reads.gave in
+    record {
+      gave = all.1;
+      lines = λ told.
+          let told1 : IsSome l1 = still_told first l1 (given first l1) so_far.gave told in
+          rw all.0 (HasGiven-more old new (given first l1) (given l1 l2) ls result (so_far.lines told) (record {
+            line_max = reads.line_max;
+            stream_max = reads.stream_max;
+            taken = reads.taken told1;
+            lines = reads.lines told1;
+            memory = memory;
+            stopped = λ ended. cc;
+          }));
+      drained = reads.drained;
+    }

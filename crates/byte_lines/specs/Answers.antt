@@ -1,6 +1,7 @@
 -- What the answers of a reader of lines say.
-use Rattle.std.specs.Prelude.{◌≡◌, ℕ, ◌<◌, ◌⊎◌, ◌++◌, List, [], ◌∷◌, Option, Some, None, Result, Ok, Err, IsTrue, length, take, ⊤}
+use Rattle.std.specs.Prelude.{◌≡◌, ℕ, ◌<◌, ◌⊎◌, ◌++◌, List, [], ◌∷◌, Option, Some, None, Result, Ok, Err, IsTrue, length, take, ⊤, ◌≢◌, IsSome, IfSome}
 use Rattle.byte_lines.specs.Pieces.{lines_of}
+use Rattle.byte_lines.specs.Faults.{given, before_bytes}
 use Rattle.byte_lines.specs.Reader.{Reader, lines_left, heard}
 use Rattle.byte_lines.specs.declared.lines.Line.{Line}
 use Rattle.byte_lines.specs.declared.lines.Line.TheVariants.{Whole, TooLong, End}
@@ -46,3 +47,16 @@ IsStopped r = IsTrue r.ended ⊎ (r.stream_max < r.taken) ⊎ IsTrue r.failed
 pub record HasGiven (r : Reader) (got : List ℕ) (given : List (Option (List ℕ))) : Type 0 where
   pub taken : r.taken ≡ length got
   pub lines : (rest : List ℕ) → (IsTrue r.ended → rest ≡ []) → given ++ lines_left r rest ≡ lines_of r.line_max (take r.stream_max got ++ rest)
+
+-- `ls` are the lines that a reader gave of a source that had `first` left when it began, and has `left` now
+pub record HasRead (r : Reader) (first left : Option (List ℕ)) (ls : List (Option (List ℕ))) : Type 0 where
+  pub gave : first ≡ before_bytes (given first left) left
+  pub lines : IsSome first → HasGiven r (given first left) ls
+  -- at the end nothing is left
+  pub drained : IsTrue r.ended → IfSome left (λ bytes. bytes ≡ [])
+
+-- after an answer the reader has given one line more, or none more; nothing is said where memory ran out
+abbrev pub ReadsOn : Reader → Reader → Option (List ℕ) → Option (List ℕ) → Result Line LineFault → Type 0
+ReadsOn old new left left' result =
+    result ≢ Err NoMemory → (first : Option (List ℕ)) (ls : List (Option (List ℕ))) →
+    HasRead old first left ls → HasRead new first left' (ls ++ line_given result new)

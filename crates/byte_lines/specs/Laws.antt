@@ -1,8 +1,9 @@
 -- Laws on lines.
-use Rattle.std.specs.Prelude.{◌≡◌, ◌≢◌, ℕ, ◌+◌, ◌<◌, ◌++◌, List, [], ◌∷◌, Option, Result, Err, IsTrue, length}
+use Rattle.std.specs.Prelude.{◌≡◌, ◌≢◌, ℕ, ◌+◌, ◌<◌, ◌≤◌, ◌++◌, false, List, [], ◌∷◌, Option, Result, Err, IsTrue, IsSome, IfSome, length, take}
 use Rattle.byte_lines.specs.Pieces.{line_feed, kept, lines_of, whole_of, open_of}
+use Rattle.byte_lines.specs.Faults.{given, before_bytes}
 use Rattle.byte_lines.specs.Reader.{Reader, lines_left}
-use Rattle.byte_lines.specs.Answers.{line_given, IsDone, GivesNext, HasGiven}
+use Rattle.byte_lines.specs.Answers.{line_given, IsDone, GivesNext, HasGiven, HasRead}
 use Rattle.byte_lines.specs.declared.lines.Line.{Line}
 use Rattle.byte_lines.specs.declared.lines.LineFault.{LineFault}
 use Rattle.byte_lines.specs.declared.lines.LineFault.TheVariants.{NoMemory}
@@ -29,6 +30,17 @@ FeedGivesLine = (r : Reader) (bytes : List ℕ) → 0 < length (lines_left r (by
 abbrev pub DoneGivesNone : Type 0
 DoneGivesNone = (r : Reader) → IsDone r → lines_left r [] ≡ []
 
+-- a source that stays gives nothing
+abbrev pub StayingGivesNone : Type 0
+StayingGivesNone = (left : Option (List ℕ)) → given left left ≡ []
+
+-- what was given at one time and then at another was given in all
+abbrev pub GivenAddsUp : Type 0
+GivenAddsUp =
+    (first mid last : Option (List ℕ)) →
+    first ≡ before_bytes (given first mid) mid → mid ≡ before_bytes (given mid last) last →
+    (given first last ≡ given first mid ++ given mid last) × (first ≡ before_bytes (given first last) last)
+
 -- what a call of `next` says of a source that tells its bytes
 pub record IsNext (old new : Reader) (more : List ℕ) (result : Result Line LineFault) : Type 0 where
   pub line_max : new.line_max ≡ old.line_max
@@ -43,3 +55,23 @@ abbrev pub CallsAddUp : Type 0
 CallsAddUp =
     (old new : Reader) (got more : List ℕ) (given : List (Option (List ℕ))) (result : Result Line LineFault) →
     HasGiven old got given → IsNext old new more result → HasGiven new (got ++ more) (given ++ line_given result new)
+
+-- at the end of a source that was not too long, the lines given are those of all its bytes
+abbrev pub EndGivesAll : Type 0
+EndGivesAll =
+    (r : Reader) (first left : Option (List ℕ)) (ls : List (Option (List ℕ))) →
+    HasRead r first left ls → IsTrue r.ended → IsDone r → r.taken ≤ r.stream_max → IfSome first (λ bytes. ls ≡ lines_of r.line_max bytes)
+
+-- where reading broke off with nothing ahead, the lines given are the whole lines of the bytes heard
+abbrev pub BreakGivesWhole : Type 0
+BreakGivesWhole =
+    (r : Reader) (first left : Option (List ℕ)) (ls : List (Option (List ℕ))) →
+    HasRead r first left ls → IsSome first → r.ended ≡ false → r.ahead ≡ [] →
+    ls ≡ lines_of r.line_max (whole_of (take r.stream_max (given first left)))
+
+-- whatever comes then, the lines given are the first of the whole lines of all the bytes heard
+abbrev pub GivesFirst : Type 0
+GivesFirst =
+    (r : Reader) (first left : Option (List ℕ)) (ls : List (Option (List ℕ))) (more : List ℕ) →
+    HasRead r first left ls → IsSome first → r.ended ≡ false →
+    (later : List (Option (List ℕ))) × (ls ++ later ≡ lines_of r.line_max (whole_of (take r.stream_max (given first left) ++ more)))

@@ -1,9 +1,9 @@
 //! The reader of lines.
-ghost use Rattle.std.specs.Prelude.{◌≡◌, ℕ, ◌+◌, ◌<◌, ◌≤◌, ◌↔◌, ◌⊎◌, List, [], length, false, IsSome, IsTrue, IsErr, IfSome};
+ghost use Rattle.std.specs.Prelude.{◌≡◌, ℕ, ◌+◌, ◌<◌, ◌≤◌, ◌↔◌, ◌⊎◌, List, [], Option, length, false, IsSome, IsTrue, IsErr, IfSome};
 ghost use Rattle.byte_lines.specs.Pieces.{lines_of};
 ghost use Rattle.byte_lines.specs.Faults.{Rose, before_bytes, given};
 ghost use Rattle.byte_lines.specs.Reader.{lines_left};
-ghost use Rattle.byte_lines.specs.Answers.{HasGiven, GivesNext, TextStays, IsDone, IsStopped, line_given};
+ghost use Rattle.byte_lines.specs.Answers.{HasRead, ReadsOn, GivesNext, TextStays, IsDone, IsStopped, line_given};
 ghost use Rattle.byte_lines.specs.Turns.{IsReading, Reads, LooksAhead, Ends, TakesMore};
 
 use super::ahead::Ahead;
@@ -130,7 +130,7 @@ impl Lines {
           failed = false;
         } }
         ensures lines { (rest : List ℕ) → lines_left result rest ≡ lines_of line_max rest }
-        ensures given { HasGiven result [] [] }
+        ensures begins { (left : Option (List ℕ)) → HasRead result left left [] }
     {
         Lines {
             line_max,
@@ -154,6 +154,8 @@ impl Lines {
         ensures bound { self.new.taken ≤ self.new.stream_max + 1 }
         ensures lines { IsSome (S.left source.old) →
             GivesNext self.old self.new (given (S.left source.old) (S.left source.new)) result }
+        // one call after another, the lines given and those to come are those of all the bytes
+        ensures adds_up { ReadsOn self.old self.new (S.left source.old) (S.left source.new) result }
         ensures text { TextStays self.old self.new result }
         ensures number { self.new.number ≡ self.old.number + length (line_given result self.new) }
         // each line took a byte

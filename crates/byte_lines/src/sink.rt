@@ -64,7 +64,8 @@ pub fn put_all<K: Sink>(sink: &mut K, piece: &[u8]) -> Result<(), SinkFault>
 {
     let mut at = 0;
     while at < piece.len() {
-        at += sink.write(&piece[at..])?;
+        let taken = sink.write(&piece[at..])?;
+        at += taken;
     }
     Ok(())
 }

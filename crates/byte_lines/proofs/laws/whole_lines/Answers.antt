@@ -1,25 +1,36 @@
-use Rattle.std.proofs.Common.{ℕ, ◌++◌, List, [], ◌∷◌, Option, map, refl, ap, sym, ◌∙◌, append_assoc}
-use Rattle.std.proofs.lemmas.List.{map-append}
-use Rattle.byte_lines.specs.Pieces.{line_feed, kept, whole_of, open_of, pieces_of}
-use Rattle.byte_lines.specs.Reader.{lines_from}
-use Rattle.byte_lines.proofs.PieceLemmas.{whole_open, pieces_from-feed}
-use Rattle.byte_lines.proofs.RunLemmas.{lines_from-feed}
+use Rattle.byte_lines.proofs.GivenLemmas.{given-same, given-append}
+use Rattle.byte_lines.proofs.PieceLemmas.{whole_open}
+use Rattle.byte_lines.proofs.BreakLemmas.{lines_of-feed, lines_left-feed, lines_left-done, HasRead-end, HasRead-whole, HasRead-front}
 use Rattle.byte_lines.proofs.TurnLemmas.{HasGiven-more}
+use Rattle.std.proofs.Common.{[]}
 use Rattle.byte_lines.proofs.laws.whole_lines.Goals as goal
 
 pub returns-clause-cuts : goal.returns-clause-cuts
-returns-clause-cuts c = λ bytes. whole_open [] bytes
+returns-clause-cuts c = whole_open []
 
 pub returns-clause-one_more : goal.returns-clause-one_more
-returns-clause-one_more c = λ max bytes.
-    ap (λ (ps : List (List ℕ)). map (kept max) ps) (pieces_from-feed [] bytes refl) ∙ map-append (kept max) (pieces_of (whole_of bytes)) (open_of bytes ∷ [])
+returns-clause-one_more c = lines_of-feed
 
 pub returns-clause-line : goal.returns-clause-line
-returns-clause-line c = λ r bytes. rw (sym (append_assoc r.ahead bytes (line_feed ∷ []))) (lines_from-feed r.line_max r.begun (r.ahead ++ bytes))
-
-pub returns-clause-calls : goal.returns-clause-calls
-returns-clause-calls c = λ old new got more given result so_far next. HasGiven-more old new got more given result so_far next
+returns-clause-line c = lines_left-feed
 
 pub returns-clause-done : goal.returns-clause-done
-returns-clause-done c = λ r done.
-    ap (λ (xs : List ℕ). lines_from r.line_max r.begun (xs ++ [])) done.ahead ∙ ap (λ (o : Option (List ℕ)). lines_from r.line_max o []) done.begun
+returns-clause-done c = lines_left-done
+
+pub returns-clause-stays : goal.returns-clause-stays
+returns-clause-stays c = given-same
+
+pub returns-clause-given : goal.returns-clause-given
+returns-clause-given c = given-append
+
+pub returns-clause-calls : goal.returns-clause-calls
+returns-clause-calls c = HasGiven-more
+
+pub returns-clause-all : goal.returns-clause-all
+returns-clause-all c = HasRead-end
+
+pub returns-clause-whole : goal.returns-clause-whole
+returns-clause-whole c = HasRead-whole
+
+pub returns-clause-first : goal.returns-clause-first
+returns-clause-first c = HasRead-front
