@@ -1,6 +1,5 @@
 -- A record's answer, from what was heard to what was written.
-use Rattle.std.proofs.Common.{◌≡◌, ◌≢◌, ℕ, ◌+◌, ◌<◌, ◌≤◌, List, [], ◌∷◌, ◌++◌, Option, Some, None, Result, Ok, Err, length, take, drop, refl, sym, ap, subst, ◌∙◌, append_assoc}
-use Rattle.std.specs.Prelude.{IsTrue, option_map}
+use Rattle.std.proofs.Common.{◌≡◌, ℕ, List, [], ◌∷◌, ◌++◌, Option, Some, None, Ok, Err, take, drop, refl, sym, ap, subst, ◌∙◌, append_assoc}
 use Rattle.std.proofs.lemmas.List.{append-nil, take-append-drop}
 use Rattle.byte_lines.specs.Faults.{with_bytes}
 use Rattle.byte_lines.specs.Reader.{Reader}
@@ -10,8 +9,7 @@ use Rattle.conway.specs.declared.record.Reading.{Reading}
 use Rattle.conway.specs.declared.status.Status.{Status}
 use Rattle.conway.specs.declared.status.Status.TheVariants as statuses
 use Rattle.conway.specs.Endings.{HasEnded, IsFront}
-use Rattle.conway.specs.Heard.{HasHeard, HadHeard, HearsNext}
-use Rattle.conway.specs.Limits.{stream_limit}
+use Rattle.conway.specs.Heard.{HearsNext}
 use Rattle.conway.specs.Runs.{text_from, text_of_records}
 use Rattle.conway.specs.Statuses.{status_of_sink_fault}
 use Rattle.conway.specs.Step.{step}

@@ -1,5 +1,5 @@
 -- How a run ends, from what was read and what was written.
-use Rattle.std.proofs.Common.{◌≡◌, ◌≢◌, ℕ, ◌+◌, ◌-◌, ◌<◌, ◌≤◌, ◌⊎◌, ◌↔◌, List, [], ◌∷◌, ◌++◌, Bool, true, false, Option, Some, None, length, map, take, drop, refl, sym, ap, subst, ◌∙◌, arith, append_assoc, inl, inr}
+use Rattle.std.proofs.Common.{◌≡◌, ◌≢◌, ℕ, ◌<◌, ◌≤◌, ◌↔◌, List, [], ◌∷◌, ◌++◌, false, Option, Some, None, length, refl, sym, ap, subst, ◌∙◌, arith, append_assoc, inl, inr}
 use Rattle.std.specs.Prelude.{IsTrue, option_map, unwrap_or}
 use Rattle.std.proofs.lemmas.List.{append-nil, length-append}
 use Rattle.byte_lines.specs.Pieces.{whole_of}
@@ -159,8 +159,8 @@ module _ (bytes : List ℕ) (r : Reader) (left : Option (List ℕ)) (records : L
   ends_done w written within writes ended looked none_begun =
       let none : heard.rest ≡ [] = heard.drained ended in
       let all : counted heard.came ≡ bytes =
-          counted_within heard.came (came_within bytes r left records heard within)
-          ∙ sym (append-nil heard.came) ∙ ap (λ (l : List ℕ). heard.came ++ l) (sym none) ∙ sym heard.cut in
+      counted_within heard.came (came_within bytes r left records heard within)
+      ∙ sym (append-nil heard.came) ∙ ap (λ (l : List ℕ). heard.came ++ l) (sym none) ∙ sym heard.cut in
       record {
         came = heard.came;
         rest = heard.rest;
@@ -219,8 +219,8 @@ module _ (bytes : List ℕ) (r : Reader) (left : Option (List ℕ)) (heard : Has
   pub ends_missing : r.taken ≤ stream_limit → IsTrue r.ended → r.ahead ≡ [] → r.begun ≡ Some [] → HasEnded (statuses.BadGenesis causes.Missing) bytes left []
   ends_missing within ended looked none_begun =
       let all : counted heard.came ≡ bytes =
-          counted_within heard.came (came_within bytes r left [] heard within)
-          ∙ sym (append-nil heard.came) ∙ ap (λ (l : List ℕ). heard.came ++ l) (sym (heard.drained ended)) ∙ sym heard.cut in
+      counted_within heard.came (came_within bytes r left [] heard within)
+      ∙ sym (append-nil heard.came) ∙ ap (λ (l : List ℕ). heard.came ++ l) (sym (heard.drained ended)) ∙ sym heard.cut in
       let none : [] ≡ records_of bytes = records_of_all bytes r left [] heard looked none_begun ∙ ap (λ (l : List ℕ). records_of l) all in
       record {
         came = heard.came;

@@ -1,13 +1,11 @@
 -- How the records that were read lie in those of the stream.
-use Rattle.std.proofs.Common.{◌≡◌, ◌≢◌, ℕ, ◌+◌, ◌-◌, ◌<◌, ◌≤◌, ◌⊎◌, List, [], ◌∷◌, ◌++◌, Bool, true, false, Option, Some, None, length, map, take, drop, refl, sym, ap, subst, ◌∙◌, arith, append_assoc, inl, inr}
+use Rattle.std.proofs.Common.{◌≡◌, ℕ, ◌+◌, ◌<◌, ◌≤◌, ◌⊎◌, List, [], ◌∷◌, ◌++◌, Bool, true, false, Option, Some, length, map, take, refl, sym, ap, ◌∙◌, arith, append_assoc, inl, inr}
 use Rattle.std.specs.Prelude.{IsTrue}
-use Rattle.std.proofs.lemmas.List.{append-nil, length-append, take-append-drop, take_all}
-use Rattle.byte_lines.specs.Answers.{HasGiven}
+use Rattle.std.proofs.lemmas.List.{append-nil, length-append, take_all}
 use Rattle.byte_lines.specs.Pieces.{line_feed, kept, lines_of, pieces_of, whole_of, open_of}
 use Rattle.byte_lines.specs.Reader.{Reader, lines_left, lines_from}
 use Rattle.byte_lines.proofs.PieceLemmas.{pieces_from-feed}
 use Rattle.byte_lines.proofs.RunLemmas.{lines_from-feed}
-use Rattle.byte_lines.proofs.TurnLemmas.{take-append}
 use Rattle.std.proofs.lemmas.List.{map-append}
 use Rattle.conway.specs.declared.record.Reading.{Reading}
 use Rattle.conway.specs.Endings.{counted}
@@ -56,9 +54,9 @@ pub records_of_whole : (bytes : List ℕ) (r : Reader) (left : Option (List ℕ)
 records_of_whole bytes r left records heard going looked =
     let one : lines_left r (line_feed ∷ []) ≡ r.begun ∷ [] = ap (λ (l : List ℕ). lines_from r.line_max r.begun (l ++ line_feed ∷ [])) looked in
     let all : heard.lines ++ r.begun ∷ [] ≡ lines_of line_limit (whole_of (counted heard.came)) ++ kept line_limit (open_of (counted heard.came)) ∷ [] =
-        ap (λ (l : List (Option (List ℕ))). heard.lines ++ l) (sym one)
-        ∙ lines_then bytes r left records heard (line_feed ∷ []) (λ ended. cc)
-        ∙ feed_more line_limit (counted heard.came) in
+    ap (λ (l : List (Option (List ℕ))). heard.lines ++ l) (sym one)
+    ∙ lines_then bytes r left records heard (line_feed ∷ []) (λ ended. cc)
+    ∙ feed_more line_limit (counted heard.came) in
     heard.read ∙ ap (λ (ls : List (Option (List ℕ))). records_from 1 ls) (same_front heard.lines _ _ _ all)
 
 -- at the end, they are those of all that came
@@ -66,12 +64,12 @@ pub records_of_all : (bytes : List ℕ) (r : Reader) (left : Option (List ℕ)) 
     → r.ahead ≡ [] → r.begun ≡ Some [] → records ≡ records_of (counted heard.came)
 records_of_all bytes r left records heard looked none_begun =
     let none : lines_left r [] ≡ [] =
-        ap (λ (l : List ℕ). lines_from r.line_max r.begun (l ++ [])) looked ∙ ap (λ (b : Option (List ℕ)). lines_from r.line_max b []) none_begun in
+    ap (λ (l : List ℕ). lines_from r.line_max r.begun (l ++ [])) looked ∙ ap (λ (b : Option (List ℕ)). lines_from r.line_max b []) none_begun in
     let all : heard.lines ≡ lines_of line_limit (counted heard.came) =
-        sym (append-nil heard.lines)
-        ∙ ap (λ (l : List (Option (List ℕ))). heard.lines ++ l) (sym none)
-        ∙ lines_then bytes r left records heard [] (λ ended. refl)
-        ∙ ap (λ (l : List ℕ). lines_of line_limit l) (append-nil (counted heard.came)) in
+    sym (append-nil heard.lines)
+    ∙ ap (λ (l : List (Option (List ℕ))). heard.lines ++ l) (sym none)
+    ∙ lines_then bytes r left records heard [] (λ ended. refl)
+    ∙ ap (λ (l : List ℕ). lines_of line_limit l) (append-nil (counted heard.came)) in
     heard.read ∙ ap (λ (ls : List (Option (List ℕ))). records_from 1 ls) all
 
 -- within the limit all that came counts
@@ -88,14 +86,14 @@ pub front_of_stream : (bytes : List ℕ) (r : Reader) (left : Option (List ℕ))
     → HasHeard bytes r left records → r.taken ≤ stream_limit → (more : List (ℕ × Reading)) × (records_of bytes ≡ records ++ more)
 front_of_stream bytes r left records heard within =
     let whole : counted heard.came ++ heard.rest ≡ bytes =
-        ap (λ (l : List ℕ). l ++ heard.rest) (counted_within heard.came (came_within bytes r left records heard within)) ∙ sym heard.cut in
+    ap (λ (l : List ℕ). l ++ heard.rest) (counted_within heard.came (came_within bytes r left records heard within)) ∙ sym heard.cut in
     let all : heard.lines ++ lines_left r heard.rest ≡ lines_of line_limit bytes =
-        lines_then bytes r left records heard heard.rest heard.drained ∙ ap (λ (l : List ℕ). lines_of line_limit l) whole in
+    lines_then bytes r left records heard heard.rest heard.drained ∙ ap (λ (l : List ℕ). lines_of line_limit l) whole in
     let more : List (ℕ × Reading) = records_from (1 + length heard.lines) (lines_left r heard.rest) in (
       more,
       ap (λ (ls : List (Option (List ℕ))). records_from 1 ls) (sym all)
-      ∙ records_from-append 1 heard.lines (lines_left r heard.rest)
-      ∙ ap (λ (rs : List (ℕ × Reading)). rs ++ more) (sym heard.read),
+          ∙ records_from-append 1 heard.lines (lines_left r heard.rest)
+          ∙ ap (λ (rs : List (ℕ × Reading)). rs ++ more) (sym heard.read),
     )
 
 -- where the records that were read stand: first of those of the whole lines that came or, once the end came, of all that came
@@ -116,21 +114,21 @@ part_before_end bytes r left records heard more rest within going =
     let old_within : length heard.came ≤ stream_limit = omega (arith, heard.given.taken) in
     let new_within : length (heard.came ++ more) ≤ stream_limit = omega (arith, heard.given.taken, length-append heard.came more) in
     let fed : counted heard.came ++ (more ++ line_feed ∷ []) ≡ counted (heard.came ++ more) ++ line_feed ∷ [] =
-        ap (λ (l : List ℕ). l ++ (more ++ line_feed ∷ [])) (counted_within heard.came old_within)
-        ∙ sym (append_assoc heard.came more (line_feed ∷ []))
-        ∙ ap (λ (l : List ℕ). l ++ line_feed ∷ []) (sym (counted_within (heard.came ++ more) new_within)) in
+    ap (λ (l : List ℕ). l ++ (more ++ line_feed ∷ [])) (counted_within heard.came old_within)
+    ∙ sym (append_assoc heard.came more (line_feed ∷ []))
+    ∙ ap (λ (l : List ℕ). l ++ line_feed ∷ []) (sym (counted_within (heard.came ++ more) new_within)) in
     let all : heard.lines ++ lines_left r (more ++ line_feed ∷ []) ≡ lines_of line_limit (whole_of (counted (heard.came ++ more))) ++ kept line_limit (open_of (counted (heard.came ++ more))) ∷ [] =
-        lines_then bytes r left records heard (more ++ line_feed ∷ []) (λ ended. cc)
-        ∙ ap (λ (l : List ℕ). lines_of line_limit l) fed
-        ∙ feed_more line_limit (counted (heard.came ++ more)) in
+    lines_then bytes r left records heard (more ++ line_feed ∷ []) (λ ended. cc)
+    ∙ ap (λ (l : List ℕ). lines_of line_limit l) fed
+    ∙ feed_more line_limit (counted (heard.came ++ more)) in
     let line : 0 < length (lines_left r (more ++ line_feed ∷ [])) =
-        rw (append_assoc r.ahead more (line_feed ∷ [])) at (lines_from-feed r.line_max r.begun (r.ahead ++ more)) in
+    rw (append_assoc r.ahead more (line_feed ∷ [])) at (lines_from-feed r.line_max r.begun (r.ahead ++ more)) in
     let front = front_of heard.lines (lines_left r (more ++ line_feed ∷ [])) _ _ all line in
     inl (
       records_from (1 + length heard.lines) front.0,
       ap (λ (ls : List (Option (List ℕ))). records_from 1 ls) front.1
-      ∙ records_from-append 1 heard.lines front.0
-      ∙ ap (λ (rs : List (ℕ × Reading)). rs ++ records_from (1 + length heard.lines) front.0) (sym heard.read),
+          ∙ records_from-append 1 heard.lines front.0
+          ∙ ap (λ (rs : List (ℕ × Reading)). rs ++ records_from (1 + length heard.lines) front.0) (sym heard.read),
     )
 
 part_at_end : (bytes : List ℕ) (r : Reader) (left : Option (List ℕ)) (records : List (ℕ × Reading)) (heard : HasHeard bytes r left records) (more rest : List ℕ)
@@ -138,14 +136,14 @@ part_at_end : (bytes : List ℕ) (r : Reader) (left : Option (List ℕ)) (record
 part_at_end bytes r left records heard more rest left_is ended =
     let none = no_bytes more rest (sym left_is ∙ heard.drained ended) in
     let came : counted (heard.came ++ more) ≡ counted heard.came ++ [] =
-        ap (λ (l : List ℕ). counted (heard.came ++ l)) none.0 ∙ ap (λ (l : List ℕ). counted l) (append-nil heard.came) ∙ sym (append-nil (counted heard.came)) in
+    ap (λ (l : List ℕ). counted (heard.came ++ l)) none.0 ∙ ap (λ (l : List ℕ). counted l) (append-nil heard.came) ∙ sym (append-nil (counted heard.came)) in
     let all : heard.lines ++ lines_left r [] ≡ lines_of line_limit (counted (heard.came ++ more)) =
-        lines_then bytes r left records heard [] (λ e. refl) ∙ ap (λ (l : List ℕ). lines_of line_limit l) (sym came) in
+    lines_then bytes r left records heard [] (λ e. refl) ∙ ap (λ (l : List ℕ). lines_of line_limit l) (sym came) in
     let last : List (ℕ × Reading) = records_from (1 + length heard.lines) (lines_left r []) in
     let read : records_of (counted (heard.came ++ more)) ≡ records ++ last =
-        ap (λ (ls : List (Option (List ℕ))). records_from 1 ls) (sym all)
-        ∙ records_from-append 1 heard.lines (lines_left r [])
-        ∙ ap (λ (rs : List (ℕ × Reading)). rs ++ last) (sym heard.read) in
+    ap (λ (ls : List (Option (List ℕ))). records_from 1 ls) (sym all)
+    ∙ records_from-append 1 heard.lines (lines_left r [])
+    ∙ ap (λ (rs : List (ℕ × Reading)). rs ++ last) (sym heard.read) in
     inr (none.1, (last, read))
 
 part_either : (b : Bool) (bytes : List ℕ) (r : Reader) (left : Option (List ℕ)) (records : List (ℕ × Reading)) (heard : HasHeard bytes r left records) (more rest : List ℕ)

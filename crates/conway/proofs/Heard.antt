@@ -1,11 +1,11 @@
 -- The records of a stream, as a reader of lines gives them.
-use Rattle.std.proofs.Common.{◌≡◌, ◌≢◌, ℕ, ◌+◌, ◌-◌, ◌<◌, ◌≤◌, ◌⊎◌, ◌↔◌, List, [], ◌∷◌, ◌++◌, Bool, true, false, Option, Some, None, Result, Ok, Err, length, take, drop, map, refl, sym, ap, subst, ◌∙◌, arith, append_assoc, inl, inr}
-use Rattle.std.specs.Prelude.{IsTrue, IsSome, IsErr, IfSome, filter_map, option_map}
-use Rattle.std.specs.List.{enumerate_from, cons_option}
-use Rattle.std.proofs.lemmas.List.{append-nil, take_at, length-append, take-append-drop, take_all}
+use Rattle.std.proofs.Common.{◌≡◌, ◌≢◌, ℕ, ◌+◌, ◌-◌, ◌<◌, ◌≤◌, ◌⊎◌, ◌↔◌, List, [], ◌∷◌, ◌++◌, Bool, true, false, Option, Some, None, Result, Ok, Err, length, take, refl, sym, ap, subst, ◌∙◌, arith, append_assoc, inl, inr}
+use Rattle.std.specs.Prelude.{IsTrue, IsSome, IsErr, IfSome, option_map}
+use Rattle.std.specs.List.{cons_option}
+use Rattle.std.proofs.lemmas.List.{append-nil, length-append}
 use Rattle.byte_lines.specs.Answers.{HasGiven, GivesNext, IsDone, line_given}
 use Rattle.byte_lines.specs.Faults.{before_bytes, given}
-use Rattle.byte_lines.specs.Reader.{Reader, lines_left}
+use Rattle.byte_lines.specs.Reader.{Reader}
 use Rattle.byte_lines.specs.declared.lines.Line.{Line}
 use Rattle.byte_lines.specs.declared.lines.Line.TheVariants.{Whole, TooLong, End}
 use Rattle.byte_lines.specs.declared.lines.LineFault.{LineFault}
@@ -27,7 +27,7 @@ pub records_from-append : (n : ℕ) (xs ys : List (Option (List ℕ))) → recor
 records_from-append n [] ys = ap (λ m. records_from m ys) (omega arith)
 records_from-append n (x ∷ xs) ys =
     let rest : records_from (n + 1) (xs ++ ys) ≡ records_from (n + 1) xs ++ records_from (n + length (x ∷ xs)) ys =
-        records_from-append (n + 1) xs ys ∙ ap (λ m. records_from (n + 1) xs ++ records_from m ys) (omega arith) in
+    records_from-append (n + 1) xs ys ∙ ap (λ m. records_from (n + 1) xs ++ records_from m ys) (omega arith) in
     cons_option-append (record_of (n, x)) (records_from (n + 1) (xs ++ ys)) (records_from (n + 1) xs) (records_from (n + length (x ∷ xs)) ys) rest
 
 -- at the start nothing was read
@@ -54,7 +54,7 @@ gave_front left None rest told gave = cc
 gave_front left (Some rest') rest told gave = (rest', cc, refl)
 
 -- what stays as it is gave nothing
-given_same : (left : Option (List ℕ)) → given left left ≡ []
+pub given_same : (left : Option (List ℕ)) → given left left ≡ []
 given_same None = refl
 given_same (Some bytes) = let none : length bytes - length bytes ≡ 0 = omega arith in ap (λ n. take n bytes) none
 

@@ -1,10 +1,9 @@
 -- The entries of a JSON array, as the code sees them.
-use Rattle.std.proofs.Common.{◌≡◌, ◌≢◌, ℕ, ◌+◌, ◌==◌, List, [], ◌∷◌, ◌++◌, length, None, Some, Option, refl, sym, ap, ◌∙◌, arith, drop}
+use Rattle.std.proofs.Common.{◌≡◌, ◌≢◌, ◌==◌, List, [], ◌∷◌, ◌++◌, length, None, Some, Option, refl, arith}
 use Rattle.std.proofs.lemmas.Bool.Decides.{nat_tests}
-use Rattle.serde_json.specs.Data.{Data, Items}
-use Rattle.serde_json.specs.View.{view, items_view}
+use Rattle.serde_json.specs.View.{items_view}
 use Rattle.serde_json.specs.declared.value.Value.{Value}
-use Rattle.conway.specs.Fields.{each_by, only_item, three_of}
+use Rattle.conway.specs.Fields.{only_item, three_of}
 use Rattle.conway.specs.Options.{◌>>=◌}
 use Rattle.conway.specs.Records.{is_no_items}
 

@@ -1,8 +1,7 @@
 -- When bytes are a JSON value.
-use Rattle.std.proofs.Common.{◌≡◌, List, ℕ, Bool, true, false, cond, None, Some, refl, sym, ap, ◌∙◌}
+use Rattle.std.proofs.Common.{◌≡◌, List, ℕ, Bool, true, false, cond, None, refl, ap}
 use Rattle.std.specs.Str.{IsUtf8, is_utf8}
 use Rattle.std.proofs.lemmas.Str.{IsUtf8-from_is_utf8, is_utf8-from_IsUtf8}
-use Rattle.serde_json.specs.Data.{Data}
 use Rattle.serde_json.specs.Read.{read}
 use Rattle.conway.specs.Records.{json_of}
 

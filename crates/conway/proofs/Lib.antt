@@ -1,5 +1,6 @@
 pub mod Answering
 pub mod Starting
+pub mod Complete
 pub mod Ends
 pub mod Fronts
 pub mod Heard

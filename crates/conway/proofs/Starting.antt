@@ -1,5 +1,5 @@
 -- The start of a run, from what was heard.
-use Rattle.std.proofs.Common.{◌≡◌, ℕ, List, [], ◌∷◌, ◌++◌, Option, Some, None, Result, Ok, Err, take, drop, refl, sym, ap, subst, ◌∙◌}
+use Rattle.std.proofs.Common.{◌≡◌, ℕ, List, [], ◌∷◌, ◌++◌, Option, Some, None, Result, Ok, Err, take, refl, sym, ap, subst, ◌∙◌}
 use Rattle.std.specs.Prelude.{option_map, ⊤}
 use Rattle.byte_lines.specs.Faults.{with_bytes}
 use Rattle.byte_lines.specs.declared.sink.SinkFault.{SinkFault}

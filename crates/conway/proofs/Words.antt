@@ -1,5 +1,5 @@
 -- Words that are added to a line, some after others.
-use Rattle.std.proofs.Common.{◌≡◌, ℕ, List, [], ◌∷◌, ◌++◌, refl, ap, sym, ◌∙◌, append_assoc}
+use Rattle.std.proofs.Common.{◌≡◌, List, [], ◌∷◌, ◌++◌, refl, ap, sym, ◌∙◌, append_assoc}
 use Rattle.conway.specs.Texts.{Text, spaced}
 
 spaced-append : (ws vs : List Text) → spaced (ws ++ vs) ≡ spaced ws ++ spaced vs

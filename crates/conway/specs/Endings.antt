@@ -2,7 +2,6 @@
 use Rattle.std.specs.Prelude.{◌≡◌, ◌⊎◌, ℕ, ◌<◌, ◌↔◌, List, [], ◌∷◌, ◌++◌, Option, Some, None, option_map, take, unwrap_or, length}
 use Rattle.byte_lines.specs.Faults.{with_bytes}
 use Rattle.byte_lines.specs.Pieces.{whole_of}
-use Rattle.conway.specs.declared.record.Genesis.{Genesis}
 use Rattle.conway.specs.declared.record.Reading.{Reading}
 use Rattle.conway.specs.declared.record.Reading.TheVariants as readings
 use Rattle.conway.specs.declared.status.GenesisCause.{GenesisCause}

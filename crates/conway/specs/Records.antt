@@ -1,8 +1,6 @@
 -- What a line says. (Own: the plain records that are built so far)
-use Rattle.std.specs.Prelude.{ℕ, ◌≤◌, ◌^◌, ◌==◌, ◌||◌, ◌&&◌, ◌+◌, Bool, List, [], ◌∷◌, Option, Some, None, Result, Ok, Err, codes, filter_map, length, nat_le, option_map, option_and_then, is_none, unwrap_or, bytes_eq, true, false, if◌then◌else◌}
+use Rattle.std.specs.Prelude.{ℕ, ◌≤◌, ◌^◌, ◌==◌, ◌||◌, ◌&&◌, Bool, List, [], ◌∷◌, Option, Some, None, Result, Ok, Err, codes, filter_map, length, nat_le, option_map, option_and_then, is_none, unwrap_or, bytes_eq, true, false, if◌then◌else◌}
 use Rattle.std.specs.List.{list_all, enumerate_from}
-use Rattle.std.specs.Ordering.{nat_cmp, eq_by_cmp}
-use Rattle.std.specs.Cmp.Lexicographic.{slice_cmp}
 use Rattle.std.specs.Str.{is_utf8}
 use Rattle.serde_json.specs.Data.{Data, Items, no_items, item}
 use Rattle.serde_json.specs.Find.{as_array, as_str}

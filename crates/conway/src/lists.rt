@@ -6,8 +6,8 @@ ghost use Rattle.conway.specs.Gives.{Gives};
 ghost use Rattle.conway.specs.Records.{genesis_output, transfer_output};
 
 use crate::fields::{address, number, number_under, output_ref};
-use coin_frac::NoMemory;
 use book_records::Output;
+use coin_frac::NoMemory;
 use gov_ids::OutRef;
 use listed::Listed;
 use serde_json::Value;

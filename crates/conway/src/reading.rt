@@ -34,7 +34,12 @@ fn genesis(alloc: Global, object: &Value) -> Result<Genesis, NotRead>
     if !has_no_lists(object) {
         return Err(NotRead::NotPlain);
     }
-    Ok(Genesis { supply, reserves, treasury, outputs })
+    Ok(Genesis {
+        supply,
+        reserves,
+        treasury,
+        outputs,
+    })
 }
 
 /// Whether a genesis lists no account, no pool and no DRep.
@@ -42,7 +47,9 @@ fn has_no_lists(object: &Value) -> bool
     ensures { result ≡ (has_none (codes "accounts") (view object.now) && has_none (codes "pools") (view object.now)
         && has_none (codes "dreps") (view object.now)) }
 {
-    has_no_entry(object, "accounts") && has_no_entry(object, "pools") && has_no_entry(object, "dreps")
+    has_no_entry(object, "accounts")
+        && has_no_entry(object, "pools")
+        && has_no_entry(object, "dreps")
 }
 
 /// Whether an object has none of these fields.
@@ -91,7 +98,12 @@ fn transfer(alloc: Global, object: &Value) -> Result<Transfer, NotRead>
     if outputs.len() > OUTPUT_LIMIT || !has_no_other_field(object) {
         return Err(NotRead::NotPlain);
     }
-    Ok(Transfer { id, input, outputs, fee })
+    Ok(Transfer {
+        id,
+        input,
+        outputs,
+        fee,
+    })
 }
 
 /// What a JSON value says, where it is a plain record.
@@ -124,7 +136,8 @@ fn reading(alloc: Global, object: &Value) -> Result<Reading, NoMemory>
 fn blank(line: &[u8]) -> bool
     ensures { result ≡ is_blank line.now }
 {
-    line.iter().all(|b| *b == b' ' || *b == b'\t' || *b == b'\r')
+    line.iter()
+        .all(|b| *b == b' ' || *b == b'\t' || *b == b'\r')
 }
 
 /// The JSON value of bytes; nothing where they are none.

@@ -68,7 +68,11 @@ fn next_line<S: Source>(alloc: Global, lines: &mut Lines, source: &mut S) -> Res
 }
 
 /// The next record, past blank lines; nothing at the end.
-fn next_record<S: Source>(alloc: Global, lines: &mut Lines, source: &mut S) -> Result<Option<Reading>, Status>
+fn next_record<S: Source>(
+    alloc: Global,
+    lines: &mut Lines,
+    source: &mut S,
+) -> Result<Option<Reading>, Status>
     ensures heard { (bytes : List ℕ) (records : List (ℕ × Reading)) → HasHeard bytes lines.old (S.left source.old) records →
         HearsNext bytes lines.new (S.left source.new) records result }
     ensures within { IfOk result (λ found. IfSome found IsWithin) }

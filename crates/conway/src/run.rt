@@ -1,6 +1,6 @@
-ghost use Rattle.std.specs.Prelude.{◌≡◌, ◌⊎◌, ◌↔◌, ℕ, ◌≤◌, List, Some, None, length};
+ghost use Rattle.std.specs.Prelude.{◌≡◌, ◌⊎◌, ◌↔◌, ℕ, ◌≤◌, List, Some, None, false, length};
 ghost use Rattle.byte_lines.specs.Faults.{Rose};
-ghost use Rattle.conway.specs.Commands.{IsReplayCommand};
+ghost use Rattle.conway.specs.Commands.{is_replay_command, IsReplayCommand};
 ghost use Rattle.conway.specs.Endings.{IsReplayed, start_fault};
 ghost use Rattle.conway.specs.Limits.{stream_limit};
 ghost use Rattle.conway.specs.Records.{records_of};
@@ -13,8 +13,13 @@ use std::alloc::Global;
 
 /// Runs the command that the words name, after the program's name: `replay` reads records from the source and writes
 /// their text to the sink, that of each record before it asks for a further line. (Own)
-pub fn run<S: Source, K: Sink>(alloc: Global, words: &[String], source: &mut S, sink: &mut K) -> Status
-    ensures usage { (result ≡ Status.Usage) ↔ (¬ IsReplayCommand words.now) }
+pub fn run<S: Source, K: Sink>(
+    alloc: Global,
+    words: &[String],
+    source: &mut S,
+    sink: &mut K,
+) -> Status
+    ensures usage { (result ≡ Status.Usage) ↔ (is_replay_command words.now ≡ false) }
     ensures unread { result ≡ Status.Usage → (source.new ≡ source.old) × (sink.new ≡ sink.old) }
 
     // Each ending of a replay, with what was written: `Ends` says it for each status.

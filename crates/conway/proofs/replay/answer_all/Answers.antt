@@ -1,4 +1,4 @@
-use Rattle.std.proofs.Common.{◌≡◌, ◌++◌, Option, Some, None, Ok, Err, subst, rules}
+use Rattle.std.proofs.Common.{◌≡◌, ◌++◌, Option, Ok, Err, subst, rules}
 use Rattle.conway.specs.declared.status.Status.TheVariants as statuses
 use Rattle.conway.specs.Turns.{Answers}
 use Rattle.conway.specs.World.{World}
@@ -18,7 +18,7 @@ loop-after-preserved g c = record {
   answered = λ bytes written stands.
       let so_far = c.loop-after.invariant.answered bytes written stands in
       let next = subst (λ (o : Option World). Answers bytes c.answer_next.new.lines (g.S.Source.left c.answer_next.new.source) (g.K.Sink.taken c.loop-after.sink) (g.K.Sink.taken c.answer_next.new.sink) (written ++ so_far.more) (Ok o))
-          c.in-Some.is (c.in_ok-after.ensures.answers bytes (written ++ so_far.more) so_far.stands) in
+      c.in-Some.is (c.in_ok-after.ensures.answers bytes (written ++ so_far.more) so_far.stands) in
       goes_further bytes c.loop-after.lines (g.S.Source.left c.loop-after.source) (g.K.Sink.taken c.args.sink.now) (g.K.Sink.taken c.loop-after.sink) c.loop-after.ledger
       written so_far c.answer_next.new.lines (g.S.Source.left c.answer_next.new.source) (g.K.Sink.taken c.answer_next.new.sink) c.in-Some.after next;
   reads = search rules;
@@ -29,6 +29,6 @@ pub returns-clause-answers : goal.returns-clause-answers
 returns-clause-answers g c = λ bytes written stands.
     let so_far = c.loop-after.invariant.answered bytes written stands in
     let next = subst (λ (o : Option World). Answers bytes c.answer_next.new.lines (g.S.Source.left c.answer_next.new.source) (g.K.Sink.taken c.loop-after.sink) (g.K.Sink.taken c.answer_next.new.sink) (written ++ so_far.more) (Ok o))
-        c.in_default.is (c.in_ok-after.ensures.answers bytes (written ++ so_far.more) so_far.stands) in
+    c.in_default.is (c.in_ok-after.ensures.answers bytes (written ++ so_far.more) so_far.stands) in
     stops_later bytes c.loop-after.lines (g.S.Source.left c.loop-after.source) (g.K.Sink.taken c.args.sink.now) (g.K.Sink.taken c.loop-after.sink) c.loop-after.ledger
     written so_far statuses.Done (g.S.Source.left c.answer_next.new.source) (g.K.Sink.taken c.answer_next.new.sink) next

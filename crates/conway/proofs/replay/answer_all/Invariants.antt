@@ -1,4 +1,4 @@
-use Rattle.std.proofs.Common.{◌≡◌, ◌+◌, ◌-◌, ◌≤◌, ℕ, List}
+use Rattle.std.proofs.Common.{◌+◌, ◌-◌, ◌≤◌, ℕ, List}
 use Rattle.conway.specs.Texts.{Text}
 use Rattle.conway.specs.Turns.{Stands, GoesOn}
 use Rattle.conway.proofs.replay.answer_all.Given as goal

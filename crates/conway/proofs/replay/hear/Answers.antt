@@ -1,4 +1,4 @@
-use Rattle.std.proofs.Common.{ap, inl, arith, ◌≤◌}
+use Rattle.std.proofs.Common.{ap, inl}
 use Rattle.conway.proofs.Heard.{hears}
 use Rattle.conway.proofs.replay.hear.Goals as goal
 

@@ -1,5 +1,4 @@
-use Rattle.std.proofs.Common.{rules, refl}
-use Rattle.conway.proofs.Answering.{goes_on}
+use Rattle.std.proofs.Common.{rules}
 use Rattle.conway.proofs.replay.not_built.Goals as goal
 
 pub returns : goal.returns
