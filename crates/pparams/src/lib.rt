@@ -4,7 +4,7 @@
 use coin_frac::{Ratio, Unit};
 
 /// The protocol parameters. Those that no rule here reads are kept and printed. (CIP-1694, Protocol parameter groups; PParams of the formal specification)
-#[derive(Clone, Copy, Debug, PartialEq, Eq)]
+#[derive(Clone, Copy, Debug)]
 pub struct Params {
     /// Bytes.
     pub max_block_body_size: u32,
@@ -69,7 +69,7 @@ pub struct Params {
 }
 
 /// An update of the parameters: each one that is there is replaced whole. (PParamsUpdate of the formal specification)
-#[derive(Clone, Copy, Debug, PartialEq, Eq)]
+#[derive(Clone, Copy, Debug)]
 pub struct Update {
     pub max_block_body_size: Option<u32>,
     pub max_tx_size: Option<u32>,
