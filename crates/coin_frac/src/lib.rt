@@ -4,6 +4,7 @@
 mod fraction;
 
 pub use fraction::{FracFault, Ratio, Unit, reaches};
+
 use std::alloc::{AllocError, AllocFailed};
 
 /// Memory ran out. No clause says when it may come. (Own)
@@ -11,13 +12,26 @@ use std::alloc::{AllocError, AllocFailed};
 pub struct NoMemory;
 
 impl From<AllocError> for NoMemory {
+    ghost use Rattle.std.specs.Prelude.{◌≡◌};
+    ghost use Rattle.coin_frac.specs.Memory.{no_memory};
+
+    ghost from_gives = { λ _ e. e ≡ no_memory };
+
     fn from(_error: AllocError) -> NoMemory {
         NoMemory
     }
 }
 
 impl<T: Drop> From<AllocFailed<T>> for NoMemory {
+    ghost use Rattle.std.specs.Prelude.{◌≡◌};
+    ghost use Rattle.coin_frac.specs.Memory.{no_memory};
+
+    ghost from_gives = { λ _ e. e ≡ no_memory };
+
     fn from(_error: AllocFailed<T>) -> NoMemory {
         NoMemory
     }
 }
+
+#[cfg(test)]
+mod tests;

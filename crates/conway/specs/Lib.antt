@@ -1,0 +1,11 @@
+pub mod Limits
+pub mod Options
+pub mod Fields
+pub mod Pieces
+pub mod Records
+pub mod Gives
+pub mod World
+pub mod Checks
+pub mod Step
+pub mod Texts
+pub mod Runs
