@@ -1,0 +1,2 @@
+pub mod Payouts
+pub mod UpdateBalance
