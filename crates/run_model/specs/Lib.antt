@@ -7,3 +7,4 @@ pub mod Step
 pub mod Runs
 pub mod BoundaryFlows
 pub mod Laws
+pub mod StepLaws

@@ -1,0 +1,5 @@
+use Rattle.run_model.proofs.Steps.{donations_balance}
+use Rattle.run_model.proofs.steps.donations_balance.Goals as goal
+
+pub returns : goal.returns
+returns c = donations_balance

@@ -1,0 +1,5 @@
+use Rattle.run_model.proofs.Steps.{enactment_balances}
+use Rattle.run_model.proofs.steps.enactment_balances.Goals as goal
+
+pub returns : goal.returns
+returns c = enactment_balances

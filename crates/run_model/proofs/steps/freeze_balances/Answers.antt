@@ -1,0 +1,5 @@
+use Rattle.run_model.proofs.Steps.{freeze_balances}
+use Rattle.run_model.proofs.steps.freeze_balances.Goals as goal
+
+pub returns : goal.returns
+returns c = freeze_balances

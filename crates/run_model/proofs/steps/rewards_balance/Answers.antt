@@ -1,0 +1,5 @@
+use Rattle.run_model.proofs.Steps.{rewards_balance}
+use Rattle.run_model.proofs.steps.rewards_balance.Goals as goal
+
+pub returns : goal.returns
+returns c = rewards_balance
