@@ -1,5 +1,5 @@
 pub mod Payouts
 pub mod PaymentSums
 pub mod UpdateBalance
-pub mod Steps
+pub mod StepMoves
 pub mod Removals

@@ -1,4 +1,4 @@
-use Rattle.run_model.proofs.Steps.{donations_balance}
+use Rattle.run_model.proofs.StepMoves.{donations_balance}
 use Rattle.run_model.proofs.steps.donations_balance.Goals as goal
 
 pub returns : goal.returns

@@ -1,4 +1,4 @@
-use Rattle.run_model.proofs.Steps.{dormancy_balances}
+use Rattle.run_model.proofs.StepMoves.{dormancy_balances}
 use Rattle.run_model.proofs.steps.dormancy_balances.Goals as goal
 
 pub returns : goal.returns

@@ -1,4 +1,4 @@
-use Rattle.run_model.proofs.Steps.{enactment_balances}
+use Rattle.run_model.proofs.StepMoves.{enactment_balances}
 use Rattle.run_model.proofs.steps.enactment_balances.Goals as goal
 
 pub returns : goal.returns

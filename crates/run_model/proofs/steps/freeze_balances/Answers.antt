@@ -1,4 +1,4 @@
-use Rattle.run_model.proofs.Steps.{freeze_balances}
+use Rattle.run_model.proofs.StepMoves.{freeze_balances}
 use Rattle.run_model.proofs.steps.freeze_balances.Goals as goal
 
 pub returns : goal.returns

@@ -1,4 +1,4 @@
-use Rattle.run_model.proofs.Steps.{members_balance}
+use Rattle.run_model.proofs.StepMoves.{members_balance}
 use Rattle.run_model.proofs.steps.members_balance.Goals as goal
 
 pub returns : goal.returns

@@ -1,4 +1,4 @@
-use Rattle.run_model.proofs.Steps.{payments_balance}
+use Rattle.run_model.proofs.StepMoves.{payments_balance}
 use Rattle.run_model.proofs.steps.payments_balance.Goals as goal
 
 pub returns : goal.returns

@@ -1,4 +1,4 @@
-use Rattle.run_model.proofs.Steps.{pools_balance}
+use Rattle.run_model.proofs.StepMoves.{pools_balance}
 use Rattle.run_model.proofs.steps.pools_balance.Goals as goal
 
 pub returns : goal.returns

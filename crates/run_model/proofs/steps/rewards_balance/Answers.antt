@@ -1,4 +1,4 @@
-use Rattle.run_model.proofs.Steps.{rewards_balance}
+use Rattle.run_model.proofs.StepMoves.{rewards_balance}
 use Rattle.run_model.proofs.steps.rewards_balance.Goals as goal
 
 pub returns : goal.returns

@@ -1,4 +1,4 @@
-use Rattle.run_model.proofs.Steps.{snapshots_balance}
+use Rattle.run_model.proofs.StepMoves.{snapshots_balance}
 use Rattle.run_model.proofs.steps.snapshots_balance.Goals as goal
 
 pub returns : goal.returns

@@ -1,4 +1,4 @@
-use Rattle.run_model.proofs.Steps.{terms_balance}
+use Rattle.run_model.proofs.StepMoves.{terms_balance}
 use Rattle.run_model.proofs.steps.terms_balance.Goals as goal
 
 pub returns : goal.returns
