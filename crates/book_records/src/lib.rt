@@ -3,9 +3,8 @@
 
 mod pool;
 
-pub use pool::{DefaultVote, Pool, PoolTerms};
-
 use gov_ids::{Address, Drep, PoolId};
+pub use pool::{DefaultVote, Pool, PoolTerms};
 
 /// An unspent output. (UTxO of the formal specification)
 #[derive(Clone, Copy, Debug, PartialEq, Eq)]

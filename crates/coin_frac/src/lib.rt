@@ -4,7 +4,6 @@
 mod fraction;
 
 pub use fraction::{FracFault, Ratio, Unit, reaches};
-
 use std::alloc::{AllocError, AllocFailed};
 
 /// Memory ran out. No clause says when it may come. (Own)

@@ -1,5 +1,5 @@
 -- What it means that no check of several lists is broken.
-use Rattle.std.proofs.Common.{◌≡◌, ℕ, ◌+◌, List, [], ◌∷◌, ◌++◌, Bool, true, false, cond, Option, Some, None, is_none, find, refl, ap, sym, ◌∙◌}
+use Rattle.std.proofs.Common.{◌≡◌, ℕ, ◌+◌, List, ◌∷◌, ◌++◌, Bool, true, false, cond, Option, Some, None, is_none, find, refl, sym, ◌∙◌}
 use Rattle.std.specs.Option.{option_map}
 use Rattle.maps.specs.Words.{or_else}
 use Rattle.tx_records.specs.declared.reply.Rule.{Rule}

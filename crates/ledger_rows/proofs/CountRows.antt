@@ -1,5 +1,5 @@
 -- Worked rows of counts over a snapshot, and of the stake that some visits have added up.
-use Rattle.std.specs.Prelude.{ℕ, ◌≡◌, List, [], ◌∷◌, Some, None, refl}
+use Rattle.std.specs.Prelude.{◌≡◌, [], ◌∷◌, Some, None, refl}
 use Rattle.gov_ids.specs.declared.Drep.TheVariants as drep
 use Rattle.gov_ids.specs.declared.Voter.TheVariants as voter
 use Rattle.gov_actions.specs.declared.action.Action.TheVariants.{NoConfidence}
@@ -9,7 +9,7 @@ use Rattle.gov_actions.specs.declared.tally.Role.TheVariants as role
 use Rattle.gov_model.specs.Ratified.{ratified_of}
 use Rattle.gov_model.specs.Sides.{vote_count}
 use Rattle.gov_model.specs.Snapshot.{Snapshot}
-use Rattle.gov_model.specs.Stake.{drep_stake, drep_stake_of_first}
+use Rattle.gov_model.specs.Stake.{drep_stake_of_first}
 use Rattle.run_model.specs.Genesis.{world_of_genesis}
 use Rattle.ledger_rows.proofs.Base.{base, key, account_on, action}
 

@@ -1,5 +1,5 @@
 -- The laws over the definitions, each for every World that records reach. They are stated here, and proved where a public call cites them.
-use Rattle.std.specs.Prelude.{◌≡◌, ℕ, ◌+◌, ◌^◌, ◌≤◌, ◌<◌, ◌⊎◌, List, [], Some, None, Contains, true}
+use Rattle.std.specs.Prelude.{◌≡◌, ◌+◌, ◌^◌, ◌≤◌, ◌<◌, ◌⊎◌, List, [], Some, None, Contains, true}
 use Rattle.std.specs.List.{AllZip, list_all}
 use Rattle.maps.specs.Maps.{value_at}
 use Rattle.gov_ids.specs.Orders.{credential_cmp}

@@ -7,4 +7,3 @@ pub mod Step
 pub mod Runs
 pub mod BoundaryFlows
 pub mod Laws
-pub mod StepLaws
