@@ -3,3 +3,5 @@ pub mod PaymentSums
 pub mod UpdateBalance
 pub mod StepMoves
 pub mod Removals
+pub mod Whole
+pub mod Covered
