@@ -1,2 +1,11 @@
+pub mod Answering
+pub mod Starting
+pub mod Ends
+pub mod Fronts
+pub mod Heard
 pub mod Items
 pub mod Json
+pub mod Words
+pub mod Puts
+pub mod Sound
+pub mod LawsHold

@@ -1,5 +1,5 @@
 -- What a line says. (Own: the plain records that are built so far)
-use Rattle.std.specs.Prelude.{ℕ, ◌^◌, ◌==◌, ◌||◌, ◌&&◌, ◌+◌, Bool, List, [], ◌∷◌, Option, Some, None, Result, Ok, Err, codes, filter_map, length, nat_le, option_map, option_and_then, is_none, unwrap_or, bytes_eq, true, false, if◌then◌else◌}
+use Rattle.std.specs.Prelude.{ℕ, ◌≤◌, ◌^◌, ◌==◌, ◌||◌, ◌&&◌, ◌+◌, Bool, List, [], ◌∷◌, Option, Some, None, Result, Ok, Err, codes, filter_map, length, nat_le, option_map, option_and_then, is_none, unwrap_or, bytes_eq, true, false, if◌then◌else◌}
 use Rattle.std.specs.List.{list_all, enumerate_from}
 use Rattle.std.specs.Ordering.{nat_cmp, eq_by_cmp}
 use Rattle.std.specs.Cmp.Lexicographic.{slice_cmp}
@@ -12,7 +12,7 @@ use Rattle.gov_ids.specs.declared.OutRef.{OutRef}
 use Rattle.gov_ids.specs.declared.TxId.{TxId}
 use Rattle.gov_ids.specs.declared.IdFault.{IdFault}
 use Rattle.gov_ids.specs.Spelling.{hash_of, address_of, ref_of}
-use Rattle.conway.specs.Pieces.{lines_of}
+use Rattle.byte_lines.specs.Pieces.{lines_of}
 use Rattle.conway.specs.declared.record.Genesis.{Genesis}
 use Rattle.conway.specs.declared.record.Reading.{Reading}
 use Rattle.conway.specs.declared.record.Reading.TheVariants as readings
@@ -145,3 +145,8 @@ records_from n lines = filter_map record_of (enumerate_from n lines)
 -- the records of a stream: blank lines give none and are numbered
 abbrev pub records_of : List ℕ → List (ℕ × Reading)
 records_of bytes = records_from 1 (lines_of line_limit bytes)
+
+-- a record of a line has no more outputs than a transaction may have
+abbrev pub IsWithin : Reading → Type 0
+IsWithin (readings.Transfer t) = length t.outputs ≤ output_limit
+IsWithin _ = Unit {0}

@@ -1,5 +1,5 @@
 -- What a record is answered, and the ledger that it leaves. (UTXO and LEDGERS of the formal specification, for plain transfers)
-use Rattle.std.specs.Prelude.{ℕ, ◌+◌, ◌==◌, Bool, not, List, [], ◌∷◌, Option, Some, None, is_none, map, sum_by}
+use Rattle.std.specs.Prelude.{ℕ, ◌+◌, ◌==◌, not, List, [], ◌∷◌, Option, Some, None, is_none, map, sum_by}
 use Rattle.maps.specs.Maps.{value_at, has_member, with_values, without_key, with_key}
 use Rattle.maps.specs.Words.{amount, with_places}
 use Rattle.book_records.specs.declared.Output.{Output}
@@ -42,12 +42,16 @@ consumed w t = amount (λ (o : Output). o.lovelace) (spent_output w t)
 abbrev pub produced : Transfer → ℕ
 produced t = sum_by (λ (o : Output). o.lovelace) t.outputs + t.fee
 
+-- the rule of balance, for a transfer that takes so much lovelace
+abbrev pub balance_check : ℕ → Transfer → Check
+balance_check taken t = breaks_keeping_two not_balanced taken (produced t) (not (taken == produced t))
+
 -- every rule, in order
 abbrev pub transfer_checks : World → Transfer → List Check
 transfer_checks w t =
     breaks tx_id_used (has_member txid_cmp w.used t.id) ∷
     at_place 0 (breaks input_missing (is_none (spent_output w t))) ∷
-    breaks_keeping_two not_balanced (consumed w t) (produced t) (not (consumed w t == produced t)) ∷
+    balance_check (consumed w t) t ∷
     []
 
 -- the first that it breaks

@@ -19,10 +19,6 @@ spaced words = flat_map (λ word. 32 ∷ word) words
 abbrev pub line_of : ℕ → List Text → Text
 line_of n words = decimal n ++ spaced words ++ 10 ∷ []
 
--- an amount after its name
-abbrev pub amount_words : Text → ℕ → List Text
-amount_words name n = name ∷ decimal n ∷ []
-
 -- the pots and their sum
 abbrev pub pots_words : Pots → List Text
 pots_words p =
@@ -66,16 +62,27 @@ abbrev pub place_words : Option ℕ → List Text
 place_words None = []
 place_words (Some i) = codes "at" ∷ decimal i ∷ []
 
+-- the name of a rule
+abbrev pub name_words : Option RuleText → List Text
+name_words None = []
+name_words (Some t) = t.name ∷ []
+
+-- the words of the numbers that a rule keeps
+abbrev pub words_of : Option RuleText → List Text
+words_of None = []
+words_of (Some t) = t.words
+
 -- the numbers that a refusal keeps, each after its word
 abbrev pub kept_words : List Text → Rule → List Text
 kept_words words r = flat_map (λ k. k.0 ∷ decimal k.1 ∷ []) (zip words (r.first ∷ r.second ∷ []))
 
--- what follows the number of a refusal
-abbrev pub refusal_words : Rule → Option RuleText → List Text
-refusal_words r None = []
-refusal_words r (Some t) = t.name ∷ [] ++ place_words r.place ++ kept_words t.words r
+-- what follows the number of a refusal: the rule's name, its place, the numbers that it keeps
+abbrev pub refusal_words : Rule → List Text
+refusal_words r =
+    let text : Option RuleText = text_of_rule r.number in
+    name_words text ++ place_words r.place ++ kept_words (words_of text) r
 
 -- a reply
 abbrev pub reply_words : Reply → List Text
 reply_words Accepted = codes "accepted" ∷ []
-reply_words (Refused r) = codes "refused" ∷ decimal r.number ∷ refusal_words r (text_of_rule r.number)
+reply_words (Refused r) = codes "refused" ∷ decimal r.number ∷ refusal_words r

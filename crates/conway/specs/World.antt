@@ -1,12 +1,14 @@
 -- The whole state of the ledger as plain data, and its pots. (The ledger state of the formal specification; the pots of its preservation of value)
-use Rattle.std.specs.Prelude.{◌≡◌, ℕ, true, ◌≤◌, ◌+◌, ◌==◌, Bool, List, [], ◌∷◌, Option, Some, None, map, sum_by, option_map, find, nat_lt, not}
+use Rattle.std.specs.Prelude.{◌≡◌, ℕ, true, ◌≤◌, ◌+◌, ◌==◌, Bool, List, [], ◌∷◌, Option, map, sum_by, option_map, find, nat_lt, not}
 use Rattle.std.specs.List.{AllByRecursion}
-use Rattle.maps.specs.Maps.{sum_values, with_values, in_order, has_member}
+use Rattle.std.specs.Map.{keys_of}
+use Rattle.maps.specs.Maps.{IsMap, IsSet, with_values, in_order, has_member}
 use Rattle.maps.specs.Words.{repeats}
 use Rattle.book_records.specs.declared.Output.{Output}
 use Rattle.gov_ids.specs.declared.OutRef.{OutRef}
 use Rattle.gov_ids.specs.declared.TxId.{TxId}
 use Rattle.gov_ids.specs.Orders.{outref_cmp, txid_cmp}
+use Rattle.utxo_set.specs.Utxos.{lovelace_in}
 use Rattle.conway.specs.declared.record.Genesis.{Genesis}
 use Rattle.conway.specs.declared.record.GenesisRule.{GenesisRule}
 use Rattle.conway.specs.declared.record.GenesisRule.TheVariants.{SupplyTooLarge, Repeated, SumWrong}
@@ -21,9 +23,6 @@ pub record World : Type 0 where
   pub fees : ℕ
   pub outputs : List (OutRef × Output)
   pub used : List TxId
-
-abbrev pub lovelace_in : List (OutRef × Output) → ℕ
-lovelace_in outputs = sum_values (λ (o : Output). o.lovelace) outputs
 
 -- the seven pots; four of them stay empty so far
 abbrev pub pots_of : World → Pots
@@ -74,8 +73,10 @@ world_of_genesis g = record {
   used = in_order txid_cmp (map (λ (o : OutRef × Output). o.0.tx) g.outputs);
 }
 
--- what holds of every ledger: the pots sum to the supply, which is within its limit, and each output's transaction is a used one
+-- what holds of every ledger: the pots sum to the supply, which is within its limit; outputs and used ids stand in order, each once; and each output's transaction is a used one
 pub record IsSound (w : World) : Type 0 where
   pub balanced : supply_of w ≡ w.supply
   pub within : w.supply ≤ supply_limit
-  pub named : AllByRecursion (λ (o : OutRef × Output). has_member txid_cmp w.used o.0.tx ≡ true) w.outputs
+  pub outputs_in_order : IsMap outref_cmp w.outputs
+  pub used_in_order : IsSet txid_cmp w.used
+  pub named : AllByRecursion (λ (r : OutRef). has_member txid_cmp w.used r.tx ≡ true) (keys_of w.outputs)

@@ -1,9 +1,10 @@
-ghost use Rattle.std.specs.Prelude.{◌≡◌, ◌&&◌, codes, is_none, option_map, IfOk, Some};
+ghost use Rattle.std.specs.Prelude.{◌≡◌, ◌≤◌, ◌&&◌, length, IfSome, codes, is_none, option_map, IfOk, Some};
 ghost use Rattle.std.specs.List.{list_all};
 ghost use Rattle.serde_json.specs.View.{view};
 ghost use Rattle.conway.specs.Fields.{field_of};
+ghost use Rattle.conway.specs.Limits.{output_limit};
 ghost use Rattle.conway.specs.Gives.{Gives, GivesBy};
-ghost use Rattle.conway.specs.Records.{genesis_of, transfer_of, plain_reading, reading_of, reading_of_line, json_of, is_blank, has_none, lacks_all, other_fields};
+ghost use Rattle.conway.specs.Records.{IsWithin, genesis_of, transfer_of, plain_reading, reading_of, reading_of_line, json_of, is_blank, has_none, lacks_all, other_fields};
 
 use crate::fields::{field, field_says, has_no_entry, number, number_under, output_ref, tx_id};
 use crate::limits::{OUTPUT_LIMIT, SLOT_BOUND};
@@ -78,7 +79,8 @@ fn has_no_other_field(object: &Value) -> bool
 /// A transaction of one input, outputs and a fee, and nothing else.
 #[tactic(auto, unfolding(crate::specs::Records::transfer_of))]
 fn transfer(alloc: Global, object: &Value) -> Result<Transfer, NotRead>
-    ensures { Gives result (transfer_of (view object.now)) }
+    ensures gives { Gives result (transfer_of (view object.now)) }
+    ensures within { IfOk result (λ t. length t.outputs ≤ output_limit) }
 {
     let id = tx_id(needed(object, "id")?).ok_or(NotRead::NotPlain)?;
     let inputs = needed(object, "inputs")?;
@@ -94,7 +96,8 @@ fn transfer(alloc: Global, object: &Value) -> Result<Transfer, NotRead>
 
 /// What a JSON value says, where it is a plain record.
 fn plain(alloc: Global, object: &Value) -> Result<Reading, NotRead>
-    ensures { Gives result (plain_reading (view object.now)) }
+    ensures gives { Gives result (plain_reading (view object.now)) }
+    ensures within { IfOk result IsWithin }
 {
     if field_says(object, "kind", "genesis") {
         return Ok(Reading::Genesis(genesis(alloc, object)?));
@@ -107,7 +110,8 @@ fn plain(alloc: Global, object: &Value) -> Result<Reading, NotRead>
 
 /// What a JSON value says.
 fn reading(alloc: Global, object: &Value) -> Result<Reading, NoMemory>
-    ensures { IfOk result (λ r. r ≡ reading_of (view object.now)) }
+    ensures value { IfOk result (λ r. r ≡ reading_of (view object.now)) }
+    ensures within { IfOk result IsWithin }
 {
     match plain(alloc, object) {
         Ok(reading) => Ok(reading),
@@ -137,7 +141,8 @@ fn json(alloc: Global, bytes: &[u8]) -> Result<Option<Value>, NoMemory>
 
 /// What a line of bytes says; nothing where it is blank.
 pub fn read_line(alloc: Global, line: &[u8]) -> Result<Option<Reading>, NoMemory>
-    ensures { IfOk result (λ r. r ≡ reading_of_line (Some line.now)) }
+    ensures value { IfOk result (λ r. r ≡ reading_of_line (Some line.now)) }
+    ensures within { IfOk result (λ r. IfSome r IsWithin) }
 {
     if blank(line) {
         return Ok(None);

@@ -14,7 +14,7 @@ pub fn push_hash(out: &mut Vec<u8>, hash: &[u8]) -> Result<(), NoMemory>
 {
     let mut digits = [0u8; 64];
     let digits = &mut digits[..2 * hash.len()];
-    let _fits = hex::encode_to_slice(hash, digits);
+    hex::encode_to_slice(hash, digits).unwrap();
     out.extend_from_slice(digits)?;
     Ok(())
 }

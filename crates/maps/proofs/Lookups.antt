@@ -1,5 +1,5 @@
 -- What a map has at each key after a change.
-use Rattle.std.proofs.Common.{◌≡◌, List, [], ◌∷◌, Bool, true, false, cond, not, Option, Some, None, option_map, refl, ap, sym, ◌∙◌, if◌then◌else◌}
+use Rattle.std.proofs.Common.{◌≡◌, List, [], ◌∷◌, Bool, true, false, cond, not, is_some, ◌&&◌, ◌||◌, Option, Some, None, option_map, refl, ap, sym, ◌∙◌, if◌then◌else◌}
 use Rattle.std.specs.declared.cmp.Ordering.{Ordering}
 use Rattle.std.specs.declared.cmp.Ordering.TheVariants.{Less, Equal, Greater}
 use Rattle.std.specs.Ordering.{is_eq, eq_by_cmp, match_ordering}
@@ -14,7 +14,7 @@ use Rattle.std.proofs.lemmas.Map.Entries.{option_filter, lookup-filter-keys}
 use Rattle.std.proofs.lemmas.Map.Keys.{IsDistinct-from_sorted}
 use Rattle.std.proofs.lemmas.Map.Steps.{list_any_congr}
 use Rattle.maps.proofs.Ties.{is_equal, same_key, tied, apart, all_tied}
-use Rattle.maps.specs.Maps.{IsMap, value_at, with_value, without_key, each_value, changed_where, changed_at, entries_where, without_keys, has_member}
+use Rattle.maps.specs.Maps.{IsMap, value_at, has_key, with_value, without_key, each_value, changed_where, changed_at, entries_where, without_keys, has_member}
 
 -- a key below all others has no value
 pub none_below : {K X : Type 0} (cmp : K → K → Ordering) (q : K) (es : List (K × X)) → AllByRecursion (λ x. cmp q x ≡ Less) (keys_of es) → value_at cmp es q ≡ None
@@ -52,8 +52,24 @@ module _ {K X : Type 0} {cmp : K → K → Ordering} (o : IsTotalOrder cmp) wher
         | Greater ↦ λ p. ap (λ (r : Option X). cond (eq_by_cmp cmp q e.0) (Some e.1) r) (value_at-with_value k v es q) ∙ swapped _ _ _ _ _ (apart o k e.0 q (ap is_eq p))
       ] refl
 
+  pub value_at-with_value_here : (k : K) (v : X) (es : List (K × X)) → value_at cmp (with_value cmp k v es) k ≡ Some v
+  value_at-with_value_here k v es = value_at-with_value k v es k ∙ ap (λ b. cond b (Some v) (value_at cmp es k)) ((eq_by_cmp_equiv o).refl k)
+
+  pub value_at-with_value_other : (k : K) (v : X) (es : List (K × X)) (q : K) → eq_by_cmp cmp k q ≡ false → value_at cmp (with_value cmp k v es) q ≡ value_at cmp es q
+  value_at-with_value_other k v es q e = value_at-with_value k v es q ∙ ap (λ b. cond b (Some v) (value_at cmp es q)) e
+
+  pub has_key-with_value : (k : K) (v : X) (es : List (K × X)) (q : K) → has_key cmp (with_value cmp k v es) q ≡ (eq_by_cmp cmp k q || has_key cmp es q)
+  has_key-with_value k v es q =
+      ap (λ (x : Option X). is_some x) (value_at-with_value k v es q)
+      ∙ elim (eq_by_cmp cmp k q) as (λ b. is_some (cond b (Some v) (value_at cmp es q)) ≡ (b || has_key cmp es q)) [ true ↦ refl | false ↦ refl ]
+
   pub value_at-without_key : (k : K) (es : List (K × X)) (q : K) → IsMap cmp es → value_at cmp (without_key cmp k es) q ≡ cond (eq_by_cmp cmp k q) None (value_at cmp es q)
   value_at-without_key k es q h = lookup-remove_entry (eq_by_cmp_equiv o) (eq_by_cmp cmp k) (λ x y e. (eq_by_cmp_equiv o).congr k x y e) q es (IsDistinct-from_sorted cmp (keys_of es) h)
+
+  pub has_key-without_key : (k : K) (es : List (K × X)) (q : K) → IsMap cmp es → has_key cmp (without_key cmp k es) q ≡ (not (eq_by_cmp cmp k q) && has_key cmp es q)
+  has_key-without_key k es q h =
+      ap (λ (x : Option X). is_some x) (value_at-without_key k es q h)
+      ∙ elim (eq_by_cmp cmp k q) as (λ b. is_some (cond b None (value_at cmp es q)) ≡ (not b && has_key cmp es q)) [ true ↦ refl | false ↦ refl ]
 
   -- q's entry is changed exactly where q is the key that is changed
   changed_one : (a c b : Bool) (f : X → X) (x : X) (r : Option X) → (b ≡ true → c ≡ a) → cond b (Some (cond c (f x) x)) (cond a (option_map f r) r) ≡ cond a (option_map f (cond b (Some x) r)) (cond b (Some x) r)

@@ -77,6 +77,22 @@ module _ {K : Type 0} {cmp : K → K → Ordering} (o : IsTotalOrder cmp) where
         | Greater ↦ λ p. ap (λ b. eq_by_cmp cmp q x || b) (has_member-with_key k ks q) ∙ or_swap (eq_by_cmp cmp q x) (eq_by_cmp cmp k q) (has_member cmp ks q)
       ] refl
 
+  or_later : (a b c d : Bool) → a ≡ d → ((a || b) || c) ≡ (b || (d || c))
+  or_later true true c true e = refl
+  or_later true false c true e = refl
+  or_later true b c false e = cc
+  or_later false b c true e = cc
+  or_later false b c false e = refl
+
+  has_member-with_all : (ks s : List K) (q : K) → has_member cmp (fold (λ t k. with_key cmp k t) s ks) q ≡ (has_member cmp s q || has_member cmp ks q)
+  has_member-with_all [] s q = elim (has_member cmp s q) as (λ b. b ≡ (b || false)) [ true ↦ refl | false ↦ refl ]
+  has_member-with_all (k ∷ ks) s q =
+      has_member-with_all ks (with_key cmp k s) q ∙ ap (λ b. b || has_member cmp ks q) (has_member-with_key k s q)
+      ∙ or_later (eq_by_cmp cmp k q) (has_member cmp s q) (has_member cmp ks q) (eq_by_cmp cmp q k) ((eq_by_cmp_equiv o).symm k q)
+
+  pub has_member-in_order : (ks : List K) (q : K) → has_member cmp (in_order cmp ks) q ≡ has_member cmp ks q
+  has_member-in_order ks q = has_member-with_all ks [] q
+
   -- a key is not among keys that are all above it
   pub not_below : (q : K) (ks : List K) → AllByRecursion (λ x. cmp q x ≡ Less) ks → has_member cmp ks q ≡ false
   not_below q [] h = refl

@@ -1,4 +1,4 @@
-use Rattle.std.proofs.Common.{◌≡◌, ◌+◌, sym, arith}
+use Rattle.std.proofs.Common.{sym, arith}
 use Rattle.gov_ids.specs.Orders.{outref_cmp}
 use Rattle.maps.proofs.Sums.{sum_values-without_key}
 use Rattle.utxo_set.proofs.UtxoSet.take.Goals as goal

@@ -1,0 +1,7 @@
+pub mod GivenLemmas
+pub mod GoesLemmas
+pub mod LookLemmas
+pub mod PieceLemmas
+pub mod RunLemmas
+pub mod StateLemmas
+pub mod TurnLemmas

@@ -1,0 +1,11 @@
+pub mod Answers
+pub mod Begun
+pub mod Faults
+pub mod InMemory
+pub mod Laws
+pub mod Pieces
+pub mod Reader
+pub mod Sinks
+pub mod Sources
+pub mod States
+pub mod Turns

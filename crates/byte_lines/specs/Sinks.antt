@@ -1,0 +1,17 @@
+-- What a write does, by what the sink tells.
+use Rattle.std.specs.Prelude.{◌≡◌, ℕ, ◌<◌, ◌≤◌, List, Option, Result, Err, IfOk, OnErr, length, take}
+use Rattle.byte_lines.specs.Faults.{Rose, with_bytes}
+use Rattle.byte_lines.specs.declared.sink.SinkFault.{SinkFault}
+use Rattle.byte_lines.specs.declared.sink.SinkFault.TheVariants.{WriteFault}
+
+-- one write of a piece: the bytes that the sink took before and after it, and its counts of faults
+pub record IsWrite (taken taken' : Option (List ℕ)) (faults faults' : ℕ) (piece : List ℕ) (result : Result ℕ SinkFault) : Type 0 where
+  -- at least one byte, and no more than the piece has
+  pub some : IfOk result (λ n. 0 < n)
+  pub fits : IfOk result (λ n. n ≤ length piece)
+  -- they are its first
+  pub took : IfOk result (λ n. taken' ≡ with_bytes taken (take n piece))
+  -- a fault takes none
+  pub stays : OnErr result (taken' ≡ taken)
+  pub rose : result ≡ Err WriteFault → Rose faults faults'
+  pub counted : faults ≤ faults'

@@ -1,0 +1,21 @@
+//! The outside of the program: sources of bytes, sinks for them, and a reader of lines.
+#![tactic(auto)]
+
+mod ahead;
+mod begun;
+mod laws;
+mod lines;
+mod memory;
+mod sink;
+mod source;
+mod standard;
+
+pub use laws::whole_lines;
+pub use lines::{Line, LineFault, Lines};
+pub use memory::{FaultySink, FaultySource, MemorySink, MemorySource};
+pub use sink::{Sink, SinkFault, put_all};
+pub use source::{ReadFault, Source};
+pub use standard::{ReaderSource, WriterSink};
+
+#[cfg(test)]
+mod tests;

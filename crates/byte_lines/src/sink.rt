@@ -1,0 +1,70 @@
+//! Where bytes go.
+ghost use Rattle.std.specs.Prelude.{◌≡◌, ℕ, ◌<◌, ◌≤◌, List, [], Option, length, take, OnOk, OnErr};
+ghost use Rattle.byte_lines.specs.Faults.{Rose, with_bytes};
+ghost use Rattle.byte_lines.specs.Sinks.{IsWrite};
+
+use coin_frac::NoMemory;
+use std::alloc::AllocError;
+use thiserror::Error;
+
+/// Why bytes were not taken. (Own)
+#[derive(Clone, Copy, Debug, PartialEq, Eq, Error)]
+pub enum SinkFault {
+    /// A write failed, and the sink's count of faults rose.
+    #[error("a write failed")]
+    WriteFault,
+    /// A sink that grows found no memory.
+    #[error("out of memory")]
+    NoMemory,
+}
+
+impl From<NoMemory> for SinkFault {
+    ghost use Rattle.byte_lines.specs.declared.sink.SinkFault.TheVariants.{NoMemory};
+
+    ghost from_gives = { λ _ fault. fault ≡ NoMemory };
+
+    fn from(_error: NoMemory) -> SinkFault {
+        SinkFault::NoMemory
+    }
+}
+
+impl From<AllocError> for SinkFault {
+    ghost use Rattle.byte_lines.specs.declared.sink.SinkFault.TheVariants.{NoMemory};
+
+    ghost from_gives = { λ _ fault. fault ≡ NoMemory };
+
+    fn from(_error: AllocError) -> SinkFault {
+        SinkFault::NoMemory
+    }
+}
+
+/// A sink for bytes. (Own)
+pub trait Sink {
+    // the bytes taken, where it tells them
+    ghost taken: { Self → Option (List ℕ) };
+
+    // how many writes failed; it never falls
+    ghost faults: { Self → ℕ };
+
+    /// Takes the first bytes of `piece`, at least one, and answers how many.
+    fn write(&mut self, piece: &[u8]) -> Result<usize, SinkFault>
+        requires { 0 < length piece.now }
+        ensures { IsWrite (taken self.old) (taken self.new) (faults self.old) (faults self.new) piece.now result };
+}
+
+/// Hands the whole piece to the sink. After an error the sink has taken a prefix of it; an empty
+/// piece asks the sink for nothing. (Own)
+pub fn put_all<K: Sink>(sink: &mut K, piece: &[u8]) -> Result<(), SinkFault>
+    ensures ok { OnOk result (K.taken sink.new ≡ with_bytes (K.taken sink.old) piece.now) }
+    ensures err { OnErr result ((n : ℕ) × (n < length piece.now)
+        × (K.taken sink.new ≡ with_bytes (K.taken sink.old) (take n piece.now))) }
+    ensures rose { result ≡ Err SinkFault.WriteFault → Rose (K.faults sink.old) (K.faults sink.new) }
+    ensures counted { K.faults sink.old ≤ K.faults sink.new }
+    ensures empty { piece.now ≡ [] → (result ≡ Ok tt) × (sink.new ≡ sink.old) }
+{
+    let mut at = 0;
+    while at < piece.len() {
+        at += sink.write(&piece[at..])?;
+    }
+    Ok(())
+}

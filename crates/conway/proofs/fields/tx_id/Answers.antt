@@ -1,4 +1,0 @@
-use Rattle.conway.proofs.fields.tx_id.Goals as goal
-
-pub hash32-requires : goal.hash32-requires
-hash32-requires c = ?

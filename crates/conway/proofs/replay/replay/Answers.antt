@@ -1,0 +1,53 @@
+use Rattle.std.proofs.Common.{◌≡◌, ℕ, List, [], ◌∷◌, Option, Some, None, Ok, Err, codes, ap, subst, sym, ◌∙◌, refl, false, rules}
+use Rattle.byte_lines.specs.Answers.{HasGiven}
+use Rattle.byte_lines.specs.Reader.{Reader}
+use Rattle.conway.specs.declared.record.Pots.{Pots}
+use Rattle.conway.specs.declared.status.Status.TheVariants as statuses
+use Rattle.conway.specs.Heard.{HasHeard}
+use Rattle.conway.specs.Limits.{line_limit, stream_limit}
+use Rattle.conway.specs.Runs.{genesis_text}
+use Rattle.conway.specs.Statuses.{status_of_sink_fault}
+use Rattle.conway.specs.Texts.{line_of, pots_words}
+use Rattle.conway.specs.World.{World, pots_of}
+use Rattle.conway.proofs.Heard.{hears_nothing}
+use Rattle.conway.proofs.Starting.{first_without_memory, first_at_sink, first_stands, replay_after, replay_by}
+use Rattle.conway.proofs.replay.replay.Goals as goal
+
+-- a new reader has read nothing
+read_nothing : (bytes : List ℕ) (left : Option (List ℕ)) (r : Reader) → left ≡ Some bytes → HasGiven r [] []
+    → r ≡ record { line_max = line_limit; stream_max = stream_limit; taken = 0; begun = Some []; ahead = []; text = []; number = 0; ended = false; failed = false }
+    → HasHeard bytes r left []
+read_nothing bytes left r told given is =
+    subst (λ (o : Option (List ℕ)). HasHeard bytes r o []) (sym told)
+    (hears_nothing bytes r given (ap (λ (q : Reader). q.number) is) (ap (λ (q : Reader). q.ended) is) (ap (λ (q : Reader). q.line_max) is) (ap (λ (q : Reader). q.stream_max) is))
+
+pub returns-in_err-genesis_line-clause-replays : goal.returns-in_err-genesis_line-clause-replays
+returns-in_err-genesis_line-clause-replays g c = λ bytes told.
+    let started = c.in_ok-ledger.ensures.starts bytes (read_nothing bytes (g.S.Source.left c.args.source.now) c.new-lines.result told c.new-lines.ensures.given c.new-lines.ensures.reader) in
+    let is : c.from_residual-in_err-genesis_line.result ≡ Err statuses.NoMemory = search rules in
+    rw is (first_without_memory bytes c.start.new.lines (g.S.Source.left c.start.new.source) c.in_ok-ledger.ledger started (g.K.Sink.taken c.args.sink.now))
+
+pub returns-in_err-put_all-clause-replays : goal.returns-in_err-put_all-clause-replays
+returns-in_err-put_all-clause-replays g c = λ bytes told.
+    let started = c.in_ok-ledger.ensures.starts bytes (read_nothing bytes (g.S.Source.left c.args.source.now) c.new-lines.result told c.new-lines.ensures.given c.new-lines.ensures.reader) in
+    let line : c.as_slice.result.now ≡ genesis_text c.start.new.lines.number started.genesis =
+        c.as_slice.ensures.value ∙ c.in_ok-genesis_line.ensures
+        ∙ ap (λ n. line_of n (codes "genesis" ∷ pots_words c.pots.result)) c.number.ensures
+        ∙ ap (λ (p : Pots). line_of c.start.new.lines.number (codes "genesis" ∷ pots_words p)) (c.pots.ensures ∙ ap (λ (v : World). pots_of v) started.ledger) in
+    let is : c.from_residual-in_err-put_all.result ≡ Err (status_of_sink_fault c.in_err-put_all.field-0.0) = search rules in
+    let part = c.in_err-put_all.ensures.err in
+    rw is (first_at_sink bytes c.start.new.lines (g.S.Source.left c.start.new.source) c.in_ok-ledger.ledger started (g.K.Sink.taken c.args.sink.now) (g.K.Sink.taken c.put_all.new.sink)
+    c.as_slice.result.now c.in_err-put_all.field-0.0 part.0 line part.2)
+
+pub returns-clause-replays : goal.returns-clause-replays
+returns-clause-replays g c = λ bytes told.
+    let started = c.in_ok-ledger.ensures.starts bytes (read_nothing bytes (g.S.Source.left c.args.source.now) c.new-lines.result told c.new-lines.ensures.given c.new-lines.ensures.reader) in
+    let line : c.as_slice.result.now ≡ genesis_text c.start.new.lines.number started.genesis =
+        c.as_slice.ensures.value ∙ c.in_ok-genesis_line.ensures
+        ∙ ap (λ n. line_of n (codes "genesis" ∷ pots_words c.pots.result)) c.number.ensures
+        ∙ ap (λ (p : Pots). line_of c.start.new.lines.number (codes "genesis" ∷ pots_words p)) (c.pots.ensures ∙ ap (λ (v : World). pots_of v) started.ledger) in
+    let stands = first_stands bytes c.start.new.lines (g.S.Source.left c.start.new.source) c.in_ok-ledger.ledger started c.as_slice.result.now line in
+    let answers = c.answer_all.ensures.answers bytes c.as_slice.result.now stands in
+    replay_after bytes (g.S.Source.left c.answer_all.new.source) (g.K.Sink.taken c.args.sink.now) (g.K.Sink.taken c.put_all.new.sink) (g.K.Sink.taken c.answer_all.new.sink)
+    c.as_slice.result.now _ c.in_ok-put_all.ensures.ok
+    (replay_by bytes (g.S.Source.left c.answer_all.new.source) (g.K.Sink.taken c.put_all.new.sink) (g.K.Sink.taken c.answer_all.new.sink) c.as_slice.result.now c.answer_all.result answers)

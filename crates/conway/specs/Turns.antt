@@ -1,0 +1,61 @@
+-- What the parts of a run do.
+use Rattle.std.specs.Prelude.{◌≡◌, ℕ, ◌≤◌, List, [], ◌∷◌, ◌++◌, Option, Some, None, Result, Ok, Err, ⊤}
+use Rattle.byte_lines.specs.Faults.{with_bytes}
+use Rattle.byte_lines.specs.Reader.{Reader}
+use Rattle.conway.specs.declared.record.Genesis.{Genesis}
+use Rattle.conway.specs.declared.record.Reading.{Reading}
+use Rattle.conway.specs.declared.record.Reading.TheVariants as readings
+use Rattle.conway.specs.declared.status.Status.{Status}
+use Rattle.conway.specs.declared.status.Status.TheVariants as statuses
+use Rattle.conway.specs.Endings.{HasEnded}
+use Rattle.conway.specs.Heard.{HasHeard}
+use Rattle.conway.specs.Limits.{stream_limit}
+use Rattle.conway.specs.Runs.{text_from, text_of_records}
+use Rattle.conway.specs.Texts.{Text}
+use Rattle.conway.specs.World.{World, genesis_fault, world_of_genesis}
+
+-- these records leave the ledger w, and their text is what was written, whatever comes next
+abbrev pub Writes : List (ℕ × Reading) → World → Text → Type 0
+Writes records w written = (more : List (ℕ × Reading)) → text_of_records (records ++ more) ≡ Some (written ++ text_from w more)
+
+-- the ledger of the first record, or how the run ended, with nothing written
+pub record HasStarted (bytes : List ℕ) (r : Reader) (left : Option (List ℕ)) (w : World) : Type 0 where
+  pub genesis : Genesis
+  pub heard : HasHeard bytes r left ((r.number, readings.Genesis genesis) ∷ [])
+  pub within : r.taken ≤ stream_limit
+  pub sound : genesis_fault genesis ≡ None
+  pub ledger : w ≡ world_of_genesis genesis
+
+abbrev pub Starts : List ℕ → Reader → Option (List ℕ) → Result World Status → Type 0
+Starts bytes r left (Ok w) = HasStarted bytes r left w
+Starts bytes r left (Err status) = HasEnded status bytes left []
+
+-- a run stands so: it has these records, this ledger and this text
+pub record Stands (bytes : List ℕ) (r : Reader) (left : Option (List ℕ)) (w : World) (written : Text) : Type 0 where
+  pub records : List (ℕ × Reading)
+  pub heard : HasHeard bytes r left records
+  pub within : r.taken ≤ stream_limit
+  pub writes : Writes records w written
+
+-- a run went on: the sink took more text
+pub record GoesOn (bytes : List ℕ) (r : Reader) (left had has : Option (List ℕ)) (w : World) (written : Text) : Type 0 where
+  pub more : Text
+  pub wrote : has ≡ with_bytes had more
+  pub stands : Stands bytes r left w (written ++ more)
+
+-- a run ended: the sink took more text
+pub record Stops (status : Status) (bytes : List ℕ) (left had has : Option (List ℕ)) (written : Text) : Type 0 where
+  pub more : Text
+  pub wrote : has ≡ with_bytes had more
+  pub ended : HasEnded status bytes left (written ++ more)
+
+-- what answering one record leaves: the next ledger, or the end
+abbrev pub Answers : List ℕ → Reader → Option (List ℕ) → Option (List ℕ) → Option (List ℕ) → Text → Result (Option World) Status → Type 0
+Answers bytes r left had has written (Ok (Some w)) = GoesOn bytes r left had has w written
+Answers bytes r left had has written (Ok None) = Stops statuses.Done bytes left had has written
+Answers bytes r left had has written (Err status) = Stops status bytes left had has written
+
+-- what answering all records leaves
+abbrev pub AnswersAll : List ℕ → Option (List ℕ) → Option (List ℕ) → Option (List ℕ) → Text → Result ⊤ Status → Type 0
+AnswersAll bytes left had has written (Ok done) = Stops statuses.Done bytes left had has written
+AnswersAll bytes left had has written (Err status) = Stops status bytes left had has written

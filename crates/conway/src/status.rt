@@ -1,0 +1,107 @@
+ghost use Rattle.std.specs.Prelude.{◌≡◌};
+ghost use Rattle.conway.specs.Statuses.{status_number};
+
+use crate::ledger::GenesisFault;
+use crate::record::GenesisRule;
+use byte_lines::{LineFault, SinkFault};
+use coin_frac::NoMemory;
+
+/// How a run ended.
+#[derive(Clone, Copy, Debug, PartialEq, Eq)]
+pub enum Status {
+    /// The input was read to its end and all text written.
+    Done,
+    /// The words are not in the command table.
+    Usage,
+    /// The first line that is not blank is no genesis that can be replayed.
+    BadGenesis(GenesisCause),
+    /// A read failed.
+    ReadFault,
+    /// A write failed.
+    WriteFault,
+    /// Memory ran out.
+    NoMemory,
+    /// The stream is longer than its limit.
+    TooMuch,
+}
+
+/// Why there was no genesis to begin with.
+#[derive(Clone, Copy, Debug, PartialEq, Eq)]
+pub enum GenesisCause {
+    /// There is no line, or none that is not blank.
+    Missing,
+    /// The line is longer than a line may be.
+    TooLong,
+    /// It is no plain genesis.
+    NotBuilt,
+    /// The first genesis rule that it breaks.
+    Broken(GenesisRule),
+}
+
+impl Status {
+    /// The status with which the program ends.
+    pub fn number(&self) -> u8
+        ensures { result ≡ status_number self.now }
+    {
+        match self {
+            Status::Done => 0,
+            Status::Usage => 2,
+            Status::BadGenesis(_) => 3,
+            Status::ReadFault => 4,
+            Status::WriteFault => 5,
+            Status::NoMemory => 6,
+            Status::TooMuch => 7,
+        }
+    }
+}
+
+impl From<NoMemory> for Status {
+    ghost use Rattle.std.specs.Prelude.{◌≡◌};
+    ghost use Rattle.conway.specs.declared.status.Status.TheVariants as statuses;
+
+    ghost from_gives = { λ _ s. s ≡ statuses.NoMemory };
+
+    fn from(_error: NoMemory) -> Status {
+        Status::NoMemory
+    }
+}
+
+impl From<LineFault> for Status {
+    ghost use Rattle.conway.specs.Statuses.{status_of_line_fault};
+
+    ghost from_gives = { λ fault s. s ≡ status_of_line_fault fault };
+
+    fn from(fault: LineFault) -> Status {
+        match fault {
+            LineFault::ReadFault => Status::ReadFault,
+            LineFault::TooMuch => Status::TooMuch,
+            LineFault::NoMemory => Status::NoMemory,
+        }
+    }
+}
+
+impl From<SinkFault> for Status {
+    ghost use Rattle.conway.specs.Statuses.{status_of_sink_fault};
+
+    ghost from_gives = { λ fault s. s ≡ status_of_sink_fault fault };
+
+    fn from(fault: SinkFault) -> Status {
+        match fault {
+            SinkFault::WriteFault => Status::WriteFault,
+            SinkFault::NoMemory => Status::NoMemory,
+        }
+    }
+}
+
+impl From<GenesisFault> for Status {
+    ghost use Rattle.conway.specs.Statuses.{status_of_genesis_fault};
+
+    ghost from_gives = { λ fault s. s ≡ status_of_genesis_fault fault };
+
+    fn from(fault: GenesisFault) -> Status {
+        match fault {
+            GenesisFault::Broken(rule) => Status::BadGenesis(GenesisCause::Broken(rule)),
+            GenesisFault::NoMemory => Status::NoMemory,
+        }
+    }
+}
