@@ -1,1 +1,3 @@
+pub mod Fraction
 pub mod Memory
+pub mod Reaches

@@ -1,6 +1,9 @@
-//! The one free answer: memory ran out.
+//! Fractions of lovelace and of votes, and the one free answer: memory ran out.
 #![tactic(auto)]
 
+mod fraction;
+
+pub use fraction::{FracFault, Ratio, Unit, reaches};
 use std::alloc::{AllocError, AllocFailed};
 
 /// Memory ran out. No clause says when it may come. (Own)

@@ -1,0 +1,67 @@
+-- The laws on the steps of a boundary: each moves the pots by its flows. src/steps.rt has a function for each, whose contract is the law.
+use Rattle.std.specs.Prelude.{◌≡◌, ℕ, ◌≤◌, List, [], ◌∷◌, Some, map}
+use Rattle.maps.specs.Maps.{IsMap}
+use Rattle.gov_ids.specs.declared.Credential.{Credential}
+use Rattle.gov_ids.specs.Orders.{credential_cmp}
+use Rattle.tx_records.specs.declared.record.Rewards.{Rewards}
+use Rattle.gov_model.specs.Laws.{HaveDistinctIds}
+use Rattle.ledger_model.specs.World.{World}
+use Rattle.ledger_model.specs.Supply.{pots_of}
+use Rattle.ledger_model.specs.Flows.{deposits, donations, treasury, flow}
+use Rattle.ledger_model.specs.Moves.{IsMovedBy}
+use Rattle.run_model.specs.Boundary.{after_rewards, marked, terms_turned, pool_refunds, reaped, enacted, claimed, withdrawals_paid, proposal_refunds, removals_made, donations_joined, members_only, dormancy_noted, begun}
+use Rattle.run_model.specs.BoundaryFlows.{payment, flows_of_update, flows_of_targets}
+use Rattle.run_model.specs.Laws.{IsCoveredUpdate}
+
+-- the accounts stand in order, each once
+abbrev pub HasAccounts : World → Type 0
+HasAccounts w = IsMap credential_cmp w.accounts
+
+-- a pending update is balanced and covered
+abbrev pub HasCoveredUpdate : World → Type 0
+HasCoveredUpdate w = (u : Rewards) → w.pending ≡ Some u → IsCoveredUpdate w u
+
+-- 1: the pending reward update
+abbrev pub RewardsBalance : Type 0
+RewardsBalance = (w : World) → HasAccounts w → HasCoveredUpdate w → IsMovedBy (flows_of_update w w.pending) (pots_of w) (pots_of (after_rewards w))
+
+-- 2: the snapshots turn
+abbrev pub SnapshotsBalance : Type 0
+SnapshotsBalance = (w : World) → IsMovedBy [] (pots_of w) (pots_of (marked w))
+
+-- 3: future pool terms take effect
+abbrev pub TermsBalance : Type 0
+TermsBalance = (w : World) → IsMovedBy [] (pots_of w) (pots_of (terms_turned w))
+
+-- 3: pools are reaped
+abbrev pub PoolsBalance : Type 0
+PoolsBalance = (w : World) → HasAccounts w → IsMovedBy (map (payment deposits w) (pool_refunds w)) (pots_of w) (pots_of (reaped w))
+
+-- 4: what is ratified is enacted
+abbrev pub EnactmentBalances : Type 0
+EnactmentBalances = (w : World) → IsMovedBy [] (pots_of w) (pots_of (enacted w))
+
+-- 5: withdrawals are paid from a treasury that covers what is claimed
+abbrev pub PaymentsBalance : Type 0
+PaymentsBalance = (w : World) (ps : List (Credential × ℕ)) → HasAccounts w → claimed w ps ≤ w.state.treasury →
+    IsMovedBy (flows_of_targets w ps) (pots_of w) (pots_of (withdrawals_paid ps w))
+
+-- 6: proposals are removed
+abbrev pub RemovalsBalance : Type 0
+RemovalsBalance = (w : World) → HasAccounts w → HaveDistinctIds w.proposals → IsMovedBy (map (payment deposits w) (proposal_refunds w)) (pots_of w) (pots_of (removals_made w))
+
+-- 7: the donations join the treasury
+abbrev pub DonationsBalance : Type 0
+DonationsBalance = (w : World) → IsMovedBy (flow donations treasury w.donations ∷ []) (pots_of w) (pots_of (donations_joined w))
+
+-- 8: only members keep a hot key or a resignation
+abbrev pub MembersBalance : Type 0
+MembersBalance = (w : World) → IsMovedBy [] (pots_of w) (pots_of (members_only w))
+
+-- 9: an epoch that leaves no proposal is dormant
+abbrev pub DormancyBalances : Type 0
+DormancyBalances = (w : World) → IsMovedBy [] (pots_of w) (pots_of (dormancy_noted w))
+
+-- 10: the next epoch begins, and is frozen
+abbrev pub FreezeBalances : Type 0
+FreezeBalances = (w : World) → IsMovedBy [] (pots_of w) (pots_of (begun w))

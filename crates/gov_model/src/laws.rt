@@ -1,0 +1,11 @@
+ghost use Rattle.gov_model.specs.Laws.{KeptByChains, OneListIsRatified};
+
+/// Exactly one list is ratified, for every snapshot whose proposals have ids of their own; it is one delaying action, or has none. (CIP-1694, Ratification)
+pub fn one_list_is_ratified()
+    ensures { OneListIsRatified }
+{}
+
+/// A proposal passes the test of `is_kept` exactly where it has no purpose, or a whole chain of proposals leads from it to the last enacted action. (CIP-1694, Governance actions: Content)
+pub fn kept_by_chains()
+    ensures { KeptByChains }
+{}

@@ -1,0 +1,18 @@
+-- That the maps of a ledger are maps. (Own)
+use Rattle.std.specs.Prelude.{◌≡◌, true}
+use Rattle.std.specs.List.{AllByRecursion}
+use Rattle.std.specs.Map.{keys_of}
+use Rattle.maps.specs.Maps.{IsMap, IsSet, has_member}
+use Rattle.gov_ids.specs.declared.OutRef.{OutRef}
+use Rattle.gov_ids.specs.Orders.{credential_cmp, outref_cmp, pool_cmp, txid_cmp}
+use Rattle.ledger_model.specs.World.{World}
+
+-- each map and set of the ledger stands in order, each name once, and the transaction id of each output is a used one
+pub record IsSound (w : World) : Type 0 where
+  pub outputs : IsMap outref_cmp w.outputs
+  pub used : IsSet txid_cmp w.used
+  pub accounts : IsMap credential_cmp w.accounts
+  pub pools : IsMap pool_cmp w.pools
+  pub dreps : IsMap credential_cmp w.dreps
+  pub hot : IsMap credential_cmp w.hot
+  pub ids_used : AllByRecursion (λ (r : OutRef). has_member txid_cmp w.used r.tx ≡ true) (keys_of w.outputs)

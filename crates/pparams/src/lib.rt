@@ -1,0 +1,113 @@
+//! The protocol parameters, and updates of them.
+#![tactic(auto)]
+
+use coin_frac::{Ratio, Unit};
+
+/// The protocol parameters. Those that no rule here reads are kept and printed. (CIP-1694, Protocol parameter groups; PParams of the formal specification)
+#[derive(Clone, Copy, Debug)]
+pub struct Params {
+    /// Bytes.
+    pub max_block_body_size: u32,
+    /// Bytes.
+    pub max_tx_size: u32,
+    /// Bytes.
+    pub max_block_header_size: u32,
+    /// Bytes of an output's value; kept and not tested.
+    pub max_value_size: u32,
+    /// Memory and steps; kept and not tested.
+    pub max_tx_ex_units: (u64, u64),
+    /// Memory and steps; kept and not tested.
+    pub max_block_ex_units: (u64, u64),
+    /// How many collateral inputs a transaction may have.
+    pub max_collateral_inputs: u16,
+    /// Lovelace per byte of a transaction.
+    pub min_fee_a: u64,
+    /// Lovelace per transaction.
+    pub min_fee_b: u64,
+    /// Lovelace per account.
+    pub key_deposit: u64,
+    /// Lovelace per pool.
+    pub pool_deposit: u64,
+    /// Kept and not used: reward updates come from outside.
+    pub rho: Unit,
+    /// Kept and not used.
+    pub tau: Unit,
+    /// The least cost of a pool, in lovelace an epoch.
+    pub min_pool_cost: u64,
+    /// Lovelace that an output must hold per byte.
+    pub coins_per_utxo_byte: u64,
+    /// Kept and not used: script fees come from outside.
+    pub prices: (Ratio, Ratio),
+    /// Kept and not used.
+    pub min_fee_ref_script_cost_per_byte: Ratio,
+    /// Kept and not used.
+    pub a0: Ratio,
+    /// How many epochs ahead a retirement may lie.
+    pub e_max: u32,
+    /// Kept and not used.
+    pub n_opt: u16,
+    /// A hash that stands for the cost models.
+    pub cost_models: [u8; 32],
+    /// How much of the fee the collateral must cover, in hundredths.
+    pub collateral_percentage: u16,
+    /// Motion of no confidence, committee with and without one, hard fork, security parameters: Q1, Q2a, Q2b, Q4, Q5 of CIP-1694.
+    pub pool_voting_thresholds: [Unit; 5],
+    /// P1, P2a, P2b, P3, P4, P5a to P5d, P6 of CIP-1694.
+    pub drep_voting_thresholds: [Unit; 10],
+    /// Epochs.
+    pub gov_action_lifetime: u32,
+    /// Lovelace per proposal.
+    pub gov_action_deposit: u64,
+    /// Lovelace per DRep.
+    pub drep_deposit: u64,
+    /// Epochs that a DRep stays active after it acted.
+    pub drep_activity: u32,
+    /// The least number of active members.
+    pub committee_min_size: u16,
+    /// The greatest term of a new member, in epochs from the pass on.
+    pub committee_max_term_length: u32,
+}
+
+/// An update of the parameters: each one that is there is replaced whole. (PParamsUpdate of the formal specification)
+#[derive(Clone, Copy, Debug)]
+pub struct Update {
+    pub max_block_body_size: Option<u32>,
+    pub max_tx_size: Option<u32>,
+    pub max_block_header_size: Option<u32>,
+    pub max_value_size: Option<u32>,
+    pub max_tx_ex_units: Option<(u64, u64)>,
+    pub max_block_ex_units: Option<(u64, u64)>,
+    pub max_collateral_inputs: Option<u16>,
+    pub min_fee_a: Option<u64>,
+    pub min_fee_b: Option<u64>,
+    pub key_deposit: Option<u64>,
+    pub pool_deposit: Option<u64>,
+    pub rho: Option<Unit>,
+    pub tau: Option<Unit>,
+    pub min_pool_cost: Option<u64>,
+    pub coins_per_utxo_byte: Option<u64>,
+    pub prices: Option<(Ratio, Ratio)>,
+    pub min_fee_ref_script_cost_per_byte: Option<Ratio>,
+    pub a0: Option<Ratio>,
+    pub e_max: Option<u32>,
+    pub n_opt: Option<u16>,
+    pub cost_models: Option<[u8; 32]>,
+    pub collateral_percentage: Option<u16>,
+    pub pool_voting_thresholds: Option<[Unit; 5]>,
+    pub drep_voting_thresholds: Option<[Unit; 10]>,
+    pub gov_action_lifetime: Option<u32>,
+    pub gov_action_deposit: Option<u64>,
+    pub drep_deposit: Option<u64>,
+    pub drep_activity: Option<u32>,
+    pub committee_min_size: Option<u16>,
+    pub committee_max_term_length: Option<u32>,
+}
+
+/// Which groups of parameters an update touches. (CIP-1694, Protocol parameter groups)
+#[derive(Clone, Copy, Debug, PartialEq, Eq)]
+pub struct Groups {
+    pub network: bool,
+    pub economic: bool,
+    pub technical: bool,
+    pub governance: bool,
+}

@@ -1,0 +1,9 @@
+pub mod Freeze
+pub mod Boundary
+pub mod Report
+pub mod Genesis
+pub mod Limits
+pub mod Step
+pub mod Runs
+pub mod BoundaryFlows
+pub mod Laws

@@ -1,0 +1,32 @@
+-- The laws on one transaction; src/laws.rt has a function for each, whose contract is the law.
+use Rattle.std.specs.Prelude.{◌≡◌, true, false, List, map}
+use Rattle.maps.specs.Words.{repeats}
+use Rattle.gov_ids.specs.Orders.{account_cmp}
+use Rattle.tx_records.specs.declared.report.Pots.{Pots}
+use Rattle.tx_records.specs.declared.tx.Tx.{Tx}
+use Rattle.ledger_model.specs.World.{World}
+use Rattle.ledger_model.specs.OutputRules.{is_failed}
+use Rattle.ledger_model.specs.Sound.{IsSound}
+use Rattle.ledger_model.specs.Supply.{pots_of, total_of}
+use Rattle.ledger_model.specs.Broken.{is_allowed}
+use Rattle.ledger_model.specs.Flows.{Flow, flows_of_tx}
+use Rattle.ledger_model.specs.Moves.{IsMovedBy}
+use Rattle.ledger_model.specs.Transaction.{world_after_tx}
+
+-- an allowed transaction whose scripts failed moves the pots by its flows
+abbrev pub FailedBalances : Type 0
+FailedBalances = (w : World) (tx : Tx) → IsSound w → is_failed tx.scripts ≡ true → is_allowed w tx ≡ true →
+    IsMovedBy (flows_of_tx w tx) (pots_of w) (pots_of (world_after_tx w tx))
+
+-- no account is named twice in its withdrawals
+abbrev pub HasOwnWithdrawals : Tx → Type 0
+HasOwnWithdrawals tx = repeats account_cmp (map (λ x. x.0) tx.withdrawals) ≡ false
+
+-- and so does one whose scripts did not fail, which withdraws from no account twice
+abbrev pub PassedBalances : Type 0
+PassedBalances = (w : World) (tx : Tx) → IsSound w → HasOwnWithdrawals tx → is_failed tx.scripts ≡ false → is_allowed w tx ≡ true →
+    IsMovedBy (flows_of_tx w tx) (pots_of w) (pots_of (world_after_tx w tx))
+
+-- pots that are moved by flows hold as much together as before
+abbrev pub MovesKeepSupply : Type 0
+MovesKeepSupply = (flows : List Flow) (old new : Pots) → IsMovedBy flows old new → total_of new ≡ total_of old
