@@ -1,13 +1,13 @@
 -- A transaction keeps a ledger good.
-use Rattle.std.proofs.Common.{◌≡◌, ℕ, ◌+◌, ◌<◌, ◌≤◌, List, [], ◌∷◌, ◌++◌, Bool, true, false, cond, ◌||◌, Option, Some, None, map, fold, take, length, refl, ap, sym, subst, ◌∙◌, arith}
-use Rattle.std.specs.List.{AllByRecursion, IsDistinct, enumerate_from}
+use Rattle.std.proofs.Common.{◌≡◌, ℕ, zero, suc, Contains, ◌+◌, ◌<◌, ◌≤◌, List, [], ◌∷◌, ◌++◌, Bool, true, false, cond, ◌||◌, Option, Some, None, map, fold, take, length, refl, ap, sym, subst, ◌∙◌, arith}
+use Rattle.std.specs.List.{AllByRecursion, IsDistinct, enumerate_from, slice_index_or}
 use Rattle.std.specs.Map.{keys_of}
 use Rattle.std.specs.Option.{option_to_list}
 use Rattle.std.specs.Ordering.{eq_by_cmp, is_eq}
 use Rattle.std.specs.declared.cmp.Ordering.{Ordering}
 use Rattle.std.specs.declared.cmp.Ordering.TheVariants.{Less, Equal, Greater}
 use Rattle.std.proofs.lemmas.Cmp.{eq_by_cmp_equiv}
-use Rattle.maps.specs.Maps.{IsMap, has_member, with_key, with_values, without_keys}
+use Rattle.maps.specs.Maps.{IsMap, has_member, with_key, with_values, without_key, without_keys}
 use Rattle.maps.specs.Words.{is_empty}
 use Rattle.maps.proofs.Kept.{IsMap-changed_where, IsMap-with_value, IsMap-with_values, IsMap-without_key, IsMap-without_keys, all-filter}
 use Rattle.maps.proofs.Sets.{IsSet-with_key, has_member-with_key}
@@ -16,13 +16,14 @@ use Rattle.gov_ids.specs.declared.OutRef.{OutRef}
 use Rattle.gov_ids.specs.declared.TxId.{TxId}
 use Rattle.gov_ids.specs.declared.Voter.{Voter}
 use Rattle.gov_ids.specs.declared.Voter.TheVariants as voter
-use Rattle.gov_ids.specs.Orders.{credential_cmp, outref_cmp, pool_cmp, txid_cmp}
+use Rattle.gov_ids.specs.Orders.{credential_cmp, outref_cmp, pool_cmp, txid_cmp, voter_cmp}
 use Rattle.gov_ids.specs.Same.{same_action}
 use Rattle.gov_ids.proofs.Exacts.{action_id_exact}
 use Rattle.gov_ids.proofs.Totals.{credential_total, outref_total, pool_total, txid_total}
 use Rattle.book_records.specs.declared.Output.{Output}
 use Rattle.book_records.specs.declared.pool.PoolTerms.{PoolTerms}
 use Rattle.gov_actions.specs.declared.action.Proposal.{Proposal}
+use Rattle.gov_actions.specs.declared.action.Vote.{Vote}
 use Rattle.gov_actions.specs.declared.state.EnactState.{EnactState}
 use Rattle.gov_actions.specs.declared.state.HotState.TheVariants.{Hot, Resigned}
 use Rattle.gov_model.specs.Snapshot.{Snapshot}
@@ -40,12 +41,12 @@ use Rattle.ledger_model.specs.Broken.{is_allowed}
 use Rattle.ledger_model.specs.Changes.{changed_by, delegating, delegates_to_drep, emptied, extended, has_voted, having_acted, is_kept_active, is_withdrawn, new_account, new_drep, pool_after, retiring, without_drep, without_vote_of, withdrawn, refreshed, voters_refreshed, dormant_added}
 use Rattle.ledger_model.specs.Draft.{draft_with, last_draft, is_refused}
 use Rattle.ledger_model.specs.Sound.{IsSound}
-use Rattle.ledger_model.specs.Transaction.{after_failed, after_passed, after_scripts, world_after_tx, made_outputs, made_return, made_proposal, made_proposals, with_votes, kept_output}
+use Rattle.ledger_model.specs.Transaction.{after_failed, after_passed, after_scripts, world_after_tx, made_outputs, made_return, made_proposal, made_proposals, with_votes, votes_on, kept_output}
 use Rattle.tx_balance.proofs.Outputs.{made_from, made_not_there}
 use Rattle.tx_balance.proofs.OutputParts.{parts_of, id_is_new}
 use Rattle.run_model.specs.Laws.{IsCoveredUpdate}
-use Rattle.supply_law.specs.Good.{IsGood}
-use Rattle.supply_law.proofs.Lists.{or_left, or_right, all_weaken, all_append, all_with_values, own_append}
+use Rattle.run_laws.specs.Good.{IsGood, IsLiveIn}
+use Rattle.run_laws.proofs.Lists.{or_left, or_right, all_weaken, all_append, all_with_values, own_append}
 
 -- what certificates keep of a draft
 pub record IsKept (d e : World) : Type 0 where
@@ -59,6 +60,8 @@ pub record IsKept (d e : World) : Type 0 where
   pub state : e.state ≡ d.state
   pub reserves : e.reserves ≡ d.reserves
   pub supply : e.supply ≡ d.supply
+  pub epoch : e.epoch ≡ d.epoch
+  pub live : (a : Proposal) → IsLiveIn d.proposals a → IsLiveIn e.proposals a
 
 pub record HasMaps (d : World) : Type 0 where
   pub accounts : IsMap credential_cmp d.accounts
@@ -82,10 +85,31 @@ kept_twice d e f a b =
       state = b.state ∙ a.state;
       reserves = b.reserves ∙ a.reserves;
       supply = b.supply ∙ a.supply;
+      epoch = b.epoch ∙ a.epoch;
+      live = λ x h. b.live x (a.live x h);
     }
 
 same : (d : World) → HasMaps d → IsKept d d
-same d m = record { accounts = m.accounts; pools = m.pools; dreps = m.dreps; hot = m.hot; ids = refl; pending = refl; frozen = refl; state = refl; reserves = refl; supply = refl }
+same d m = record { accounts = m.accounts; pools = m.pools; dreps = m.dreps; hot = m.hot; ids = refl; pending = refl; frozen = refl; state = refl; reserves = refl; supply = refl; epoch = refl; live = λ a h. h }
+
+-- proposals whose votes change are still there
+map_at : (g : Proposal → Proposal) (ps : List Proposal) (b : Proposal) (k : ℕ) → k < length ps → slice_index_or ps k b ≡ b → (k < length (map g ps)) × (slice_index_or (map g ps) k (g b) ≡ g b)
+map_at g [] b k h e = absurd (omega arith)
+map_at g (p ∷ ps) b zero h e = (omega arith, ap g e)
+map_at g (p ∷ ps) b (suc k) h e = let more = map_at g ps b k (omega arith) e in (omega (arith, more.0), more.1)
+
+live_map : (votes : Proposal → List (Voter × Vote)) (ps : List Proposal) (a : Proposal) → IsLiveIn ps a → IsLiveIn (map (λ (p : Proposal). record p { votes = votes p }) ps) a
+live_map votes ps a h =
+    let at = map_at (λ (p : Proposal). record p { votes = votes p }) ps h.0 h.1.0 h.1.1 h.1.2 in
+    (record h.0 { votes = votes h.0 }, (h.1.0, at.0, at.1), ap (λ (x : Proposal). record x { votes = votes h.0 }) h.2)
+
+append_at : (ps qs : List Proposal) (b : Proposal) (k : ℕ) → k < length ps → slice_index_or ps k b ≡ b → (k < length (ps ++ qs)) × (slice_index_or (ps ++ qs) k b ≡ b)
+append_at [] qs b k h e = absurd (omega arith)
+append_at (p ∷ ps) qs b zero h e = (omega arith, e)
+append_at (p ∷ ps) qs b (suc k) h e = let more = append_at ps qs b k (omega arith) e in (omega (arith, more.0), more.1)
+
+live_append : (ps qs : List Proposal) (a : Proposal) → IsLiveIn ps a → IsLiveIn (ps ++ qs) a
+live_append ps qs a h = let at = append_at ps qs h.0 h.1.0 h.1.1 h.1.2 in (h.0, (h.1.0, at.0, at.1), h.2)
 
 unvoted : (v : Voter) (ps : List Proposal) → ids_of (map (without_vote_of v) ps) ≡ ids_of ps
 unvoted v [] = refl
@@ -93,17 +117,17 @@ unvoted v (p ∷ ps) = ap (λ (l : List ActionId). p.id ∷ l) (unvoted v ps)
 
 cert_keeps : (c : Cert) (d : World) → HasMaps d → IsKept d (changed_by c d)
 cert_keeps (AccountReg cred deposit pool drep) d m =
-    record { accounts = IsMap-with_value credential_total cred (new_account d pool drep) d.accounts m.accounts; pools = m.pools; dreps = m.dreps; hot = m.hot; ids = refl; pending = refl; frozen = refl; state = refl; reserves = refl; supply = refl }
+    record { accounts = IsMap-with_value credential_total cred (new_account d pool drep) d.accounts m.accounts; pools = m.pools; dreps = m.dreps; hot = m.hot; ids = refl; pending = refl; frozen = refl; state = refl; reserves = refl; supply = refl; epoch = refl; live = λ a h. h }
 cert_keeps (AccountUnreg cred refund) d m =
-    record { accounts = IsMap-without_key credential_cmp cred d.accounts m.accounts; pools = m.pools; dreps = m.dreps; hot = m.hot; ids = refl; pending = refl; frozen = refl; state = refl; reserves = refl; supply = refl }
+    record { accounts = IsMap-without_key credential_cmp cred d.accounts m.accounts; pools = m.pools; dreps = m.dreps; hot = m.hot; ids = refl; pending = refl; frozen = refl; state = refl; reserves = refl; supply = refl; epoch = refl; live = λ a h. h }
 cert_keeps (Delegate cred pool drep) d m =
-    record { accounts = IsMap-changed_where credential_cmp _ (delegating pool drep) d.accounts m.accounts; pools = m.pools; dreps = m.dreps; hot = m.hot; ids = refl; pending = refl; frozen = refl; state = refl; reserves = refl; supply = refl }
+    record { accounts = IsMap-changed_where credential_cmp _ (delegating pool drep) d.accounts m.accounts; pools = m.pools; dreps = m.dreps; hot = m.hot; ids = refl; pending = refl; frozen = refl; state = refl; reserves = refl; supply = refl; epoch = refl; live = λ a h. h }
 cert_keeps (PoolReg pool cost pledge margin account) d m =
-    record { accounts = m.accounts; pools = IsMap-with_value pool_total pool _ d.pools m.pools; dreps = m.dreps; hot = m.hot; ids = refl; pending = refl; frozen = refl; state = refl; reserves = refl; supply = refl }
+    record { accounts = m.accounts; pools = IsMap-with_value pool_total pool _ d.pools m.pools; dreps = m.dreps; hot = m.hot; ids = refl; pending = refl; frozen = refl; state = refl; reserves = refl; supply = refl; epoch = refl; live = λ a h. h }
 cert_keeps (PoolRetire pool epoch) d m =
-    record { accounts = m.accounts; pools = IsMap-changed_where pool_cmp _ (retiring epoch) d.pools m.pools; dreps = m.dreps; hot = m.hot; ids = refl; pending = refl; frozen = refl; state = refl; reserves = refl; supply = refl }
+    record { accounts = m.accounts; pools = IsMap-changed_where pool_cmp _ (retiring epoch) d.pools m.pools; dreps = m.dreps; hot = m.hot; ids = refl; pending = refl; frozen = refl; state = refl; reserves = refl; supply = refl; epoch = refl; live = λ a h. h }
 cert_keeps (DrepReg cred deposit) d m =
-    record { accounts = m.accounts; pools = m.pools; dreps = IsMap-with_value credential_total cred (new_drep d) d.dreps m.dreps; hot = m.hot; ids = refl; pending = refl; frozen = refl; state = refl; reserves = refl; supply = refl }
+    record { accounts = m.accounts; pools = m.pools; dreps = IsMap-with_value credential_total cred (new_drep d) d.dreps m.dreps; hot = m.hot; ids = refl; pending = refl; frozen = refl; state = refl; reserves = refl; supply = refl; epoch = refl; live = λ a h. h }
 cert_keeps (DrepUnreg cred refund) d m =
     record {
       accounts = IsMap-changed_where credential_cmp _ without_drep d.accounts m.accounts;
@@ -116,13 +140,15 @@ cert_keeps (DrepUnreg cred refund) d m =
       state = refl;
       reserves = refl;
       supply = refl;
+      epoch = refl;
+      live = λ a h. live_map (λ (p : Proposal). without_key voter_cmp (voter.Drep cred) p.votes) d.proposals a h;
     }
 cert_keeps (DrepUpdate cred) d m =
-    record { accounts = m.accounts; pools = m.pools; dreps = IsMap-changed_where credential_cmp _ (having_acted d) d.dreps m.dreps; hot = m.hot; ids = refl; pending = refl; frozen = refl; state = refl; reserves = refl; supply = refl }
+    record { accounts = m.accounts; pools = m.pools; dreps = IsMap-changed_where credential_cmp _ (having_acted d) d.dreps m.dreps; hot = m.hot; ids = refl; pending = refl; frozen = refl; state = refl; reserves = refl; supply = refl; epoch = refl; live = λ a h. h }
 cert_keeps (HotAuth cold key) d m =
-    record { accounts = m.accounts; pools = m.pools; dreps = m.dreps; hot = IsMap-with_value credential_total cold (Hot key) d.hot m.hot; ids = refl; pending = refl; frozen = refl; state = refl; reserves = refl; supply = refl }
+    record { accounts = m.accounts; pools = m.pools; dreps = m.dreps; hot = IsMap-with_value credential_total cold (Hot key) d.hot m.hot; ids = refl; pending = refl; frozen = refl; state = refl; reserves = refl; supply = refl; epoch = refl; live = λ a h. h }
 cert_keeps (HotResign cold) d m =
-    record { accounts = m.accounts; pools = m.pools; dreps = m.dreps; hot = IsMap-with_value credential_total cold Resigned d.hot m.hot; ids = refl; pending = refl; frozen = refl; state = refl; reserves = refl; supply = refl }
+    record { accounts = m.accounts; pools = m.pools; dreps = m.dreps; hot = IsMap-with_value credential_total cold Resigned d.hot m.hot; ids = refl; pending = refl; frozen = refl; state = refl; reserves = refl; supply = refl; epoch = refl; live = λ a h. h }
 
 either_keeps : (b : Bool) (c : Cert) (d : World) → HasMaps d → IsKept d (cond b d (changed_by c d))
 either_keeps true c d m = same d m
@@ -137,15 +163,15 @@ certs_keep w (c ∷ cs) d m =
 module _ (tx : Tx) where
   withdrawn_keeps : (w : World) → HasMaps w → IsKept w (withdrawn tx w)
   withdrawn_keeps w m =
-      record { accounts = IsMap-changed_where credential_cmp (λ c r. is_withdrawn tx c) emptied w.accounts m.accounts; pools = m.pools; dreps = m.dreps; hot = m.hot; ids = refl; pending = refl; frozen = refl; state = refl; reserves = refl; supply = refl }
+      record { accounts = IsMap-changed_where credential_cmp (λ c r. is_withdrawn tx c) emptied w.accounts m.accounts; pools = m.pools; dreps = m.dreps; hot = m.hot; ids = refl; pending = refl; frozen = refl; state = refl; reserves = refl; supply = refl; epoch = refl; live = λ a h. h }
 
   voters_keep : (v : World) → HasMaps v → IsKept v (voters_refreshed tx v)
   voters_keep v m =
-      record { accounts = m.accounts; pools = m.pools; dreps = IsMap-changed_where credential_cmp (λ c x. has_voted tx c) (having_acted v) v.dreps m.dreps; hot = m.hot; ids = refl; pending = refl; frozen = refl; state = refl; reserves = refl; supply = refl }
+      record { accounts = m.accounts; pools = m.pools; dreps = IsMap-changed_where credential_cmp (λ c x. has_voted tx c) (having_acted v) v.dreps m.dreps; hot = m.hot; ids = refl; pending = refl; frozen = refl; state = refl; reserves = refl; supply = refl; epoch = refl; live = λ a h. h }
 
   dormant_keeps : (v : World) → HasMaps v → IsKept v (dormant_added v)
   dormant_keeps v m =
-      record { accounts = m.accounts; pools = m.pools; dreps = IsMap-changed_where credential_cmp (λ c x. is_kept_active v x) (extended v) v.dreps m.dreps; hot = m.hot; ids = refl; pending = refl; frozen = refl; state = refl; reserves = refl; supply = refl }
+      record { accounts = m.accounts; pools = m.pools; dreps = IsMap-changed_where credential_cmp (λ c x. is_kept_active v x) (extended v) v.dreps m.dreps; hot = m.hot; ids = refl; pending = refl; frozen = refl; state = refl; reserves = refl; supply = refl; epoch = refl; live = λ a h. h }
 
   refresh_keeps : (b : Bool) (v : World) → HasMaps v → IsKept v (voters_refreshed tx (cond b v (dormant_added v)))
   refresh_keeps true v m = voters_keep v m
@@ -210,6 +236,9 @@ failed_good w tx g =
       update = λ u e. still_covered (after_failed w tx) w u (omega arith) (omega arith) (g.update u e);
       frozen_own = g.frozen_own;
       treasury = g.treasury;
+      epoch = g.epoch;
+      state = g.state;
+      live = g.live;
     }
 
 -- the ids of new proposals
@@ -292,6 +321,12 @@ passed_good w tx g fresh =
       update = λ u e. still_covered (after_passed w tx) w u (omega (arith, k.reserves)) (omega arith) (g.update u (sym k.pending ∙ e));
       frozen_own = subst (λ (f : Snapshot). IsDistinct same_action (ids_of f.proposals)) (sym k.frozen) g.frozen_own;
       treasury = omega (arith, g.treasury, ap (λ (f : Snapshot). f.start.treasury) k.frozen, ap (λ (s : EnactState). s.treasury) k.state);
+      epoch = ap (λ (f : Snapshot). f.epoch) k.frozen ∙ g.epoch ∙ sym k.epoch;
+      state = subst (λ (f : Snapshot). (last_draft w tx).state ≡ record f.start { treasury = (last_draft w tx).state.treasury }) (sym k.frozen) (subst (λ (s : EnactState). s ≡ record w.frozen.start { treasury = s.treasury }) (sym k.state) g.state);
+      live = λ a h. live_append (map (with_votes tx) (last_draft w tx).proposals) (made_proposals w tx) a (
+          live_map (λ (p : Proposal). with_values voter_cmp (votes_on tx p.id) p.votes) (last_draft w tx).proposals a
+          (k.live a (g.live a (subst (λ (f : Snapshot). Contains f.proposals a) k.frozen h)))
+          );
     }
 
 by_scripts : (sc : Scripts) (w : World) (tx : Tx) → IsGood (after_failed w tx) → IsGood (after_passed w tx) → IsGood (after_scripts sc w tx)

@@ -37,8 +37,8 @@ use Rattle.ledger_model.specs.World.{World}
 use Rattle.ledger_model.specs.Supply.{supply_of}
 use Rattle.run_model.specs.Genesis.{world_of_genesis, lists_of_genesis, genesis_fault, genesis_checks, genesis_sum, genesis_members, repeats_a_name, names_an_unknown, names_another_network, supply_limit, pool_ids, drep_ids}
 use Rattle.run_model.specs.Laws.{IsCoveredUpdate}
-use Rattle.supply_law.specs.Good.{IsGood}
-use Rattle.supply_law.proofs.Lists.{or_left, or_right, both_false, not_true, all_with_values, distinct_from}
+use Rattle.run_laws.specs.Good.{IsGood}
+use Rattle.run_laws.proofs.Lists.{or_left, or_right, both_false, not_true, all_with_values, distinct_from}
 
 empty_sorted : {K : Type 0} (cmp : K → K → Ordering) → IsStrictlySortedBy cmp []
 unfolding IsStrictlySortedBy
@@ -150,6 +150,9 @@ genesis_good g =
       update = none_pending (world_of_genesis g) refl;
       frozen_own = tt;
       treasury = omega arith;
+      epoch = refl;
+      state = refl;
+      live = λ a h. (a, h, refl);
     }
 
 pub genesis_supply : (g : Genesis) → genesis_fault g ≡ None → supply_of (world_of_genesis g) ≡ (world_of_genesis g).supply

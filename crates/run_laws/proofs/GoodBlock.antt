@@ -29,8 +29,8 @@ use Rattle.ledger_model.specs.Sound.{IsSound}
 use Rattle.run_model.specs.Boundary.{update_applied, after_rewards, after_terms, after_enactment, after_payments, world_after_boundary, is_reaped, without_pool}
 use Rattle.run_model.specs.Laws.{IsCoveredUpdate}
 use Rattle.run_model.specs.Step.{pulsed, crossed, in_order_of_credential, rewards_out}
-use Rattle.supply_law.specs.Good.{IsGood}
-use Rattle.supply_law.proofs.Lists.{distinct_from, ids_filter, own_filter}
+use Rattle.run_laws.specs.Good.{IsGood}
+use Rattle.run_laws.proofs.Lists.{distinct_from, ids_filter, own_filter}
 
 -- what the pending update leaves as it is
 record IsSameBeside (w v : World) : Type 0 where
@@ -81,6 +81,9 @@ boundary_good w g =
       update = no_update (world_after_boundary w) b.pending;
       frozen_own = kept_own;
       treasury = omega arith;
+      epoch = refl;
+      state = refl;
+      live = λ a h. (a, h, refl);
     }
 
 pub boundary_supply : (w : World) → (world_after_boundary w).supply ≡ w.supply
@@ -95,6 +98,9 @@ pulsed_good slot pulse w g =
       update = λ u e. let c = g.update u e in record { balanced = c.balanced; reserves_cover = c.reserves_cover; fees_cover = c.fees_cover };
       frozen_own = g.frozen_own;
       treasury = g.treasury;
+      epoch = g.epoch;
+      state = g.state;
+      live = g.live;
     }
 
 pub crossed_good : (b : Bool) (w : World) → IsGood w → IsGood (crossed b w)
@@ -124,6 +130,9 @@ rewards_good w u g r c =
       update = λ v e. subst (λ (x : Rewards). IsCoveredUpdate (record w { pending = Some (in_order_of_credential u) }) x) (same_update (in_order_of_credential u) v e) ordered;
       frozen_own = g.frozen_own;
       treasury = g.treasury;
+      epoch = g.epoch;
+      state = g.state;
+      live = g.live;
     }
   where
     same_update : (a b : Rewards) → Some a ≡ Some b → a ≡ b

@@ -23,17 +23,17 @@ use Rattle.tx_balance.proofs.Passed.{passed_balances}
 use Rattle.tx_balance.proofs.Supplies.{moves_keep_supply}
 use Rattle.run_model.specs.BoundaryFlows.{flows_by, flows_of, flows_of_accepted, flows_of_boundary}
 use Rattle.run_model.specs.Genesis.{world_of_genesis}
-use Rattle.run_model.specs.Laws.{FlowsBalance, SupplyStays, IsCoveredUpdate}
+use Rattle.run_model.specs.Laws.{FlowsBalance, SupplyStays, StandsBetweenBoundaries, IsCoveredUpdate}
 use Rattle.run_model.specs.Limits.{is_readable, is_rewards, is_tx}
 use Rattle.run_model.specs.Runs.{IsReached, world_after_all}
 use Rattle.run_model.specs.Step.{crossed, in_order_of_credential, enters_next, pulsed, refusal_of, reward_checks, rewards_in, rewards_out, step, step_by, world_after, world_after_block}
 use Rattle.epoch_balance.proofs.Covered.{payments_are_covered}
 use Rattle.epoch_balance.proofs.Whole.{boundary_balances}
-use Rattle.supply_law.specs.Good.{IsGood}
-use Rattle.supply_law.proofs.Lists.{left_of, right_of, not_true}
-use Rattle.supply_law.proofs.GoodTx.{tx_good, tx_supply}
-use Rattle.supply_law.proofs.GoodBlock.{boundary_supply, crossed_good, pulsed_good, rewards_good}
-use Rattle.supply_law.proofs.Start.{genesis_good, genesis_supply}
+use Rattle.run_laws.specs.Good.{IsGood}
+use Rattle.run_laws.proofs.Lists.{left_of, right_of, not_true}
+use Rattle.run_laws.proofs.GoodTx.{tx_good, tx_supply}
+use Rattle.run_laws.proofs.GoodBlock.{boundary_supply, crossed_good, pulsed_good, rewards_good}
+use Rattle.run_laws.proofs.Start.{genesis_good, genesis_supply}
 
 not_false : (b : Bool) → not b ≡ false → b ≡ true
 not_false true h = refl
@@ -144,3 +144,6 @@ flows_balance w h r e = record_moves w r (reached_held w h).good e
 
 pub supply_stays : SupplyStays
 supply_stays w h = (reached_held w h).supply
+
+pub stands_between_boundaries : StandsBetweenBoundaries
+stands_between_boundaries w h = let g : IsGood w = (reached_held w h).good in record { epoch = g.epoch; state = g.state; treasury = g.treasury; pending = g.update; live = g.live }
