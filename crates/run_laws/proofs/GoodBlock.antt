@@ -43,10 +43,12 @@ record IsSameBeside (w v : World) : Type 0 where
   proposals : v.proposals ≡ w.proposals
   pending : v.pending ≡ None
   supply : v.supply ≡ w.supply
+  epoch : v.epoch ≡ w.epoch
+  epoch_length : v.epoch_length ≡ w.epoch_length
 
 beside : (o : Option Rewards) (w : World) → w.pending ≡ o → IsSameBeside w (update_applied o w)
-beside None w e = record { outputs = refl; used = refl; accounts = λ m. m; pools = refl; dreps = refl; hot = refl; proposals = refl; pending = e; supply = refl }
-beside (Some u) w e = record { outputs = refl; used = refl; accounts = λ m. IsMap-each_value credential_cmp _ w.accounts m; pools = refl; dreps = refl; hot = refl; proposals = refl; pending = refl; supply = refl }
+beside None w e = record { outputs = refl; used = refl; accounts = λ m. m; pools = refl; dreps = refl; hot = refl; proposals = refl; pending = e; supply = refl; epoch = refl; epoch_length = refl }
+beside (Some u) w e = record { outputs = refl; used = refl; accounts = λ m. IsMap-each_value credential_cmp _ w.accounts m; pools = refl; dreps = refl; hot = refl; proposals = refl; pending = refl; supply = refl; epoch = refl; epoch_length = refl }
 
 no_update : (w : World) → w.pending ≡ None → (u : Rewards) → w.pending ≡ Some u → IsCoveredUpdate w u
 no_update w n u e = let both : None ≡ Some u = sym n ∙ e in cc
@@ -85,6 +87,12 @@ boundary_good w g =
       state = refl;
       live = λ a h. (a, h, refl);
     }
+
+pub boundary_epoch : (w : World) → (world_after_boundary w).epoch ≡ w.epoch + 1
+boundary_epoch w = ap (λ (n : ℕ). n + 1) (beside w.pending w refl).epoch
+
+pub boundary_length : (w : World) → (world_after_boundary w).epoch_length ≡ w.epoch_length
+boundary_length w = (beside w.pending w refl).epoch_length
 
 pub boundary_supply : (w : World) → (world_after_boundary w).supply ≡ w.supply
 boundary_supply w = (beside w.pending w refl).supply

@@ -61,6 +61,9 @@ pub record IsKept (d e : World) : Type 0 where
   pub reserves : e.reserves ≡ d.reserves
   pub supply : e.supply ≡ d.supply
   pub epoch : e.epoch ≡ d.epoch
+  pub slot : e.slot ≡ d.slot
+  pub epoch_length : e.epoch_length ≡ d.epoch_length
+  pub counted : e.counted ≡ d.counted
   pub live : (a : Proposal) → IsLiveIn d.proposals a → IsLiveIn e.proposals a
 
 pub record HasMaps (d : World) : Type 0 where
@@ -86,11 +89,14 @@ kept_twice d e f a b =
       reserves = b.reserves ∙ a.reserves;
       supply = b.supply ∙ a.supply;
       epoch = b.epoch ∙ a.epoch;
+      slot = b.slot ∙ a.slot;
+      epoch_length = b.epoch_length ∙ a.epoch_length;
+      counted = b.counted ∙ a.counted;
       live = λ x h. b.live x (a.live x h);
     }
 
 same : (d : World) → HasMaps d → IsKept d d
-same d m = record { accounts = m.accounts; pools = m.pools; dreps = m.dreps; hot = m.hot; ids = refl; pending = refl; frozen = refl; state = refl; reserves = refl; supply = refl; epoch = refl; live = λ a h. h }
+same d m = record { accounts = m.accounts; pools = m.pools; dreps = m.dreps; hot = m.hot; ids = refl; pending = refl; frozen = refl; state = refl; reserves = refl; supply = refl; epoch = refl; slot = refl; epoch_length = refl; counted = refl; live = λ a h. h }
 
 -- proposals whose votes change are still there
 map_at : (g : Proposal → Proposal) (ps : List Proposal) (b : Proposal) (k : ℕ) → k < length ps → slice_index_or ps k b ≡ b → (k < length (map g ps)) × (slice_index_or (map g ps) k (g b) ≡ g b)
@@ -117,17 +123,17 @@ unvoted v (p ∷ ps) = ap (λ (l : List ActionId). p.id ∷ l) (unvoted v ps)
 
 cert_keeps : (c : Cert) (d : World) → HasMaps d → IsKept d (changed_by c d)
 cert_keeps (AccountReg cred deposit pool drep) d m =
-    record { accounts = IsMap-with_value credential_total cred (new_account d pool drep) d.accounts m.accounts; pools = m.pools; dreps = m.dreps; hot = m.hot; ids = refl; pending = refl; frozen = refl; state = refl; reserves = refl; supply = refl; epoch = refl; live = λ a h. h }
+    record { accounts = IsMap-with_value credential_total cred (new_account d pool drep) d.accounts m.accounts; pools = m.pools; dreps = m.dreps; hot = m.hot; ids = refl; pending = refl; frozen = refl; state = refl; reserves = refl; supply = refl; epoch = refl; slot = refl; epoch_length = refl; counted = refl; live = λ a h. h }
 cert_keeps (AccountUnreg cred refund) d m =
-    record { accounts = IsMap-without_key credential_cmp cred d.accounts m.accounts; pools = m.pools; dreps = m.dreps; hot = m.hot; ids = refl; pending = refl; frozen = refl; state = refl; reserves = refl; supply = refl; epoch = refl; live = λ a h. h }
+    record { accounts = IsMap-without_key credential_cmp cred d.accounts m.accounts; pools = m.pools; dreps = m.dreps; hot = m.hot; ids = refl; pending = refl; frozen = refl; state = refl; reserves = refl; supply = refl; epoch = refl; slot = refl; epoch_length = refl; counted = refl; live = λ a h. h }
 cert_keeps (Delegate cred pool drep) d m =
-    record { accounts = IsMap-changed_where credential_cmp _ (delegating pool drep) d.accounts m.accounts; pools = m.pools; dreps = m.dreps; hot = m.hot; ids = refl; pending = refl; frozen = refl; state = refl; reserves = refl; supply = refl; epoch = refl; live = λ a h. h }
+    record { accounts = IsMap-changed_where credential_cmp _ (delegating pool drep) d.accounts m.accounts; pools = m.pools; dreps = m.dreps; hot = m.hot; ids = refl; pending = refl; frozen = refl; state = refl; reserves = refl; supply = refl; epoch = refl; slot = refl; epoch_length = refl; counted = refl; live = λ a h. h }
 cert_keeps (PoolReg pool cost pledge margin account) d m =
-    record { accounts = m.accounts; pools = IsMap-with_value pool_total pool _ d.pools m.pools; dreps = m.dreps; hot = m.hot; ids = refl; pending = refl; frozen = refl; state = refl; reserves = refl; supply = refl; epoch = refl; live = λ a h. h }
+    record { accounts = m.accounts; pools = IsMap-with_value pool_total pool _ d.pools m.pools; dreps = m.dreps; hot = m.hot; ids = refl; pending = refl; frozen = refl; state = refl; reserves = refl; supply = refl; epoch = refl; slot = refl; epoch_length = refl; counted = refl; live = λ a h. h }
 cert_keeps (PoolRetire pool epoch) d m =
-    record { accounts = m.accounts; pools = IsMap-changed_where pool_cmp _ (retiring epoch) d.pools m.pools; dreps = m.dreps; hot = m.hot; ids = refl; pending = refl; frozen = refl; state = refl; reserves = refl; supply = refl; epoch = refl; live = λ a h. h }
+    record { accounts = m.accounts; pools = IsMap-changed_where pool_cmp _ (retiring epoch) d.pools m.pools; dreps = m.dreps; hot = m.hot; ids = refl; pending = refl; frozen = refl; state = refl; reserves = refl; supply = refl; epoch = refl; slot = refl; epoch_length = refl; counted = refl; live = λ a h. h }
 cert_keeps (DrepReg cred deposit) d m =
-    record { accounts = m.accounts; pools = m.pools; dreps = IsMap-with_value credential_total cred (new_drep d) d.dreps m.dreps; hot = m.hot; ids = refl; pending = refl; frozen = refl; state = refl; reserves = refl; supply = refl; epoch = refl; live = λ a h. h }
+    record { accounts = m.accounts; pools = m.pools; dreps = IsMap-with_value credential_total cred (new_drep d) d.dreps m.dreps; hot = m.hot; ids = refl; pending = refl; frozen = refl; state = refl; reserves = refl; supply = refl; epoch = refl; slot = refl; epoch_length = refl; counted = refl; live = λ a h. h }
 cert_keeps (DrepUnreg cred refund) d m =
     record {
       accounts = IsMap-changed_where credential_cmp _ without_drep d.accounts m.accounts;
@@ -141,14 +147,17 @@ cert_keeps (DrepUnreg cred refund) d m =
       reserves = refl;
       supply = refl;
       epoch = refl;
+      slot = refl;
+      epoch_length = refl;
+      counted = refl;
       live = λ a h. live_map (λ (p : Proposal). without_key voter_cmp (voter.Drep cred) p.votes) d.proposals a h;
     }
 cert_keeps (DrepUpdate cred) d m =
-    record { accounts = m.accounts; pools = m.pools; dreps = IsMap-changed_where credential_cmp _ (having_acted d) d.dreps m.dreps; hot = m.hot; ids = refl; pending = refl; frozen = refl; state = refl; reserves = refl; supply = refl; epoch = refl; live = λ a h. h }
+    record { accounts = m.accounts; pools = m.pools; dreps = IsMap-changed_where credential_cmp _ (having_acted d) d.dreps m.dreps; hot = m.hot; ids = refl; pending = refl; frozen = refl; state = refl; reserves = refl; supply = refl; epoch = refl; slot = refl; epoch_length = refl; counted = refl; live = λ a h. h }
 cert_keeps (HotAuth cold key) d m =
-    record { accounts = m.accounts; pools = m.pools; dreps = m.dreps; hot = IsMap-with_value credential_total cold (Hot key) d.hot m.hot; ids = refl; pending = refl; frozen = refl; state = refl; reserves = refl; supply = refl; epoch = refl; live = λ a h. h }
+    record { accounts = m.accounts; pools = m.pools; dreps = m.dreps; hot = IsMap-with_value credential_total cold (Hot key) d.hot m.hot; ids = refl; pending = refl; frozen = refl; state = refl; reserves = refl; supply = refl; epoch = refl; slot = refl; epoch_length = refl; counted = refl; live = λ a h. h }
 cert_keeps (HotResign cold) d m =
-    record { accounts = m.accounts; pools = m.pools; dreps = m.dreps; hot = IsMap-with_value credential_total cold Resigned d.hot m.hot; ids = refl; pending = refl; frozen = refl; state = refl; reserves = refl; supply = refl; epoch = refl; live = λ a h. h }
+    record { accounts = m.accounts; pools = m.pools; dreps = m.dreps; hot = IsMap-with_value credential_total cold Resigned d.hot m.hot; ids = refl; pending = refl; frozen = refl; state = refl; reserves = refl; supply = refl; epoch = refl; slot = refl; epoch_length = refl; counted = refl; live = λ a h. h }
 
 either_keeps : (b : Bool) (c : Cert) (d : World) → HasMaps d → IsKept d (cond b d (changed_by c d))
 either_keeps true c d m = same d m
@@ -163,15 +172,15 @@ certs_keep w (c ∷ cs) d m =
 module _ (tx : Tx) where
   withdrawn_keeps : (w : World) → HasMaps w → IsKept w (withdrawn tx w)
   withdrawn_keeps w m =
-      record { accounts = IsMap-changed_where credential_cmp (λ c r. is_withdrawn tx c) emptied w.accounts m.accounts; pools = m.pools; dreps = m.dreps; hot = m.hot; ids = refl; pending = refl; frozen = refl; state = refl; reserves = refl; supply = refl; epoch = refl; live = λ a h. h }
+      record { accounts = IsMap-changed_where credential_cmp (λ c r. is_withdrawn tx c) emptied w.accounts m.accounts; pools = m.pools; dreps = m.dreps; hot = m.hot; ids = refl; pending = refl; frozen = refl; state = refl; reserves = refl; supply = refl; epoch = refl; slot = refl; epoch_length = refl; counted = refl; live = λ a h. h }
 
   voters_keep : (v : World) → HasMaps v → IsKept v (voters_refreshed tx v)
   voters_keep v m =
-      record { accounts = m.accounts; pools = m.pools; dreps = IsMap-changed_where credential_cmp (λ c x. has_voted tx c) (having_acted v) v.dreps m.dreps; hot = m.hot; ids = refl; pending = refl; frozen = refl; state = refl; reserves = refl; supply = refl; epoch = refl; live = λ a h. h }
+      record { accounts = m.accounts; pools = m.pools; dreps = IsMap-changed_where credential_cmp (λ c x. has_voted tx c) (having_acted v) v.dreps m.dreps; hot = m.hot; ids = refl; pending = refl; frozen = refl; state = refl; reserves = refl; supply = refl; epoch = refl; slot = refl; epoch_length = refl; counted = refl; live = λ a h. h }
 
   dormant_keeps : (v : World) → HasMaps v → IsKept v (dormant_added v)
   dormant_keeps v m =
-      record { accounts = m.accounts; pools = m.pools; dreps = IsMap-changed_where credential_cmp (λ c x. is_kept_active v x) (extended v) v.dreps m.dreps; hot = m.hot; ids = refl; pending = refl; frozen = refl; state = refl; reserves = refl; supply = refl; epoch = refl; live = λ a h. h }
+      record { accounts = m.accounts; pools = m.pools; dreps = IsMap-changed_where credential_cmp (λ c x. is_kept_active v x) (extended v) v.dreps m.dreps; hot = m.hot; ids = refl; pending = refl; frozen = refl; state = refl; reserves = refl; supply = refl; epoch = refl; slot = refl; epoch_length = refl; counted = refl; live = λ a h. h }
 
   refresh_keeps : (b : Bool) (v : World) → HasMaps v → IsKept v (voters_refreshed tx (cond b v (dormant_added v)))
   refresh_keeps true v m = voters_keep v m
@@ -333,6 +342,24 @@ by_scripts : (sc : Scripts) (w : World) (tx : Tx) → IsGood (after_failed w tx)
 by_scripts Absent w tx f p = p
 by_scripts Passed w tx f p = p
 by_scripts Failed w tx f p = f
+
+-- the clock and the count stay
+pub record IsSameTime (w v : World) : Type 0 where
+  pub epoch : v.epoch ≡ w.epoch
+  pub slot : v.slot ≡ w.slot
+  pub epoch_length : v.epoch_length ≡ w.epoch_length
+  pub counted : v.counted ≡ w.counted
+  pub frozen : v.frozen ≡ w.frozen
+
+time_by : (sc : Scripts) (w : World) (tx : Tx) → IsSameTime w (after_passed w tx) → IsSameTime w (after_scripts sc w tx)
+time_by Absent w tx p = p
+time_by Passed w tx p = p
+time_by Failed w tx p = record { epoch = refl; slot = refl; epoch_length = refl; counted = refl; frozen = refl }
+
+pub tx_time : (w : World) (tx : Tx) → IsGood w → IsSameTime w (world_after_tx w tx)
+tx_time w tx g =
+    let k = draft_keeps tx w (record { accounts = g.sound.accounts; pools = g.sound.pools; dreps = g.sound.dreps; hot = g.sound.hot }) in
+    time_by tx.scripts w tx (record { epoch = k.epoch; slot = k.slot; epoch_length = k.epoch_length; counted = k.counted; frozen = k.frozen })
 
 supply_by : (sc : Scripts) (w : World) (tx : Tx) → (after_passed w tx).supply ≡ w.supply → (after_scripts sc w tx).supply ≡ w.supply
 supply_by Absent w tx p = p

@@ -3,3 +3,4 @@ pub mod GoodTx
 pub mod GoodBlock
 pub mod Start
 pub mod Reach
+pub mod Counted

@@ -101,7 +101,7 @@ good_by : (o : Option Rule) (w : World) (r : Record) → IsGood w → is_readabl
 good_by (Some rule) w r g h e = g
 good_by None w r g h e = accepted_good w r g h e
 
-record_good : (w : World) (r : Record) → IsGood w → is_readable r ≡ true → IsGood (step w r).0
+pub record_good : (w : World) (r : Record) → IsGood w → is_readable r ≡ true → IsGood (step w r).0
 record_good w r g h = good_by (refusal_of w r) w r g h refl
 
 -- the supply of the World is a constant
