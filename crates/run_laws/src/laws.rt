@@ -1,0 +1,21 @@
+ghost use Rattle.run_model.specs.Laws.{CountedIsThePulses, FlowsBalance, StandsBetweenBoundaries, SupplyStays};
+
+/// Each record moves each pot by its flows, and nothing stays in hand, for every ledger that records reach. (The preservation of value of the formal specification)
+pub fn flows_balance()
+    ensures { FlowsBalance }
+{}
+
+/// All pots together hold the supply of the genesis, for every ledger that records reach. (The preservation of value of the formal specification)
+pub fn supply_stays()
+    ensures { SupplyStays }
+{}
+
+/// Between boundaries all that can be enacted is as it was frozen, the treasury has not lost, a pending update is balanced and covered, and each frozen proposal is live, for every ledger that records reach. (CIP-1694, Enactment)
+pub fn stands_between_boundaries()
+    ensures { StandsBetweenBoundaries }
+{}
+
+/// What was counted is the sum of the pulses of the epoch's accepted blocks, and no more than there is to count, after every run of records. (Own)
+pub fn counted_is_the_pulses()
+    ensures { CountedIsThePulses }
+{}
