@@ -4,7 +4,7 @@ use gov_ids::Account;
 /// What a pool asks and promises. (StakePoolParams of the formal specification)
 #[derive(Clone, Copy, Debug, PartialEq, Eq)]
 pub struct PoolTerms {
-    /// What the pool keeps of an epoch's rewards, in lovelace; at least minPoolCost.
+    /// What the pool keeps of an epoch's rewards, in lovelace.
     pub cost: u64,
     /// What its owners promise to hold, in lovelace; kept and not used.
     pub pledge: u64,

@@ -5,7 +5,7 @@ pub fn one_list_is_ratified()
     ensures { OneListIsRatified }
 {}
 
-/// A proposal passes the test of `is_kept` exactly where it has no purpose, or a whole chain of proposals leads from it to the last enacted action. (CIP-1694, Governance actions: Content)
+/// Among proposals with ids of their own, one of them passes the test of `is_kept` exactly where it has no purpose, or a whole chain of them leads from it to the last enacted action. (CIP-1694, Governance actions: Content)
 pub fn kept_by_chains()
     ensures { KeptByChains }
 {}

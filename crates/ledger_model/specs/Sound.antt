@@ -7,7 +7,7 @@ use Rattle.gov_ids.specs.declared.OutRef.{OutRef}
 use Rattle.gov_ids.specs.Orders.{credential_cmp, outref_cmp, pool_cmp, txid_cmp}
 use Rattle.ledger_model.specs.World.{World}
 
--- each map and set of the ledger stands in order, each name once, and the transaction id of each output is a used one
+-- the maps of outputs, accounts, pools, DReps and hot entries and the set of used ids stand in order, each name once, and the transaction id of each output is a used one
 pub record IsSound (w : World) : Type 0 where
   pub outputs : IsMap outref_cmp w.outputs
   pub used : IsSet txid_cmp w.used
