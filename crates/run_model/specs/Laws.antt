@@ -29,7 +29,7 @@ SupplyStays = (w : World) → IsReached w → supply_of w ≡ w.supply
 
 -- two records that differ in a positive pulse at most
 abbrev pub IsSameButPulse : Record → Record → Type 0
-IsSameButPulse (records.Block slot pulse) (records.Block slot' pulse') = (slot ≡ slot') × (0 < pulse) × (0 < pulse')
+IsSameButPulse (records.Block slot pulse) (records.Block slot' pulse') = (slot ≡ slot') × ((pulse ≡ pulse') ⊎ ((0 < pulse) × (0 < pulse')))
 IsSameButPulse r s = r ≡ s
 
 -- pulses do not show: the replies are the same, and the Worlds but for what was counted
