@@ -1,5 +1,5 @@
 -- What was counted is the sum of the pulses of the epoch.
-use Rattle.std.proofs.Common.{◌≡◌, ℕ, ◌+◌, ◌/◌, ◌==◌, ◌<◌, ◌≤◌, min, List, [], ◌∷◌, ◌++◌, Bool, true, false, cond, Option, Some, None, is_none, map, filter_map, sum_by, nat_le, nat_lt, refl, ap, sym, subst, ◌∙◌, arith, append_assoc}
+use Rattle.std.proofs.Common.{◌≡◌, ℕ, ◌+◌, ◌/◌, ◌==◌, ◌<◌, ◌≤◌, min, List, [], ◌∷◌, ◌++◌, Bool, true, false, cond, Option, Some, None, is_none, filter_map, sum_by, nat_le, refl, ap, sym, subst, ◌∙◌, arith, append_assoc}
 use Rattle.std.specs.List.{AllByRecursion, list_all}
 use Rattle.std.specs.List.{cons_option}
 use Rattle.std.proofs.Math.Nat.{div-mul-le_self, min-eq_left, min-eq_right}
@@ -16,11 +16,11 @@ use Rattle.tx_records.specs.declared.reply.Rule.{Rule}
 use Rattle.ledger_model.specs.World.{World}
 use Rattle.ledger_model.proofs.Unbroken.{IsUnbroken, unbroken-cons}
 use Rattle.run_model.specs.Boundary.{world_after_boundary}
-use Rattle.run_model.specs.Genesis.{world_of_genesis, genesis_fault}
+use Rattle.run_model.specs.Genesis.{world_of_genesis}
 use Rattle.run_model.specs.Laws.{CountedIsThePulses}
 use Rattle.run_model.specs.Limits.{is_genesis, is_readable}
-use Rattle.run_model.specs.Runs.{accepted_records, counted_of, pulse_in, world_after_all}
-use Rattle.run_model.specs.Step.{block_checks, crossed, enters_next, epoch_at, pulsed, refusal_of, step, step_by, world_after}
+use Rattle.run_model.specs.Runs.{accepted_records, pulse_in, world_after_all}
+use Rattle.run_model.specs.Step.{block_checks, crossed, enters_next, epoch_at, pulsed, refusal_of, step_by, world_after}
 use Rattle.run_laws.specs.Good.{IsGood}
 use Rattle.run_laws.proofs.Lists.{left_of, right_of, all_weaken, all_append}
 use Rattle.run_laws.proofs.GoodTx.{IsSameTime, tx_time}

@@ -1,9 +1,8 @@
 -- A block, a boundary and a reward update keep a ledger good.
-use Rattle.std.proofs.Common.{◌≡◌, ℕ, ◌+◌, ◌≤◌, List, [], ◌∷◌, Bool, true, false, cond, not, ◌&&◌, Option, Some, None, map, filter, sum_by, refl, ap, sym, subst, ◌∙◌, arith}
-use Rattle.std.specs.List.{AllByRecursion, IsDistinct}
+use Rattle.std.proofs.Common.{◌≡◌, ℕ, ◌+◌, List, [], ◌∷◌, Bool, true, false, Option, Some, None, map, sum_by, refl, ap, sym, subst, ◌∙◌, arith}
+use Rattle.std.specs.List.{AllByRecursion}
 use Rattle.std.specs.Map.{keys_of}
-use Rattle.std.proofs.lemmas.List.Sums.{sum_by-cons}
-use Rattle.maps.specs.Maps.{IsMap, IsSet, has_member, sum_values, value_at, with_values}
+use Rattle.maps.specs.Maps.{IsMap, IsSet, has_member, value_at, with_values}
 use Rattle.maps.specs.Words.{repeats, some_and}
 use Rattle.maps.proofs.Credits.{sum_values-entries}
 use Rattle.maps.proofs.Kept.{IsMap-changed_where, IsMap-each_value, IsMap-entries_where}
@@ -24,13 +23,13 @@ use Rattle.gov_actions.specs.declared.state.HotState.{HotState}
 use Rattle.gov_model.specs.Laws.{HaveDistinctIds}
 use Rattle.gov_model.specs.Ratified.{ids_of}
 use Rattle.tx_records.specs.declared.record.Rewards.{Rewards}
+use Rattle.gov_model.proofs.KeptOf.{ids_filter, own_filter}
 use Rattle.ledger_model.specs.World.{World}
-use Rattle.ledger_model.specs.Sound.{IsSound}
 use Rattle.run_model.specs.Boundary.{update_applied, after_rewards, after_terms, after_enactment, after_payments, world_after_boundary, is_reaped, without_pool}
 use Rattle.run_model.specs.Laws.{IsCoveredUpdate}
-use Rattle.run_model.specs.Step.{pulsed, crossed, in_order_of_credential, rewards_out}
+use Rattle.run_model.specs.Step.{pulsed, crossed, in_order_of_credential}
 use Rattle.run_laws.specs.Good.{IsGood}
-use Rattle.run_laws.proofs.Lists.{distinct_from, ids_filter, own_filter}
+use Rattle.run_laws.proofs.Lists.{distinct_from}
 
 -- what the pending update leaves as it is
 record IsSameBeside (w v : World) : Type 0 where

@@ -1,5 +1,5 @@
 -- A transaction keeps a ledger good.
-use Rattle.std.proofs.Common.{◌≡◌, ℕ, zero, suc, Contains, ◌+◌, ◌<◌, ◌≤◌, List, [], ◌∷◌, ◌++◌, Bool, true, false, cond, ◌||◌, Option, Some, None, map, fold, take, length, refl, ap, sym, subst, ◌∙◌, arith}
+use Rattle.std.proofs.Common.{◌≡◌, ℕ, zero, suc, Contains, ◌+◌, ◌<◌, ◌≤◌, List, [], ◌∷◌, ◌++◌, Bool, true, false, cond, Option, Some, None, map, fold, take, length, refl, ap, sym, subst, ◌∙◌, arith}
 use Rattle.std.specs.List.{AllByRecursion, IsDistinct, enumerate_from, slice_index_or}
 use Rattle.std.specs.Map.{keys_of}
 use Rattle.std.specs.Option.{option_to_list}
@@ -21,7 +21,6 @@ use Rattle.gov_ids.specs.Same.{same_action}
 use Rattle.gov_ids.proofs.Exacts.{action_id_exact}
 use Rattle.gov_ids.proofs.Totals.{credential_total, outref_total, pool_total, txid_total}
 use Rattle.book_records.specs.declared.Output.{Output}
-use Rattle.book_records.specs.declared.pool.PoolTerms.{PoolTerms}
 use Rattle.gov_actions.specs.declared.action.Proposal.{Proposal}
 use Rattle.gov_actions.specs.declared.action.Vote.{Vote}
 use Rattle.gov_actions.specs.declared.state.EnactState.{EnactState}
@@ -38,11 +37,11 @@ use Rattle.tx_records.specs.declared.tx.Tx.{Tx}
 use Rattle.tx_records.specs.declared.tx.TxOutput.{TxOutput}
 use Rattle.ledger_model.specs.World.{World}
 use Rattle.ledger_model.specs.Broken.{is_allowed}
-use Rattle.ledger_model.specs.Changes.{changed_by, delegating, delegates_to_drep, emptied, extended, has_voted, having_acted, is_kept_active, is_withdrawn, new_account, new_drep, pool_after, retiring, without_drep, without_vote_of, withdrawn, refreshed, voters_refreshed, dormant_added}
+use Rattle.ledger_model.specs.Changes.{changed_by, delegating, emptied, extended, has_voted, having_acted, is_kept_active, is_withdrawn, new_account, new_drep, retiring, without_drep, without_vote_of, withdrawn, refreshed, voters_refreshed, dormant_added}
 use Rattle.ledger_model.specs.Draft.{draft_with, last_draft, is_refused}
 use Rattle.ledger_model.specs.Sound.{IsSound}
 use Rattle.ledger_model.specs.Transaction.{after_failed, after_passed, after_scripts, world_after_tx, made_outputs, made_return, made_proposal, made_proposals, with_votes, votes_on, kept_output}
-use Rattle.tx_balance.proofs.Outputs.{made_from, made_not_there}
+use Rattle.tx_balance.proofs.Outputs.{made_not_there}
 use Rattle.tx_balance.proofs.OutputParts.{parts_of, id_is_new}
 use Rattle.run_model.specs.Laws.{IsCoveredUpdate}
 use Rattle.run_laws.specs.Good.{IsGood, IsLiveIn}

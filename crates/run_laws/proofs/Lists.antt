@@ -1,5 +1,5 @@
 -- What holds of each item, of each key, and of ids that come together.
-use Rattle.std.proofs.Common.{◌≡◌, ℕ, ◌+◌, ◌<◌, List, [], ◌∷◌, ◌++◌, Bool, true, false, cond, not, ◌&&◌, ◌||◌, map, filter, refl, ap, sym, subst, ◌∙◌, arith}
+use Rattle.std.proofs.Common.{◌≡◌, List, [], ◌∷◌, ◌++◌, Bool, true, false, not, ◌&&◌, ◌||◌, refl, sym, subst}
 use Rattle.std.specs.List.{AllByRecursion, IsDistinct, list_any}
 use Rattle.std.specs.Map.{keys_of}
 use Rattle.std.specs.declared.cmp.Ordering.{Ordering}
@@ -10,9 +10,6 @@ use Rattle.maps.proofs.Kept.{keys_of-with_value}
 use Rattle.maps.proofs.Sets.{all-with_key}
 use Rattle.gov_ids.specs.declared.ActionId.{ActionId}
 use Rattle.gov_ids.specs.Same.{same_action}
-use Rattle.gov_actions.specs.declared.action.Proposal.{Proposal}
-use Rattle.gov_model.specs.Laws.{HaveDistinctIds}
-use Rattle.gov_model.specs.Ratified.{ids_of}
 
 pub left_of : (b c : Bool) → (b && c) ≡ true → b ≡ true
 left_of true c h = refl
@@ -68,19 +65,3 @@ pub own_append : (xs ys : List ActionId) → IsDistinct same_action xs → IsDis
 unfolding IsDistinct
 own_append [] ys a b h = b
 own_append (x ∷ xs) ys a b h = (all_append (λ y. same_action x y ≡ false) xs ys a.0 h.0, own_append xs ys a.1 b h.1)
-
--- what holds of the ids of proposals holds of those of a filter
-pub ids_filter : (P : ActionId → Type 0) (p : Proposal → Bool) (ps : List Proposal) → AllByRecursion P (ids_of ps) → AllByRecursion P (ids_of (filter p ps))
-ids_filter P p [] h = tt
-ids_filter P p (x ∷ ps) h = elim (p x) as (λ b. AllByRecursion P (ids_of (cond b (x ∷ filter p ps) (filter p ps)))) [
-  | true ↦ (h.0, ids_filter P p ps h.1)
-  | false ↦ ids_filter P p ps h.1
-]
-
-pub own_filter : (p : Proposal → Bool) (ps : List Proposal) → HaveDistinctIds ps → HaveDistinctIds (filter p ps)
-unfolding IsDistinct
-own_filter p [] h = tt
-own_filter p (x ∷ ps) h = elim (p x) as (λ b. HaveDistinctIds (cond b (x ∷ filter p ps) (filter p ps))) [
-  | true ↦ (ids_filter (λ y. same_action x.id y ≡ false) p ps h.0, own_filter p ps h.1)
-  | false ↦ own_filter p ps h.1
-]

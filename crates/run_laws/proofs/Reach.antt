@@ -1,32 +1,33 @@
 -- Every ledger that records reach is good, moves by its flows, and holds its supply.
-use Rattle.std.proofs.Common.{◌≡◌, ℕ, ◌+◌, List, [], ◌∷◌, Bool, true, false, cond, not, ◌==◌, ◌&&◌, ◌||◌, Option, Some, None, is_none, map, fold, refl, ap, sym, subst, ◌∙◌, arith}
+use Rattle.std.proofs.Common.{◌≡◌, ℕ, List, [], ◌∷◌, Bool, true, false, cond, not, Option, Some, None, is_none, map, refl, ap, sym, subst, ◌∙◌}
 use Rattle.std.specs.List.{list_all}
 use Rattle.std.proofs.lemmas.Bool.{eqb-true, ltb-false}
 use Rattle.maps.specs.Words.{repeats}
-use Rattle.gov_ids.specs.Orders.{account_cmp, credential_cmp}
+use Rattle.gov_ids.specs.Orders.{credential_cmp}
 use Rattle.tx_records.specs.declared.record.Record.{Record}
 use Rattle.tx_records.specs.declared.record.Record.TheVariants as records
 use Rattle.tx_records.specs.declared.record.Rewards.{Rewards}
 use Rattle.tx_records.specs.declared.reply.Rule.{Rule}
 use Rattle.tx_records.specs.declared.tx.Tx.{Tx}
 use Rattle.ledger_model.specs.World.{World}
-use Rattle.ledger_model.specs.Broken.{first_broken, is_allowed}
+use Rattle.ledger_model.specs.Broken.{is_allowed}
 use Rattle.ledger_model.specs.Flows.{flows_of_tx}
 use Rattle.ledger_model.specs.Moves.{IsMovedBy}
 use Rattle.ledger_model.specs.OutputRules.{is_failed}
 use Rattle.ledger_model.specs.Supply.{pots_of, supply_of}
 use Rattle.ledger_model.specs.Transaction.{world_after_tx}
 use Rattle.ledger_model.proofs.Unbroken.{IsUnbroken, unbroken-cons}
+use Rattle.gov_model.proofs.OneList.{one_list_is_ratified}
 use Rattle.tx_balance.specs.Laws.{HasOwnWithdrawals}
 use Rattle.tx_balance.proofs.Failed.{failed_balances}
 use Rattle.tx_balance.proofs.Passed.{passed_balances}
 use Rattle.tx_balance.proofs.Supplies.{moves_keep_supply}
 use Rattle.run_model.specs.BoundaryFlows.{flows_by, flows_of, flows_of_accepted, flows_of_boundary}
 use Rattle.run_model.specs.Genesis.{world_of_genesis}
-use Rattle.run_model.specs.Laws.{FlowsBalance, SupplyStays, StandsBetweenBoundaries, IsCoveredUpdate}
+use Rattle.run_model.specs.Laws.{EpochsRatifyOneList, FlowsBalance, SupplyStays, StandsBetweenBoundaries, IsCoveredUpdate}
 use Rattle.run_model.specs.Limits.{is_readable, is_rewards, is_tx}
 use Rattle.run_model.specs.Runs.{IsReached, world_after_all}
-use Rattle.run_model.specs.Step.{crossed, in_order_of_credential, enters_next, pulsed, refusal_of, reward_checks, rewards_in, rewards_out, step, step_by, world_after, world_after_block}
+use Rattle.run_model.specs.Step.{crossed, in_order_of_credential, enters_next, pulsed, refusal_of, reward_checks, rewards_in, rewards_out, step, step_by, world_after}
 use Rattle.epoch_balance.proofs.Covered.{payments_are_covered}
 use Rattle.epoch_balance.proofs.Whole.{boundary_balances}
 use Rattle.run_laws.specs.Good.{IsGood}
@@ -120,30 +121,36 @@ supply_by : (o : Option Rule) (w : World) (r : Record) → IsGood w → (step_by
 supply_by (Some rule) w r g = refl
 supply_by None w r g = accepted_supply w r g
 
--- a good ledger that holds its supply
-record IsHeld (w : World) : Type 0 where
+-- a good ledger whose pots hold the supply s
+record IsHeld (s : ℕ) (w : World) : Type 0 where
   good : IsGood w
+  constant : w.supply ≡ s
   supply : supply_of w ≡ w.supply
 
-all_held : (rs : List Record) (w : World) → IsHeld w → list_all is_readable rs ≡ true → IsHeld (world_after_all w rs)
+all_held : {s : ℕ} (rs : List Record) (w : World) → IsHeld s w → list_all is_readable rs ≡ true → IsHeld s (world_after_all w rs)
 all_held [] w g h = g
 all_held (r ∷ rs) w g h =
     let here : is_readable r ≡ true = left_of _ _ h in
+    let same : (step w r).0.supply ≡ w.supply = supply_by (refusal_of w r) w r g.good in
     all_held rs (step w r).0
     (record {
       good = record_good w r g.good here;
-      supply = moves_keep_supply (flows_of w r) (pots_of w) (pots_of (step w r).0) (record_moves w r g.good here) ∙ g.supply ∙ sym (supply_by (refusal_of w r) w r g.good);
+      constant = same ∙ g.constant;
+      supply = moves_keep_supply (flows_of w r) (pots_of w) (pots_of (step w r).0) (record_moves w r g.good here) ∙ g.supply ∙ sym same;
     })
     (right_of _ _ h)
 
-reached_held : (w : World) → IsReached w → IsHeld w
-reached_held w h = subst (λ (v : World). IsHeld v) h.reached (all_held h.records (world_of_genesis h.genesis) (record { good = genesis_good h.genesis; supply = genesis_supply h.genesis h.sound }) h.all_readable)
+reached_held : (w : World) (h : IsReached w) → IsHeld h.genesis.supply w
+reached_held w h = subst (λ (v : World). IsHeld h.genesis.supply v) h.reached (all_held h.records (world_of_genesis h.genesis) (record { good = genesis_good h.genesis; constant = refl; supply = genesis_supply h.genesis h.sound }) h.all_readable)
 
 pub flows_balance : FlowsBalance
 flows_balance w h r e = record_moves w r (reached_held w h).good e
 
 pub supply_stays : SupplyStays
-supply_stays w h = (reached_held w h).supply
+supply_stays w h = let g : IsHeld h.genesis.supply w = reached_held w h in g.supply ∙ g.constant
+
+pub epochs_ratify_one_list : EpochsRatifyOneList
+epochs_ratify_one_list w h = one_list_is_ratified w.frozen (reached_held w h).good.frozen_own
 
 pub stands_between_boundaries : StandsBetweenBoundaries
 stands_between_boundaries w h = let g : IsGood w = (reached_held w h).good in record { epoch = g.epoch; state = g.state; treasury = g.treasury; pending = g.update; live = g.live }

@@ -1,5 +1,5 @@
 -- A genesis that breaks no rule gives a good ledger, which holds its supply.
-use Rattle.std.proofs.Common.{◌≡◌, ℕ, ◌+◌, ◌==◌, ◌≤◌, List, [], ◌∷◌, Bool, true, false, cond, not, ◌||◌, Option, Some, None, map, filter_map, find, fold, sum_by, refl, ap, sym, subst, ◌∙◌, arith}
+use Rattle.std.proofs.Common.{◌≡◌, ℕ, List, [], ◌∷◌, Bool, true, false, cond, not, ◌||◌, Option, Some, None, map, filter_map, find, fold, sum_by, refl, ap, sym, subst, ◌∙◌, arith}
 use Rattle.std.specs.Option.{option_map}
 use Rattle.std.specs.List.{AllByRecursion, IsDistinct}
 use Rattle.std.specs.List.Sorted.{IsStrictlySortedBy}
@@ -35,10 +35,10 @@ use Rattle.tx_records.specs.declared.genesis.GenesisRule.{GenesisRule}
 use Rattle.tx_records.specs.declared.record.Rewards.{Rewards}
 use Rattle.ledger_model.specs.World.{World}
 use Rattle.ledger_model.specs.Supply.{supply_of}
-use Rattle.run_model.specs.Genesis.{world_of_genesis, lists_of_genesis, genesis_fault, genesis_checks, genesis_sum, genesis_members, repeats_a_name, names_an_unknown, names_another_network, supply_limit, pool_ids, drep_ids}
+use Rattle.run_model.specs.Genesis.{world_of_genesis, genesis_fault, genesis_checks, genesis_sum, genesis_members, pool_ids, drep_ids}
 use Rattle.run_model.specs.Laws.{IsCoveredUpdate}
 use Rattle.run_laws.specs.Good.{IsGood}
-use Rattle.run_laws.proofs.Lists.{or_left, or_right, both_false, not_true, all_with_values, distinct_from}
+use Rattle.run_laws.proofs.Lists.{or_left, or_right, both_false, all_with_values, distinct_from}
 
 empty_sorted : {K : Type 0} (cmp : K → K → Ordering) → IsStrictlySortedBy cmp []
 unfolding IsStrictlySortedBy

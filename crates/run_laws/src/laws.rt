@@ -1,4 +1,4 @@
-ghost use Rattle.run_model.specs.Laws.{CountedIsThePulses, FlowsBalance, StandsBetweenBoundaries, SupplyStays};
+ghost use Rattle.run_model.specs.Laws.{CountedIsThePulses, EpochsRatifyOneList, FlowsBalance, StandsBetweenBoundaries, SupplyStays};
 
 /// Each record moves each pot by its flows, and nothing stays in hand, for every ledger that records reach. (The preservation of value of the formal specification)
 pub fn flows_balance()
@@ -8,6 +8,11 @@ pub fn flows_balance()
 /// All pots together hold the supply of the genesis, for every ledger that records reach. (The preservation of value of the formal specification)
 pub fn supply_stays()
     ensures { SupplyStays }
+{}
+
+/// Each epoch ratifies exactly one list of what it froze, which is one delaying action or has none, for every ledger that records reach. (CIP-1694, Ratification)
+pub fn epochs_ratify_one_list()
+    ensures { EpochsRatifyOneList }
 {}
 
 /// Between boundaries all that can be enacted is as it was frozen, the treasury has not lost, a pending update is balanced and covered, and each frozen proposal is live, for every ledger that records reach. (CIP-1694, Enactment)

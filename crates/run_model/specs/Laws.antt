@@ -3,15 +3,19 @@ use Rattle.std.specs.Prelude.{◌≡◌, ◌+◌, ◌^◌, ◌≤◌, ◌<◌, �
 use Rattle.std.specs.List.{AllZip, list_all}
 use Rattle.maps.specs.Maps.{value_at}
 use Rattle.gov_ids.specs.Orders.{credential_cmp}
+use Rattle.gov_ids.specs.declared.ActionId.{ActionId}
 use Rattle.gov_ids.specs.declared.Credential.{Credential}
 use Rattle.book_records.specs.declared.DrepState.{DrepState}
 use Rattle.gov_actions.specs.declared.action.Proposal.{Proposal}
+use Rattle.gov_model.specs.Laws.{IsOneOrNoneDelays}
+use Rattle.gov_model.specs.Ratified.{IsRatified, ratified_of}
 use Rattle.tx_records.specs.declared.record.Record.{Record}
 use Rattle.tx_records.specs.declared.record.Record.TheVariants as records
 use Rattle.tx_records.specs.declared.record.Rewards.{Rewards}
 use Rattle.ledger_model.specs.World.{World}
 use Rattle.ledger_model.specs.Supply.{pots_of, supply_of}
 use Rattle.ledger_model.specs.Moves.{IsMovedBy}
+use Rattle.run_model.specs.Boundary.{enacted_proposals}
 use Rattle.run_model.specs.BoundaryFlows.{flows_of}
 use Rattle.run_model.specs.Limits.{is_genesis, is_readable}
 use Rattle.run_model.specs.Step.{step, rewards_in, rewards_out}
@@ -23,9 +27,16 @@ use Rattle.tx_records.specs.declared.genesis.Genesis.{Genesis}
 abbrev pub FlowsBalance : Type 0
 FlowsBalance = (w : World) → IsReached w → (r : Record) → is_readable r ≡ true → IsMovedBy (flows_of w r) (pots_of w) (pots_of (step w r).0)
 
--- and the supply is the one of the genesis
+-- all pots together are the supply of the genesis that the ledger is reached from
 abbrev pub SupplyStays : Type 0
-SupplyStays = (w : World) → IsReached w → supply_of w ≡ w.supply
+SupplyStays = (w : World) (reached : IsReached w) → supply_of w ≡ reached.genesis.supply
+
+-- each epoch ratifies one list of what it froze; it is the only one, and it is one delaying action or has none
+abbrev pub EpochsRatifyOneList : Type 0
+EpochsRatifyOneList = (w : World) → IsReached w →
+    IsRatified w.frozen (ratified_of w.frozen)
+    × ((others : List ActionId) → IsRatified w.frozen others → others ≡ ratified_of w.frozen)
+    × IsOneOrNoneDelays (enacted_proposals w)
 
 -- two records that differ in a positive pulse at most
 abbrev pub IsSameButPulse : Record → Record → Type 0
