@@ -22,7 +22,9 @@ pub fn words_of(alloc: Global, text: &str) -> Result<Vec<String>, NoMemory> {
 }
 
 /// The word of a replay.
-pub fn replay_words(alloc: Global) -> Result<Vec<String>, NoMemory> {
+pub fn replay_words(alloc: Global) -> Result<Vec<String>, NoMemory>
+    ensures { IfOk result (λ words. IsReplayCommand words.items) }
+{
     let mut words = Vec::new(alloc);
     words.push(String::from_str(alloc, "replay")?)?;
     Ok(words)
@@ -35,6 +37,12 @@ pub fn replayed_in_memory(
     part: usize,
 ) -> Result<(Status, MemorySink), NoMemory>
     requires { 0 < part }
+    ensures no_usage { IfOk result (λ r. r.0 ≢ Status.Usage) }
+    ensures no_read_fault { IfOk result (λ r. r.0 ≢ Status.ReadFault) }
+    ensures no_write_fault { IfOk result (λ r. r.0 ≢ Status.WriteFault) }
+    ensures done { IfOk result (λ r. r.0 ≡ Status.Done → text_of_run bytes.now ≡ Some r.1) }
+    ensures complete { start_fault (records_of bytes.now) ≡ None → length bytes.now ≤ stream_limit →
+        IfOk result (λ r. (r.0 ≡ Status.Done) ⊎ (r.0 ≡ Status.NoMemory)) }
 {
     let words = replay_words(alloc)?;
     let mut source = MemorySource::new(bytes, part);
