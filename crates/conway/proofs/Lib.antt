@@ -7,6 +7,7 @@ pub mod Heard
 pub mod Items
 pub mod Json
 pub mod Words
+pub mod RecordsLeft
 pub mod Puts
 pub mod Sound
 pub mod LawsHold

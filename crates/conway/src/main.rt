@@ -7,12 +7,16 @@ mod laws;
 mod ledger;
 mod limits;
 mod lists;
+#[cfg(test)]
+mod plain;
 mod reading;
 mod record;
 mod replay;
 mod rules;
 mod run;
 mod status;
+#[cfg(test)]
+mod tests;
 mod text;
 
 use byte_lines::{ReaderSource, WriterSink};

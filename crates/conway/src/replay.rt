@@ -112,7 +112,7 @@ fn start<S: Source>(alloc: Global, lines: &mut Lines, source: &mut S) -> Result<
 }
 
 /// The ledger after a record, and the reply.
-fn answer(ledger: Ledger, reading: &Reading) -> Result<(Ledger, Reply), NoMemory>
+pub fn answer(ledger: Ledger, reading: &Reading) -> Result<(Ledger, Reply), NoMemory>
     requires { IsWithin reading.now }
     ensures ledger { IfOk result (λ r. r.0 ≡ (step ledger reading.now).0) }
     ensures reply { IfOk result (λ r. r.1 ≡ (step ledger reading.now).1) }

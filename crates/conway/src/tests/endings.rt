@@ -1,0 +1,22 @@
+//! The numbers with which the program ends.
+use crate::record::GenesisRule;
+use crate::status::{GenesisCause, Status};
+
+#[test]
+fn ends_with_the_number(rt: HostRuntime) {
+    let table = [
+        (Status::Done, 0),
+        (Status::Usage, 2),
+        (Status::BadGenesis(GenesisCause::Missing), 3),
+        (Status::BadGenesis(GenesisCause::TooLong), 3),
+        (Status::BadGenesis(GenesisCause::NotBuilt), 3),
+        (Status::BadGenesis(GenesisCause::Broken(GenesisRule::SumWrong)), 3),
+        (Status::ReadFault, 4),
+        (Status::WriteFault, 5),
+        (Status::NoMemory, 6),
+        (Status::TooMuch, 7),
+    ];
+    for (status, number) in table {
+        assert_eq!(rt; status.number(), number, "{status:?}");
+    }
+}

@@ -1,0 +1,94 @@
+//! Rows with the text that each must give, and streams against the plain program.
+use super::memory::{replayed_in_memory, words_of};
+use super::streams::{ROW, row_text, stream};
+use crate::plain::plain_text_of_run;
+use crate::record::GenesisRule;
+use crate::run::run;
+use crate::status::{GenesisCause, Status};
+use byte_lines::{MemorySink, MemorySource};
+use std::process::Abort;
+use std::test::Fail;
+
+/// The worked row; without memory, a prefix of its text.
+#[test]
+fn replays_the_row(rt: HostRuntime) -> Result<(), Fail> {
+    let bytes = stream(rt.alloc(), ROW)?;
+    let (status, sink) = replayed_in_memory(rt.alloc(), bytes.as_slice(), 65_536)?;
+    if status == Status::NoMemory {
+        assert!(rt; row_text().starts_with(sink.as_slice()));
+        return Ok(());
+    }
+    assert_eq!(rt; status, Status::Done);
+    assert_eq!(rt; sink.as_slice(), row_text());
+    Ok(())
+}
+
+#[test]
+fn refuses_a_bad_genesis(rt: HostRuntime) -> Result<(), Fail> {
+    let table = [
+        ("", GenesisCause::Missing),
+        ("\n \t\r\n", GenesisCause::Missing),
+        ("\nw\n2\n", GenesisCause::Broken(GenesisRule::SumWrong)),
+        ("p\nG\n", GenesisCause::NotBuilt),
+        ("2\nG\n", GenesisCause::NotBuilt),
+    ];
+    for (shape, cause) in table {
+        let bytes = stream(rt.alloc(), shape)?;
+        let (status, sink) = replayed_in_memory(rt.alloc(), bytes.as_slice(), 7)?;
+        assert_eq!(rt; status, Status::BadGenesis(cause), "{shape}");
+        assert!(rt; sink.as_slice().is_empty(), "{shape}");
+    }
+    Ok(())
+}
+
+/// Words of no command: nothing is read or written, so the next run has it all.
+#[test]
+fn leaves_all_for_wrong_words(rt: HostRuntime) -> Result<(), Fail> {
+    let bytes = stream(rt.alloc(), ROW)?;
+    let mut source = MemorySource::new(bytes.as_slice(), 65_536);
+    let mut sink = MemorySink::new(rt.alloc());
+    for text in ["", "Replay", "replays", "replay replay", "replay x", "x"] {
+        let words = words_of(rt.alloc(), text)?;
+        let status = run(rt.alloc(), words.as_slice(), &mut source, &mut sink);
+        assert_eq!(rt; status, Status::Usage, "{text}");
+        assert!(rt; sink.as_slice().is_empty(), "{text}");
+    }
+    let words = words_of(rt.alloc(), "replay")?;
+    let status = run(rt.alloc(), words.as_slice(), &mut source, &mut sink);
+    assert_eq!(rt; status, Status::Done);
+    assert_eq!(rt; sink.as_slice(), row_text());
+    Ok(())
+}
+
+/// Whether a run over memory comes to what the plain program says.
+fn agrees(rt: &(impl Abort + AllocGlobal), shape: &str, part: usize) -> Result<(), Fail>
+    requires { 0 < part }
+{
+    let bytes = stream(rt.alloc(), shape)?;
+    let (status, sink) = replayed_in_memory(rt.alloc(), bytes.as_slice(), part)?;
+    match plain_text_of_run(rt.alloc(), bytes.as_slice())? {
+        Some(text) => {
+            assert_eq!(rt; status, Status::Done, "{shape}");
+            assert_eq!(rt; sink.as_slice(), text.as_slice(), "{shape}");
+        }
+        None => {
+            assert_eq!(rt; status.number(), 3, "{shape}");
+            assert!(rt; sink.as_slice().is_empty(), "{shape}");
+        }
+    }
+    Ok(())
+}
+
+#[test]
+fn agrees_with_the_plain_program(rt: HostRuntime) -> Result<(), Fail> {
+    let shapes = [
+        "", "\n", "\n\n", " \t", "G", "G\n", "\nG", "\r\nG\r\n2\r\n", "g\np", "g\n\n\np\n", "g\r\np\r", "g \n \n p",
+        "f\np\n", "e\np", "w", "w\n2", "p", "2\ng", "g\ng\n", "gg", "g\n{\n", "g\nxx\n", "g\n2\n3\n4", ROW,
+    ];
+    for shape in shapes {
+        for part in [1, 2, 7, 65_536] {
+            agrees(&rt, shape, part)?;
+        }
+    }
+    Ok(())
+}
