@@ -3,4 +3,7 @@
 
 mod laws;
 
-pub use laws::{counted_is_the_pulses, epochs_ratify_one_list, flows_balance, stands_between_boundaries, supply_stays};
+pub use laws::{
+    counted_is_the_pulses, epochs_ratify_one_list, flows_balance, stands_between_boundaries,
+    supply_stays,
+};
