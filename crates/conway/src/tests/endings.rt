@@ -10,7 +10,10 @@ fn ends_with_the_number(rt: HostRuntime) {
         (Status::BadGenesis(GenesisCause::Missing), 3),
         (Status::BadGenesis(GenesisCause::TooLong), 3),
         (Status::BadGenesis(GenesisCause::NotBuilt), 3),
-        (Status::BadGenesis(GenesisCause::Broken(GenesisRule::SumWrong)), 3),
+        (
+            Status::BadGenesis(GenesisCause::Broken(GenesisRule::SumWrong)),
+            3,
+        ),
         (Status::ReadFault, 4),
         (Status::WriteFault, 5),
         (Status::NoMemory, 6),

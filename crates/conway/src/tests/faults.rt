@@ -18,8 +18,14 @@ fn each_read_fails(rt: HostRuntime) -> Result<(), Fail> {
         let mut sink = MemorySink::new(rt.alloc());
         let status = run(rt.alloc(), words.as_slice(), &mut source, &mut sink);
         let came = bytes.get(..64 * k as usize).unwrap_or(bytes.as_slice());
-        let text = plain_text_of_run(rt.alloc(), whole_lines(came))?.unwrap_or(Vec::new(rt.alloc()));
-        let want = if k as usize > bytes.len().div_ceil(64) { Status::Done } else { Status::ReadFault };
+        let text = plain_text_of_run(rt.alloc(), whole_lines(came))?.unwrap_or(Vec::new(
+            rt.alloc(),
+        ));
+        let want = if k as usize > bytes.len().div_ceil(64) {
+            Status::Done
+        } else {
+            Status::ReadFault
+        };
         assert_eq!(rt; status, want, "read {k}");
         assert_eq!(rt; sink.as_slice(), text.as_slice(), "read {k}");
     }
@@ -38,10 +44,17 @@ fn each_write_fails(rt: HostRuntime) -> Result<(), Fail> {
         let mut sink = FaultySink::new(rt.alloc(), 16, &failing);
         let status = run(rt.alloc(), words.as_slice(), &mut source, &mut sink);
         let whole = sink.as_slice() == row_text();
-        let want = if whole { Status::Done } else { Status::WriteFault };
+        let want = if whole {
+            Status::Done
+        } else {
+            Status::WriteFault
+        };
         assert_eq!(rt; status, want, "write {k}");
         assert!(rt; row_text().starts_with(sink.as_slice()), "write {k}");
-        assert!(rt; whole || sink.as_slice().len() > longest || k == 0, "write {k}");
+        assert!(rt;
+            whole || sink.as_slice().len() > longest || k == 0,
+            "write {k}"
+        );
         longest = sink.as_slice().len();
     }
     assert_eq!(rt; longest, row_text().len());
@@ -53,12 +66,24 @@ fn each_write_fails(rt: HostRuntime) -> Result<(), Fail> {
 fn each_line_fails(rt: HostRuntime) -> Result<(), Fail> {
     let bytes = stream(rt.alloc(), ROW)?;
     let words = replay_words(rt.alloc())?;
-    for (k, len) in [(0u64, 0usize), (1, 100), (2, 111), (3, 133), (4, 164), (5, 214), (6, 235)] {
+    for (k, len) in [
+        (0u64, 0usize),
+        (1, 100),
+        (2, 111),
+        (3, 133),
+        (4, 164),
+        (5, 214),
+        (6, 235),
+    ] {
         let failing = [k];
         let mut source = MemorySource::new(bytes.as_slice(), 7);
         let mut sink = FaultySink::new(rt.alloc(), 65_536, &failing);
         let status = run(rt.alloc(), words.as_slice(), &mut source, &mut sink);
-        let want = if k < 6 { Status::WriteFault } else { Status::Done };
+        let want = if k < 6 {
+            Status::WriteFault
+        } else {
+            Status::Done
+        };
         assert_eq!(rt; status, want, "write {k}");
         assert_eq!(rt; Some(sink.as_slice()), row_text().get(..len), "write {k}");
     }
@@ -87,7 +112,11 @@ fn each_cut_of_a_genesis(rt: HostRuntime) -> Result<(), Fail> {
     for end in 0..bytes.len() {
         let came = bytes.get(..end).unwrap_or(bytes.as_slice());
         let (status, sink) = replayed_in_memory(rt.alloc(), came, 65_536)?;
-        let cause = if end == 0 { GenesisCause::Missing } else { GenesisCause::NotBuilt };
+        let cause = if end == 0 {
+            GenesisCause::Missing
+        } else {
+            GenesisCause::NotBuilt
+        };
         assert_eq!(rt; status, Status::BadGenesis(cause), "{end} bytes");
         assert!(rt; sink.as_slice().is_empty(), "{end} bytes");
     }
