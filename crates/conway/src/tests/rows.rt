@@ -1,4 +1,6 @@
 //! Rows with the text that each must give, and streams against the plain program.
+ghost use Rattle.std.specs.Prelude.{◌<◌};
+
 use super::memory::{replayed_in_memory, words_of};
 use super::streams::{ROW, row_text, stream};
 use crate::plain::plain_text_of_run;
@@ -34,6 +36,36 @@ fn refuses_a_bad_genesis(rt: HostRuntime) -> Result<(), Fail> {
         let (status, sink) = replayed_in_memory(rt.alloc(), bytes.as_slice(), 7)?;
         assert_eq!(rt; status, Status::BadGenesis(cause), "{shape}");
         assert!(rt; sink.as_slice().is_empty(), "{shape}");
+    }
+    Ok(())
+}
+
+/// Line ends, blank lines, a float that nobody names, and two equal names, of which the later counts.
+#[test]
+fn gives_these_texts(rt: HostRuntime) -> Result<(), Fail> {
+    let table = [
+        (
+            "f\np\n",
+            "1 genesis outputs 0 deposits 0 rewards 0 fees 0 donations 0 treasury 0 reserves 9 supply 9\n2 refused 9 NotBuilt\n",
+        ),
+        (
+            "e",
+            "1 genesis outputs 0 deposits 0 rewards 0 fees 0 donations 0 treasury 0 reserves 7 supply 7\n",
+        ),
+        (
+            "\n\r\ng\r\n \t\n p\r",
+            "3 genesis outputs 0 deposits 0 rewards 0 fees 0 donations 0 treasury 0 reserves 9 supply 9\n5 refused 9 NotBuilt\n",
+        ),
+        (
+            "g\n2",
+            "1 genesis outputs 0 deposits 0 rewards 0 fees 0 donations 0 treasury 0 reserves 9 supply 9\n2 refused 33 InputMissing at 0\n",
+        ),
+    ];
+    for (shape, text) in table {
+        let bytes = stream(rt.alloc(), shape)?;
+        let (status, sink) = replayed_in_memory(rt.alloc(), bytes.as_slice(), 2)?;
+        assert_eq!(rt; status, Status::Done, "{shape}");
+        assert_eq!(rt; sink.as_slice(), text.as_bytes(), "{shape}");
     }
     Ok(())
 }
