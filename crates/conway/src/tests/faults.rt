@@ -99,8 +99,16 @@ fn each_cut_of_a_line(rt: HostRuntime) -> Result<(), Fail> {
         let came = bytes.get(..end).unwrap_or(bytes.as_slice());
         let (status, sink) = replayed_in_memory(rt.alloc(), came, 65_536)?;
         let text = plain_text_of_run(rt.alloc(), came)?.unwrap_or(Vec::new(rt.alloc()));
+        let last = if end == genesis.len() {
+            "reserves 9 supply 9\n"
+        } else if end + 1 == bytes.len() {
+            "2 refused 33 InputMissing at 0\n"
+        } else {
+            "2 refused 9 NotBuilt\n"
+        };
         assert_eq!(rt; status, Status::Done, "{end} bytes");
         assert_eq!(rt; sink.as_slice(), text.as_slice(), "{end} bytes");
+        assert!(rt; sink.as_slice().ends_with(last.as_bytes()), "{end} bytes");
     }
     Ok(())
 }

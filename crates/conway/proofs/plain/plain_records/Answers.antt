@@ -1,8 +1,7 @@
-use Rattle.std.proofs.Common.{◌≡◌, ◌++◌, ◌+◌, ◌<◌, ◌≤◌, ◌==◌, ◌∷◌, ℕ, List, [], false, ap, ◌∙◌, arith, drop, length, rules}
+use Rattle.std.proofs.Common.{◌++◌, ◌+◌, ◌<◌, ◌∷◌, ℕ, List, [], ap, ◌∙◌, arith, drop, length, rules}
 use Rattle.std.proofs.lemmas.Grind.{common_steps}
 use Rattle.std.proofs.lemmas.List.{drop_more}
 use Rattle.byte_lines.specs.Pieces.{kept}
-use Rattle.conway.specs.declared.record.Reading.{Reading}
 use Rattle.conway.specs.Limits.{line_limit}
 use Rattle.conway.specs.Records.{records_from}
 use Rattle.conway.proofs.RecordsLeft.{left_after_feed, left_after_byte}

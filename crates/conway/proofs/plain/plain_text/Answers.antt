@@ -1,6 +1,4 @@
-use Rattle.std.proofs.Common.{◌≡◌, ◌∷◌, ℕ, rules}
-use Rattle.conway.specs.declared.record.Reading.{Reading}
-use Rattle.conway.specs.declared.record.Reading.TheVariants as readings
+use Rattle.std.proofs.Common.{rules}
 use Rattle.conway.proofs.RecordsLeft.{text_of_good}
 use Rattle.conway.proofs.plain.plain_text.Goals as goal
 
