@@ -13,7 +13,8 @@ use Rattle.conway.specs.Heard.{HearsNext}
 use Rattle.conway.specs.Runs.{text_from, text_of_records}
 use Rattle.conway.specs.Statuses.{status_of_sink_fault}
 use Rattle.conway.specs.Step.{step}
-use Rattle.conway.specs.Texts.{Text, line_of, reply_words}
+use Rattle.conway.specs.Texts.{reply_words}
+use Rattle.text_model.specs.Words.{Text, line_of}
 use Rattle.conway.specs.Turns.{Writes, Stands, GoesOn, Stops}
 use Rattle.conway.specs.World.{World}
 use Rattle.conway.proofs.Ends.{ends_at_read, ends_over, ends_done, ends_without_memory, ends_at_write}

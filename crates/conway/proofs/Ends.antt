@@ -5,7 +5,7 @@ use Rattle.std.proofs.lemmas.List.{append-nil, length-append}
 use Rattle.byte_lines.specs.Pieces.{whole_of}
 use Rattle.byte_lines.specs.Reader.{Reader}
 use Rattle.conway.specs.declared.record.Genesis.{Genesis}
-use Rattle.conway.specs.declared.record.GenesisRule.{GenesisRule}
+use Rattle.tx_records.specs.declared.genesis.GenesisRule.{GenesisRule}
 use Rattle.conway.specs.declared.record.Reading.{Reading}
 use Rattle.conway.specs.declared.record.Reading.TheVariants as readings
 use Rattle.conway.specs.declared.status.GenesisCause.{GenesisCause}
@@ -17,7 +17,7 @@ use Rattle.conway.specs.Heard.{HasHeard, HadHeard}
 use Rattle.conway.specs.Limits.{stream_limit}
 use Rattle.conway.specs.Records.{records_of}
 use Rattle.conway.specs.Runs.{text_from, text_of_records, text_of_run, text_by_genesis}
-use Rattle.conway.specs.Texts.{Text}
+use Rattle.text_model.specs.Words.{Text}
 use Rattle.conway.specs.Turns.{Writes}
 use Rattle.conway.specs.World.{World, genesis_fault}
 use Rattle.conway.proofs.Heard.{heard_now}

@@ -4,7 +4,7 @@ use Rattle.std.proofs.lemmas.Bool.Decides.{nat_tests}
 use Rattle.serde_json.specs.View.{items_view}
 use Rattle.serde_json.specs.declared.value.Value.{Value}
 use Rattle.conway.specs.Fields.{only_item, three_of}
-use Rattle.conway.specs.Options.{◌>>=◌}
+use Rattle.gov_ids.specs.Spelling.{◌>>=◌}
 use Rattle.conway.specs.Records.{is_no_items}
 
 pub is_no_items-view : (xs : List Value) → is_no_items (items_view xs) ≡ (length xs == 0)

@@ -2,8 +2,8 @@
 use Rattle.std.proofs.Common.{◌≡◌, List, [], ◌∷◌, Option, Some, None, refl, ◌∙◌}
 use Rattle.conway.specs.declared.record.Reading.{Reading}
 use Rattle.conway.specs.declared.record.Reading.TheVariants as readings
-use Rattle.conway.specs.declared.record.Reply.TheVariants.{Accepted, Refused}
-use Rattle.conway.specs.declared.record.Rule.{Rule}
+use Rattle.tx_records.specs.declared.reply.Reply.TheVariants.{Accepted, Refused}
+use Rattle.tx_records.specs.declared.reply.Rule.{Rule}
 use Rattle.conway.specs.declared.record.Transfer.{Transfer}
 use Rattle.conway.specs.Laws.{SoundStays, SupplyStays, RefusedChangesNothing, Flows, AcceptedFlows, world_after_all}
 use Rattle.conway.specs.Step.{first_broken, world_after_transfer, refusal_of, step, step_by}

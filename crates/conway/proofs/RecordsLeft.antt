@@ -2,14 +2,15 @@
 use Rattle.std.proofs.Common.{◌≡◌, ℕ, ◌+◌, ◌==◌, Bool, true, false, if◌then◌else◌, List, [], ◌∷◌, ◌++◌, Option, Some, None, codes, map, refl, sym, ap, ◌∙◌, append_assoc}
 use Rattle.byte_lines.specs.Pieces.{kept, line_feed, pieces_from}
 use Rattle.conway.specs.declared.record.Genesis.{Genesis}
-use Rattle.conway.specs.declared.record.GenesisRule.{GenesisRule}
-use Rattle.conway.specs.declared.record.Pots.{Pots}
+use Rattle.tx_records.specs.declared.genesis.GenesisRule.{GenesisRule}
+use Rattle.tx_records.specs.declared.report.Pots.{Pots}
 use Rattle.conway.specs.declared.record.Reading.{Reading}
 use Rattle.conway.specs.declared.record.Reading.TheVariants as readings
 use Rattle.conway.specs.Limits.{line_limit}
 use Rattle.conway.specs.Records.{records_from}
 use Rattle.conway.specs.Runs.{genesis_text, text_by_genesis, text_from, text_of_records}
-use Rattle.conway.specs.Texts.{Text, line_of, pots_words}
+use Rattle.text_model.specs.Replies.{pots_words}
+use Rattle.text_model.specs.Words.{Text, line_of}
 use Rattle.conway.specs.World.{World, genesis_fault, pots_of, world_of_genesis}
 use Rattle.conway.proofs.Heard.{records_from-append}
 
@@ -63,10 +64,10 @@ by_no_rule n g (Some rule) rs e = cc
 
 pub text_of_good : (records others : List (ℕ × Reading)) (first : ℕ × Reading) (g : Genesis) (w : World) (p : Pots) (line text : Text)
     → records ≡ first ∷ others → first.1 ≡ readings.Genesis g → (genesis_fault g ≡ None) × (w ≡ world_of_genesis g) → p ≡ pots_of w
-    → line ≡ line_of first.0 (codes "genesis" ∷ pots_words p) → text ≡ line ++ text_from w others → Some text ≡ text_of_records records
+    → line ≡ line_of first.0 (pots_words (codes "genesis") p) → text ≡ line ++ text_from w others → Some text ≡ text_of_records records
 text_of_good records others first g w p line text begins is starts pots lined after =
     let worded : line ≡ genesis_text first.0 g =
-    lined ∙ ap (λ (q : Pots). line_of first.0 (codes "genesis" ∷ pots_words q)) (pots ∙ ap (λ (v : World). pots_of v) starts.1) in
+    lined ∙ ap (λ (q : Pots). line_of first.0 (pots_words (codes "genesis") q)) (pots ∙ ap (λ (v : World). pots_of v) starts.1) in
     let all : text ≡ genesis_text first.0 g ++ text_from (world_of_genesis g) others =
     after ∙ ap (λ (l : Text). l ++ text_from w others) worded ∙ ap (λ (v : World). genesis_text first.0 g ++ text_from v others) starts.1 in
     let whole : records ≡ (first.0, readings.Genesis g) ∷ others = begins ∙ ap (λ (r : Reading). (first.0, r) ∷ others) is in

@@ -23,13 +23,13 @@ use Rattle.maps.specs.Maps.{value_at, without_key, with_values, with_key, in_ord
 use Rattle.maps.specs.Words.{repeats}
 use Rattle.utxo_set.specs.Utxos.{Utxos, lovelace_in}
 use Rattle.conway.specs.declared.record.Genesis.{Genesis}
-use Rattle.conway.specs.declared.record.GenesisRule.{GenesisRule}
+use Rattle.tx_records.specs.declared.genesis.GenesisRule.{GenesisRule}
 use Rattle.conway.specs.declared.record.Reading.{Reading}
 use Rattle.conway.specs.declared.record.Reading.TheVariants as readings
-use Rattle.conway.specs.declared.record.Rule.{Rule}
+use Rattle.tx_records.specs.declared.reply.Rule.{Rule}
 use Rattle.conway.specs.declared.record.Transfer.{Transfer}
-use Rattle.conway.specs.Checks.{first_among}
-use Rattle.conway.specs.Limits.{supply_limit}
+use Rattle.ledger_model.specs.Checks.{first_among}
+use Rattle.run_model.specs.Genesis.{supply_limit}
 use Rattle.conway.specs.Step.{spent_output, consumed, produced, first_broken, made_outputs, world_after_transfer, step, step_by}
 use Rattle.conway.specs.World.{World, IsSound, genesis_sum, genesis_fault, world_of_genesis}
 use Rattle.conway.proofs.Puts.{lovelace_at, made_from, made_distinct, none_in_empty}

@@ -8,7 +8,7 @@ use Rattle.byte_lines.specs.Reader.{Reader}
 use Rattle.conway.specs.declared.ledger.GenesisFault.{GenesisFault}
 use Rattle.conway.specs.declared.ledger.GenesisFault.TheVariants as faults
 use Rattle.conway.specs.declared.record.Genesis.{Genesis}
-use Rattle.conway.specs.declared.record.GenesisRule.{GenesisRule}
+use Rattle.tx_records.specs.declared.genesis.GenesisRule.{GenesisRule}
 use Rattle.conway.specs.declared.record.Reading.{Reading}
 use Rattle.conway.specs.declared.record.Reading.TheVariants as readings
 use Rattle.conway.specs.declared.status.GenesisCause.{GenesisCause}
@@ -20,7 +20,7 @@ use Rattle.conway.specs.Heard.{HearsNext}
 use Rattle.conway.specs.Starts.{StartsAs}
 use Rattle.conway.specs.Runs.{text_from, text_by_genesis, genesis_text}
 use Rattle.conway.specs.Statuses.{status_of_genesis_fault, status_of_sink_fault, status_by}
-use Rattle.conway.specs.Texts.{Text}
+use Rattle.text_model.specs.Words.{Text}
 use Rattle.conway.specs.Turns.{HasStarted, Writes, Stands, Stops, AnswersAll}
 use Rattle.conway.specs.World.{World, genesis_fault, world_of_genesis}
 use Rattle.conway.proofs.Answering.{took_nothing, took_both, front_part}

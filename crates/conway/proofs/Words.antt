@@ -1,6 +1,6 @@
 -- Words that are added to a line, some after others.
 use Rattle.std.proofs.Common.{◌≡◌, List, [], ◌∷◌, ◌++◌, refl, ap, sym, ◌∙◌, append_assoc}
-use Rattle.conway.specs.Texts.{Text, spaced}
+use Rattle.text_model.specs.Words.{Text, spaced}
 
 spaced-append : (ws vs : List Text) → spaced (ws ++ vs) ≡ spaced ws ++ spaced vs
 spaced-append [] vs = refl

@@ -11,7 +11,7 @@ use Rattle.conway.specs.declared.status.Status.TheVariants as statuses
 use Rattle.conway.specs.Limits.{stream_limit}
 use Rattle.conway.specs.Records.{records_of}
 use Rattle.conway.specs.Runs.{text_of_run}
-use Rattle.conway.specs.Texts.{Text}
+use Rattle.text_model.specs.Words.{Text}
 use Rattle.conway.specs.World.{genesis_fault}
 
 -- why the first record is no genesis to begin with, where it is not

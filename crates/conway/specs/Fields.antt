@@ -2,7 +2,8 @@
 use Rattle.std.specs.Prelude.{ℕ, List, [], ◌∷◌, Option, Some, None, nat_lt, option_and_then}
 use Rattle.serde_json.specs.Data.{Data, null, boolean, number, string, array, object, Items, no_items, item}
 use Rattle.serde_json.specs.Find.{get, as_number, as_str, as_array, as_u64}
-use Rattle.conway.specs.Options.{◌>>=◌, some_if}
+use Rattle.conway.specs.Options.{some_if}
+use Rattle.gov_ids.specs.Spelling.{◌>>=◌}
 
 -- a value that is not null
 abbrev pub not_null : Data → Option Data

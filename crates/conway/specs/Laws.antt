@@ -4,8 +4,8 @@ use Rattle.book_records.specs.declared.Output.{Output}
 use Rattle.conway.specs.declared.record.Genesis.{Genesis}
 use Rattle.conway.specs.declared.record.Reading.{Reading}
 use Rattle.conway.specs.declared.record.Reading.TheVariants as readings
-use Rattle.conway.specs.declared.record.Reply.TheVariants.{Accepted, Refused}
-use Rattle.conway.specs.declared.record.Rule.{Rule}
+use Rattle.tx_records.specs.declared.reply.Reply.TheVariants.{Accepted, Refused}
+use Rattle.tx_records.specs.declared.reply.Rule.{Rule}
 use Rattle.conway.specs.declared.record.Transfer.{Transfer}
 use Rattle.conway.specs.Step.{step, consumed, produced}
 use Rattle.conway.specs.World.{World, IsSound, pots_of, supply_of, genesis_fault, world_of_genesis}

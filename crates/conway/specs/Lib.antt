@@ -5,7 +5,6 @@ pub mod Records
 pub mod Gives
 pub mod World
 pub mod Starts
-pub mod Checks
 pub mod Step
 pub mod Laws
 pub mod Texts

@@ -9,10 +9,6 @@ line_limit = 16777216
 abbrev pub stream_limit : ℕ
 stream_limit = 2 ^ 48
 
--- the greatest supply, in lovelace
-abbrev pub supply_limit : ℕ
-supply_limit = 45000000000000000
-
 -- slots are below this
 abbrev pub slot_bound : ℕ
 slot_bound = 2 ^ 62

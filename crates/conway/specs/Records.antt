@@ -17,7 +17,8 @@ use Rattle.conway.specs.declared.record.Reading.TheVariants as readings
 use Rattle.conway.specs.declared.record.Transfer.{Transfer}
 use Rattle.conway.specs.Fields.{field_of, number_of, number_below, text_by, list_by, three_of, only_entry}
 use Rattle.conway.specs.Limits.{line_limit, slot_bound, output_limit}
-use Rattle.conway.specs.Options.{◌>>=◌, some_if}
+use Rattle.conway.specs.Options.{some_if}
+use Rattle.gov_ids.specs.Spelling.{◌>>=◌}
 
 -- ---- the entries of lists
 

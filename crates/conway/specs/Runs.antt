@@ -1,12 +1,14 @@
 -- The text of a whole run. (Own)
 use Rattle.std.specs.Prelude.{ℕ, List, [], ◌∷◌, ◌++◌, Option, Some, None, codes}
 use Rattle.conway.specs.declared.record.Genesis.{Genesis}
-use Rattle.conway.specs.declared.record.GenesisRule.{GenesisRule}
+use Rattle.tx_records.specs.declared.genesis.GenesisRule.{GenesisRule}
 use Rattle.conway.specs.declared.record.Reading.{Reading}
 use Rattle.conway.specs.declared.record.Reading.TheVariants as readings
 use Rattle.conway.specs.Records.{records_of}
 use Rattle.conway.specs.Step.{step}
-use Rattle.conway.specs.Texts.{Text, line_of, pots_words, reply_words}
+use Rattle.conway.specs.Texts.{reply_words}
+use Rattle.text_model.specs.Replies.{pots_words}
+use Rattle.text_model.specs.Words.{Text, line_of}
 use Rattle.conway.specs.World.{World, pots_of, genesis_fault, world_of_genesis}
 
 -- the text of records after the ledger w: a verdict for each
@@ -16,7 +18,7 @@ text_from w (r ∷ rs) = line_of r.0 (reply_words (step w r.1).1) ++ text_from (
 
 -- the text of a genesis
 abbrev pub genesis_text : ℕ → Genesis → Text
-genesis_text n g = line_of n (codes "genesis" ∷ pots_words (pots_of (world_of_genesis g)))
+genesis_text n g = line_of n (pots_words (codes "genesis") (pots_of (world_of_genesis g)))
 
 -- by the first genesis rule that is broken
 abbrev pub text_by_genesis : ℕ → Genesis → Option GenesisRule → List (ℕ × Reading) → Option Text

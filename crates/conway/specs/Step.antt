@@ -7,26 +7,15 @@ use Rattle.gov_ids.specs.declared.OutRef.{OutRef}
 use Rattle.gov_ids.specs.Orders.{outref_cmp, txid_cmp}
 use Rattle.conway.specs.declared.record.Reading.{Reading}
 use Rattle.conway.specs.declared.record.Reading.TheVariants as readings
-use Rattle.conway.specs.declared.record.Reply.{Reply}
-use Rattle.conway.specs.declared.record.Reply.TheVariants.{Accepted, Refused}
-use Rattle.conway.specs.declared.record.Rule.{Rule}
+use Rattle.tx_records.specs.declared.reply.Reply.{Reply}
+use Rattle.tx_records.specs.declared.reply.Reply.TheVariants.{Accepted, Refused}
+use Rattle.tx_records.specs.declared.reply.Rule.{Rule}
 use Rattle.conway.specs.declared.record.Transfer.{Transfer}
-use Rattle.conway.specs.Checks.{Check, breaks, breaks_keeping_two, at_place, first_among}
+use Rattle.ledger_model.specs.Checks.{Check, breaks, breaks_keeping_two, at_place, first_among}
+use Rattle.conway.specs.declared.rules.TheConstants.{NOT_BUILT}
+use Rattle.tx_records.specs.declared.rules.TheConstants.{TX_ID_USED, INPUT_MISSING, NOT_BALANCED}
+use Rattle.tx_records.specs.Rules.{plain_rule}
 use Rattle.conway.specs.World.{World}
-
--- ---- the numbers of the rules
-
-abbrev pub not_built : ℕ
-not_built = 9
-
-abbrev pub tx_id_used : ℕ
-tx_id_used = 30
-
-abbrev pub input_missing : ℕ
-input_missing = 33
-
-abbrev pub not_balanced : ℕ
-not_balanced = 110
 
 -- ---- the rules of a transfer
 
@@ -44,13 +33,13 @@ produced t = sum_by (λ (o : Output). o.lovelace) t.outputs + t.fee
 
 -- the rule of balance, for a transfer that takes so much lovelace
 abbrev pub balance_check : ℕ → Transfer → Check
-balance_check taken t = breaks_keeping_two not_balanced taken (produced t) (not (taken == produced t))
+balance_check taken t = breaks_keeping_two NOT_BALANCED taken (produced t) (not (taken == produced t))
 
 -- every rule, in order
 abbrev pub transfer_checks : World → Transfer → List Check
 transfer_checks w t =
-    breaks tx_id_used (has_member txid_cmp w.used t.id) ∷
-    at_place 0 (breaks input_missing (is_none (spent_output w t))) ∷
+    breaks TX_ID_USED (has_member txid_cmp w.used t.id) ∷
+    at_place 0 (breaks INPUT_MISSING (is_none (spent_output w t))) ∷
     balance_check (consumed w t) t ∷
     []
 
@@ -75,7 +64,7 @@ world_after_transfer w t = record w {
 -- the first rule that a record breaks
 abbrev pub refusal_of : World → Reading → Option Rule
 refusal_of w (readings.Transfer t) = first_broken w t
-refusal_of w _ = Some (record { number = not_built; place = None; first = 0; second = 0 })
+refusal_of w _ = Some (plain_rule NOT_BUILT)
 
 -- the ledger after a record that breaks none
 abbrev pub world_after : World → Reading → World

@@ -11,7 +11,7 @@ use Rattle.conway.specs.Endings.{HasEnded}
 use Rattle.conway.specs.Heard.{HasHeard}
 use Rattle.conway.specs.Limits.{stream_limit}
 use Rattle.conway.specs.Runs.{text_from, text_of_records}
-use Rattle.conway.specs.Texts.{Text}
+use Rattle.text_model.specs.Words.{Text}
 use Rattle.conway.specs.World.{World, genesis_fault, world_of_genesis}
 
 -- these records leave the ledger w, and their text is what was written, whatever comes next

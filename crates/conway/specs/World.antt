@@ -10,10 +10,11 @@ use Rattle.gov_ids.specs.declared.TxId.{TxId}
 use Rattle.gov_ids.specs.Orders.{outref_cmp, txid_cmp}
 use Rattle.utxo_set.specs.Utxos.{lovelace_in}
 use Rattle.conway.specs.declared.record.Genesis.{Genesis}
-use Rattle.conway.specs.declared.record.GenesisRule.{GenesisRule}
-use Rattle.conway.specs.declared.record.GenesisRule.TheVariants.{SupplyTooLarge, Repeated, SumWrong}
-use Rattle.conway.specs.declared.record.Pots.{Pots}
-use Rattle.conway.specs.Limits.{supply_limit}
+use Rattle.tx_records.specs.declared.genesis.GenesisRule.{GenesisRule}
+use Rattle.tx_records.specs.declared.genesis.GenesisRule.TheVariants.{SupplyTooLarge, Repeated, SumWrong}
+use Rattle.tx_records.specs.declared.report.Pots.{Pots}
+use Rattle.ledger_model.specs.Supply.{total_of}
+use Rattle.run_model.specs.Genesis.{supply_limit}
 
 -- outputs in order of reference, used transaction ids in order
 pub record World : Type 0 where
@@ -35,10 +36,6 @@ pots_of w = record {
   treasury = w.treasury;
   reserves = w.reserves;
 }
-
--- their sum
-abbrev pub total_of : Pots → ℕ
-total_of p = p.outputs + p.deposits + p.rewards + p.fees + p.donations + p.treasury + p.reserves
 
 -- all lovelace of a ledger
 abbrev pub supply_of : World → ℕ

@@ -5,7 +5,7 @@ ghost use Rattle.maps.specs.Maps.{value_at, with_values, in_order};
 ghost use Rattle.maps.specs.Words.{repeats};
 ghost use Rattle.gov_ids.specs.Orders.{outref_cmp, txid_cmp};
 ghost use Rattle.conway.specs.declared.record.Reading.TheVariants as readings;
-ghost use Rattle.conway.specs.Checks.{first_among};
+ghost use Rattle.ledger_model.specs.Checks.{first_among};
 ghost use Rattle.conway.specs.Limits.{output_limit};
 ghost use Rattle.conway.specs.Starts.{StartsAs};
 ghost use Rattle.utxo_set.specs.Utxos.{lovelace_in};
@@ -13,13 +13,14 @@ ghost use Rattle.conway.specs.Step.{step, balance_check, first_broken, made_outp
 ghost use Rattle.conway.specs.World.{pots_of};
 
 use crate::limits::{OUTPUT_LIMIT, SUPPLY_LIMIT};
-use crate::record::{Genesis, GenesisRule, Pots, Reply, Rule, Transfer};
-use crate::rules::{INPUT_MISSING, NOT_BALANCED, TX_ID_USED};
+use crate::record::{Genesis, Transfer};
 use coin_frac::NoMemory;
 use gov_ids::OutRef;
 use std::alloc::Global;
 use std::collections::BTreeSet;
 use std::marker::Model;
+use tx_records::rules::{INPUT_MISSING, NOT_BALANCED, TX_ID_USED};
+use tx_records::{GenesisRule, Pots, Reply, Rule};
 use utxo_set::{Output, UtxoSet};
 
 /// Why a genesis gave no ledger.
@@ -135,10 +136,10 @@ impl Ledger {
         ensures { result ≡ first_broken self.now transfer.now }
     {
         if self.utxo.used(&transfer.id) {
-            return Some(breaks(TX_ID_USED));
+            return Some(Rule::new(TX_ID_USED));
         }
         let Some(spent) = self.utxo.get(&transfer.input) else {
-            return Some(breaks_at(0, INPUT_MISSING));
+            return Some(Rule::new(INPUT_MISSING).at(0));
         };
         balance_refusal(u128::from(spent.lovelace), transfer)
     }
@@ -169,35 +170,9 @@ fn balance_refusal(consumed: u128, transfer: &Transfer) -> Option<Rule>
 {
     let produced = lovelace_made(transfer.outputs.as_slice()) + u128::from(transfer.fee);
     if consumed != produced {
-        return Some(Rule {
-            first: consumed,
-            second: produced,
-            ..breaks(NOT_BALANCED)
-        });
+        return Some(Rule::keeping_two(NOT_BALANCED, consumed, produced));
     }
     None
-}
-
-/// A rule with no place that keeps no numbers.
-fn breaks(number: u16) -> Rule
-    ensures { result ≡ record { number = number; place = None; first = 0; second = 0 } }
-{
-    Rule {
-        number,
-        place: None,
-        first: 0,
-        second: 0,
-    }
-}
-
-/// A rule at a place that keeps no numbers.
-fn breaks_at(place: u32, number: u16) -> Rule
-    ensures { result ≡ record { number = number; place = Some place; first = 0; second = 0 } }
-{
-    Rule {
-        place: Some(place),
-        ..breaks(number)
-    }
 }
 
 /// Whether an output stands in a genesis twice.

@@ -9,7 +9,7 @@ ghost use Rattle.conway.specs.Runs.{text_from, text_of_records, text_of_run};
 use crate::ledger::{GenesisFault, Ledger};
 use crate::limits::LINE_LIMIT;
 use crate::reading::read_line;
-use crate::record::{Reading, Reply};
+use crate::record::Reading;
 use crate::replay::answer;
 use crate::text::{genesis_line, reply_line};
 use coin_frac::NoMemory;

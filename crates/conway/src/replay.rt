@@ -9,19 +9,21 @@ ghost use Rattle.conway.specs.Limits.{output_limit};
 ghost use Rattle.conway.specs.Records.{IsWithin};
 ghost use Rattle.conway.specs.Statuses.{status_by};
 ghost use Rattle.conway.specs.Step.{step};
-ghost use Rattle.conway.specs.Texts.{Text};
+ghost use Rattle.text_model.specs.Words.{Text};
+ghost use Rattle.tx_records.specs.Rules.{plain_rule};
 ghost use Rattle.conway.specs.Turns.{Answers, AnswersAll, Stands, Starts};
 
 use crate::ledger::Ledger;
 use crate::limits::{LINE_LIMIT, STREAM_LIMIT};
 use crate::reading::read_line;
-use crate::record::{Reading, Reply, Rule};
+use crate::record::Reading;
 use crate::rules::NOT_BUILT;
 use crate::status::{GenesisCause, Status};
 use crate::text::{genesis_line, reply_line};
 use byte_lines::{Line, LineFault, Lines, Sink, Source, put_all};
 use coin_frac::NoMemory;
 use std::alloc::Global;
+use tx_records::{Reply, Rule};
 
 /// The next line.
 fn hear<S: Source>(lines: &mut Lines, source: &mut S) -> Result<Line, LineFault>
@@ -125,14 +127,9 @@ pub fn answer(ledger: Ledger, reading: &Reading) -> Result<(Ledger, Reply), NoMe
 
 /// The refusal of what is no plain transfer.
 fn not_built() -> Reply
-    ensures { result ≡ Reply.Refused (record { number = NOT_BUILT; place = None; first = 0; second = 0 }) }
+    ensures { result ≡ Reply.Refused (plain_rule NOT_BUILT) }
 {
-    Reply::Refused(Rule {
-        number: NOT_BUILT,
-        place: None,
-        first: 0,
-        second: 0,
-    })
+    Reply::Refused(Rule::new(NOT_BUILT))
 }
 
 /// Answers the next record, and gives the ledger after it; nothing at the end.

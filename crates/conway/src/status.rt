@@ -2,7 +2,7 @@ ghost use Rattle.std.specs.Prelude.{◌≡◌};
 ghost use Rattle.conway.specs.Statuses.{status_number};
 
 use crate::ledger::GenesisFault;
-use crate::record::GenesisRule;
+use tx_records::GenesisRule;
 use byte_lines::{LineFault, SinkFault};
 use coin_frac::NoMemory;
 

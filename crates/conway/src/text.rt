@@ -1,11 +1,14 @@
 ghost use Rattle.std.specs.Prelude.{◌≡◌, ◌+◌, ◌++◌, ◌∷◌, [], decimal, codes, OnOk};
-ghost use Rattle.conway.specs.Texts.{line_of, spaced, place_words, pots_words, name_words, words_of, kept_words, refusal_words, reply_words, text_of_rule};
-ghost use Rattle.conway.specs.World.{total_of};
+ghost use Rattle.conway.specs.Texts.{name_words, words_of, refusal_words, reply_words, text_of_rule};
+ghost use Rattle.text_model.specs.Replies.{place_words, pots_words, kept_words};
+ghost use Rattle.text_model.specs.Words.{line_of, spaced};
+ghost use Rattle.ledger_model.specs.Supply.{total_of};
 
-use crate::record::{Pots, Reply, Rule};
-use crate::rules::{INPUT_MISSING, NOT_BALANCED, NOT_BUILT, TX_ID_USED};
+use crate::rules::NOT_BUILT;
 use coin_frac::NoMemory;
 use itoa::{Buffer, Integer};
+use tx_records::rules::{INPUT_MISSING, NOT_BALANCED, TX_ID_USED};
+use tx_records::{Pots, Reply, Rule};
 
 /// Adds a word after a space.
 fn push_word(line: &mut Vec<u8>, word: &str) -> Result<(), NoMemory>
@@ -45,10 +48,11 @@ fn total(pots: &Pots) -> u128
         + u128::from(pots.reserves)
 }
 
-/// Adds the pots and their sum.
-fn push_pots(line: &mut Vec<u8>, pots: &Pots) -> Result<(), NoMemory>
-    ensures { OnOk result (line.new.items ≡ line.old.items ++ spaced (pots_words pots.now)) }
+/// Adds the pots and their sum, after a word.
+fn push_pots(line: &mut Vec<u8>, word: &str, pots: &Pots) -> Result<(), NoMemory>
+    ensures { OnOk result (line.new.items ≡ line.old.items ++ spaced (pots_words word.now pots.now)) }
 {
+    push_word(line, word)?;
     push_amount(line, "outputs", pots.outputs)?;
     push_amount(line, "deposits", pots.deposits)?;
     push_amount(line, "rewards", pots.rewards)?;
@@ -116,6 +120,10 @@ fn push_reply(line: &mut Vec<u8>, reply: &Reply) -> Result<(), NoMemory>
 {
     match reply {
         Reply::Accepted => push_word(line, "accepted"),
+        Reply::AcceptedFailedScripts => {
+            push_word(line, "accepted")?;
+            push_word(line, "failed-scripts")
+        }
         Reply::Refused(rule) => {
             push_word(line, "refused")?;
             push_number(line, rule.number)?;
@@ -136,11 +144,10 @@ fn begin(line: &mut Vec<u8>, number: u64) -> Result<(), NoMemory>
 
 /// The line of a genesis, in place of what the buffer held.
 pub fn genesis_line(line: &mut Vec<u8>, number: u64, pots: &Pots) -> Result<(), NoMemory>
-    ensures { OnOk result (line.new.items ≡ line_of number (codes "genesis" ∷ pots_words pots.now)) }
+    ensures { OnOk result (line.new.items ≡ line_of number (pots_words (codes "genesis") pots.now)) }
 {
     begin(line, number)?;
-    push_word(line, "genesis")?;
-    push_pots(line, pots)?;
+    push_pots(line, "genesis", pots)?;
     line.push(b'\n')?;
     Ok(())
 }

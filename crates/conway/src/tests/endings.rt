@@ -1,5 +1,5 @@
 //! The numbers with which the program ends.
-use crate::record::GenesisRule;
+use tx_records::GenesisRule;
 use crate::status::{GenesisCause, Status};
 
 #[test]

@@ -4,7 +4,7 @@ ghost use Rattle.std.specs.Prelude.{◌<◌};
 use super::memory::{replayed_in_memory, words_of};
 use super::streams::{ROW, row_text, stream};
 use crate::plain::plain_text_of_run;
-use crate::record::GenesisRule;
+use tx_records::GenesisRule;
 use crate::run::run;
 use crate::status::{GenesisCause, Status};
 use byte_lines::{MemorySink, MemorySource};

@@ -1,5 +1,5 @@
 use Rattle.std.proofs.Common.{◌+◌, ◌-◌, ◌≤◌, ℕ, List}
-use Rattle.conway.specs.Texts.{Text}
+use Rattle.text_model.specs.Words.{Text}
 use Rattle.conway.specs.Turns.{Stands, GoesOn}
 use Rattle.conway.proofs.replay.answer_all.Given as goal
 

@@ -1,10 +1,11 @@
 use Rattle.std.proofs.Common.{◌≡◌, Option, Ok, Err, ap, subst, ◌∙◌, rules}
 use Rattle.conway.specs.declared.record.Reading.{Reading}
-use Rattle.conway.specs.declared.record.Reply.{Reply}
+use Rattle.tx_records.specs.declared.reply.Reply.{Reply}
 use Rattle.conway.specs.declared.status.Status.TheVariants as statuses
 use Rattle.conway.specs.Heard.{HearsNext}
 use Rattle.conway.specs.Statuses.{status_of_sink_fault}
-use Rattle.conway.specs.Texts.{line_of, reply_words}
+use Rattle.conway.specs.Texts.{reply_words}
+use Rattle.text_model.specs.Words.{line_of}
 use Rattle.conway.proofs.Answering.{stops_at, stops_done, stops_without_memory, stops_at_sink, goes_on, reply_of}
 use Rattle.conway.proofs.replay.answer_next.Goals as goal
 

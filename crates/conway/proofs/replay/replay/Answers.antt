@@ -1,13 +1,14 @@
-use Rattle.std.proofs.Common.{◌≡◌, ℕ, List, [], ◌∷◌, Option, Some, Err, codes, ap, subst, sym, ◌∙◌, refl, false, rules}
+use Rattle.std.proofs.Common.{◌≡◌, ℕ, List, [], Option, Some, Err, codes, ap, subst, sym, ◌∙◌, refl, false, rules}
 use Rattle.byte_lines.specs.Answers.{HasGiven, HasRead}
 use Rattle.byte_lines.specs.Reader.{Reader}
-use Rattle.conway.specs.declared.record.Pots.{Pots}
+use Rattle.tx_records.specs.declared.report.Pots.{Pots}
 use Rattle.conway.specs.declared.status.Status.TheVariants as statuses
 use Rattle.conway.specs.Heard.{HasHeard}
 use Rattle.conway.specs.Limits.{line_limit, stream_limit}
 use Rattle.conway.specs.Runs.{genesis_text}
 use Rattle.conway.specs.Statuses.{status_of_sink_fault}
-use Rattle.conway.specs.Texts.{line_of, pots_words}
+use Rattle.text_model.specs.Replies.{pots_words}
+use Rattle.text_model.specs.Words.{line_of}
 use Rattle.conway.specs.World.{World, pots_of}
 use Rattle.conway.proofs.Heard.{given_same, hears_nothing}
 use Rattle.conway.proofs.Starting.{replay_of_nothing, first_without_memory, first_at_sink, first_stands, replay_after, replay_by}
@@ -39,8 +40,8 @@ returns-in_err-put_all-clause-replays g c = λ bytes told.
     let started = c.in_ok-ledger.ensures.starts bytes (read_nothing bytes (g.S.Source.left c.args.source.now) c.new-lines.result told c.new-lines.ensures.begins c.new-lines.ensures.reader) in
     let line : c.as_slice.result.now ≡ genesis_text c.start.new.lines.number started.genesis =
     c.as_slice.ensures.value ∙ c.in_ok-genesis_line.ensures
-    ∙ ap (λ n. line_of n (codes "genesis" ∷ pots_words c.pots.result)) c.number.ensures
-    ∙ ap (λ (p : Pots). line_of c.start.new.lines.number (codes "genesis" ∷ pots_words p)) (c.pots.ensures ∙ ap (λ (v : World). pots_of v) started.ledger) in
+    ∙ ap (λ n. line_of n (pots_words (codes "genesis") c.pots.result)) c.number.ensures
+    ∙ ap (λ (p : Pots). line_of c.start.new.lines.number (pots_words (codes "genesis") p)) (c.pots.ensures ∙ ap (λ (v : World). pots_of v) started.ledger) in
     let is : c.from_residual-in_err-put_all.result ≡ Err (status_of_sink_fault c.in_err-put_all.field-0.0) = search rules in
     let part = c.in_err-put_all.ensures.err in
     rw is (first_at_sink bytes c.start.new.lines (g.S.Source.left c.start.new.source) c.in_ok-ledger.ledger started (g.K.Sink.taken c.args.sink.now) (g.K.Sink.taken c.put_all.new.sink)
@@ -51,8 +52,8 @@ returns-clause-replays g c = λ bytes told.
     let started = c.in_ok-ledger.ensures.starts bytes (read_nothing bytes (g.S.Source.left c.args.source.now) c.new-lines.result told c.new-lines.ensures.begins c.new-lines.ensures.reader) in
     let line : c.as_slice.result.now ≡ genesis_text c.start.new.lines.number started.genesis =
     c.as_slice.ensures.value ∙ c.in_ok-genesis_line.ensures
-    ∙ ap (λ n. line_of n (codes "genesis" ∷ pots_words c.pots.result)) c.number.ensures
-    ∙ ap (λ (p : Pots). line_of c.start.new.lines.number (codes "genesis" ∷ pots_words p)) (c.pots.ensures ∙ ap (λ (v : World). pots_of v) started.ledger) in
+    ∙ ap (λ n. line_of n (pots_words (codes "genesis") c.pots.result)) c.number.ensures
+    ∙ ap (λ (p : Pots). line_of c.start.new.lines.number (pots_words (codes "genesis") p)) (c.pots.ensures ∙ ap (λ (v : World). pots_of v) started.ledger) in
     let stands = first_stands bytes c.start.new.lines (g.S.Source.left c.start.new.source) c.in_ok-ledger.ledger started c.as_slice.result.now line in
     let answers = c.answer_all.ensures.answers bytes c.as_slice.result.now stands in
     replay_after bytes (g.S.Source.left c.answer_all.new.source) (g.K.Sink.taken c.args.sink.now) (g.K.Sink.taken c.put_all.new.sink) (g.K.Sink.taken c.answer_all.new.sink)

@@ -1,5 +1,6 @@
-use Rattle.std.proofs.Common.{ℕ, [], ◌∷◌, ◌++◌, List, codes, decimal}
-use Rattle.conway.specs.Texts.{Text}
+use Rattle.std.proofs.Common.{ℕ, [], ◌∷◌, ◌++◌, List, codes, decimal, ap, sym, ◌∙◌}
+use Rattle.std.proofs.lemmas.List.{append-nil}
+use Rattle.text_model.specs.Words.{Text}
 use Rattle.conway.proofs.Words.{both_added}
 use Rattle.conway.proofs.text.push_pots.Goals as goal
 
@@ -11,9 +12,12 @@ pub returns : goal.returns
 returns c =
     let p = c.args.pots.now in
     let old = c.args.line.now.items in
-    let w1 = amount (codes "outputs") p.outputs in
+    let w0 = c.args.word.now ∷ [] in
+    let e0 = c.in_ok-push_word.ensures ∙ ap (λ (t : Text). old ++ t) (sym (append-nil (32 ∷ c.args.word.now))) in
+    let w1 = w0 ++ amount (codes "outputs") p.outputs in
+    let e1 = both_added old c.push_word.new.line.items c.push_amount.new.line.items w0 (amount (codes "outputs") p.outputs) e0 c.in_ok-push_amount.ensures in
     let w2 = w1 ++ amount (codes "deposits") (p.deposits) in
-    let e2 = both_added old c.push_amount.new.line.items c.push_amount-2.new.line.items w1 (amount (codes "deposits") (p.deposits)) c.in_ok-push_amount.ensures c.in_ok-push_amount-2.ensures in
+    let e2 = both_added old c.push_amount.new.line.items c.push_amount-2.new.line.items w1 (amount (codes "deposits") (p.deposits)) e1 c.in_ok-push_amount-2.ensures in
     let w3 = w2 ++ amount (codes "rewards") (p.rewards) in
     let e3 = both_added old c.push_amount-2.new.line.items c.push_amount-3.new.line.items w2 (amount (codes "rewards") (p.rewards)) e2 c.in_ok-push_amount-3.ensures in
     let w4 = w3 ++ amount (codes "fees") (p.fees) in
