@@ -2,9 +2,9 @@ ghost use Rattle.std.specs.Prelude.{◌≡◌};
 ghost use Rattle.conway.specs.Statuses.{status_number};
 
 use crate::ledger::GenesisFault;
-use tx_records::GenesisRule;
 use byte_lines::{LineFault, SinkFault};
 use coin_frac::NoMemory;
+use tx_records::GenesisRule;
 
 /// How a run ended.
 #[derive(Clone, Copy, Debug, PartialEq, Eq)]

@@ -1,6 +1,6 @@
 //! The numbers with which the program ends.
-use tx_records::GenesisRule;
 use crate::status::{GenesisCause, Status};
+use tx_records::GenesisRule;
 
 #[test]
 fn ends_with_the_number(rt: HostRuntime) {

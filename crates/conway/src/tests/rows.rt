@@ -4,12 +4,12 @@ ghost use Rattle.std.specs.Prelude.{◌<◌};
 use super::memory::{replayed_in_memory, words_of};
 use super::streams::{ROW, row_text, stream};
 use crate::plain::plain_text_of_run;
-use tx_records::GenesisRule;
 use crate::run::run;
 use crate::status::{GenesisCause, Status};
 use byte_lines::{MemorySink, MemorySource};
 use std::process::Abort;
 use std::test::Fail;
+use tx_records::GenesisRule;
 
 /// The worked row.
 #[test]
