@@ -135,6 +135,18 @@ fn agrees_with_the_plain_program(rt: HostRuntime) -> Result<(), Fail> {
         "g\nxx\n",
         "g\n2\n3\n4",
         ROW,
+        "G\n2\n2\n3\n4\np",
+        "G\r\n2\r\n\r\n3\r\n4\r\np\r\n",
+        "G\n\n4\n \n3\n2",
+        "f",
+        "f\r",
+        "e\r\ne\r\n",
+        "\t\ne\n",
+        "g\n\"x\"\n[]\n",
+        "g\nnull\n0",
+        " g\n p",
+        "w\r\ng",
+        "x\ng\n",
     ];
     for shape in shapes {
         for part in [1, 2, 7, 65_536] {
