@@ -1,4 +1,4 @@
-ghost use Rattle.run_model.specs.Laws.{CountedIsThePulses, EpochsRatifyOneList, FlowsBalance, StandsBetweenBoundaries, SupplyStays};
+ghost use Rattle.run_model.specs.Laws.{CountedIsThePulses, EpochsRatifyOneList, FlowsBalance, PulsesDoNotShow, StandsBetweenBoundaries, SupplyStays};
 
 /// Each record moves each pot by its flows, and nothing stays in hand, for every ledger that records reach. (The preservation of value of the formal specification)
 pub fn flows_balance()
@@ -23,4 +23,9 @@ pub fn stands_between_boundaries()
 /// What was counted is the sum of the pulses of the epoch's accepted blocks, and no more than there is to count, after every run of records. (Own)
 pub fn counted_is_the_pulses()
     ensures { CountedIsThePulses }
+{}
+
+/// Positive pulses do not show: runs of records that differ in positive pulses alone are answered the same, and leave the same ledger but for what was counted. (Own)
+pub fn pulses_do_not_show()
+    ensures { PulsesDoNotShow }
 {}
