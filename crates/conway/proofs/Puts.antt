@@ -14,7 +14,8 @@ use Rattle.maps.proofs.Ties.{same_key}
 use Rattle.maps.proofs.Fresh.{AreFresh}
 use Rattle.maps.proofs.Sums.{sum_values-with_value_absent}
 use Rattle.maps.specs.Maps.{value_at, with_value, with_values, with_key}
-use Rattle.utxo_set.specs.Utxos.{Utxos, lovelace_in}
+use Rattle.book_records.specs.Outputs.{lovelace_in}
+use Rattle.utxo_set.specs.Utxos.{Utxos}
 
 -- the book when these are put in, with their ids
 abbrev pub with_first : List (OutRef × Output) → Utxos → Utxos

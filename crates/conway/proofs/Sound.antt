@@ -21,7 +21,8 @@ use Rattle.maps.proofs.Sets.{all-without_member, IsSet-with_key, IsSet-in_order,
 use Rattle.maps.proofs.Ties.{same_key}
 use Rattle.maps.specs.Maps.{value_at, without_key, with_values, with_key, in_order, has_member}
 use Rattle.maps.specs.Words.{repeats}
-use Rattle.utxo_set.specs.Utxos.{Utxos, lovelace_in}
+use Rattle.book_records.specs.Outputs.{lovelace_in}
+use Rattle.utxo_set.specs.Utxos.{Utxos}
 use Rattle.conway.specs.declared.record.Genesis.{Genesis}
 use Rattle.tx_records.specs.declared.genesis.GenesisRule.{GenesisRule}
 use Rattle.conway.specs.declared.record.Reading.{Reading}

@@ -8,7 +8,7 @@ use Rattle.book_records.specs.declared.Output.{Output}
 use Rattle.gov_ids.specs.declared.OutRef.{OutRef}
 use Rattle.gov_ids.specs.declared.TxId.{TxId}
 use Rattle.gov_ids.specs.Orders.{outref_cmp, txid_cmp}
-use Rattle.utxo_set.specs.Utxos.{lovelace_in}
+use Rattle.book_records.specs.Outputs.{lovelace_in}
 use Rattle.conway.specs.declared.record.Genesis.{Genesis}
 use Rattle.tx_records.specs.declared.genesis.GenesisRule.{GenesisRule}
 use Rattle.tx_records.specs.declared.genesis.GenesisRule.TheVariants.{SupplyTooLarge, Repeated, SumWrong}

@@ -8,7 +8,7 @@ ghost use Rattle.conway.specs.declared.record.Reading.TheVariants as readings;
 ghost use Rattle.ledger_model.specs.Checks.{first_among};
 ghost use Rattle.conway.specs.Limits.{output_limit};
 ghost use Rattle.conway.specs.Starts.{StartsAs};
-ghost use Rattle.utxo_set.specs.Utxos.{lovelace_in};
+ghost use Rattle.book_records.specs.Outputs.{lovelace_in};
 ghost use Rattle.conway.specs.Step.{step, balance_check, first_broken, made_outputs, world_after_transfer};
 ghost use Rattle.conway.specs.World.{pots_of};
 

@@ -11,7 +11,8 @@ use Rattle.tx_records.specs.declared.tx.Tx.{Tx}
 use Rattle.tx_records.specs.declared.tx.TxOutput.{TxOutput}
 use Rattle.ledger_model.specs.World.{World}
 use Rattle.ledger_model.specs.OutputRules.{lovelace_at, is_failed, has_scripts, collateral_left, returned}
-use Rattle.ledger_model.specs.Supply.{pots_of, lovelace_in}
+use Rattle.book_records.specs.Outputs.{lovelace_in}
+use Rattle.ledger_model.specs.Supply.{pots_of}
 use Rattle.ledger_model.specs.Flows.{Pot, outputs, deposits, rewards, fees, donations, treasury, reserves, hand, Flow, flow, same_pot, sum_into, sum_from, flows_of_failed, flows_of_scripts}
 use Rattle.ledger_model.specs.Moves.{IsMovedBy}
 use Rattle.ledger_model.specs.Transaction.{after_failed, after_scripts, made_return, kept_output}

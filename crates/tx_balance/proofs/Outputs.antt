@@ -22,7 +22,7 @@ use Rattle.book_records.specs.declared.Output.{Output}
 use Rattle.ledger_model.specs.World.{World}
 use Rattle.ledger_model.specs.Checks.{Check, per_place_from}
 use Rattle.ledger_model.specs.OutputRules.{lovelace_at, is_spent_before}
-use Rattle.ledger_model.specs.Supply.{lovelace_in}
+use Rattle.book_records.specs.Outputs.{lovelace_in}
 use Rattle.ledger_model.specs.Sound.{IsSound}
 use Rattle.ledger_model.proofs.Unbroken.{IsUnbroken, unbroken-per_place}
 

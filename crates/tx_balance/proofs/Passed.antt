@@ -22,7 +22,8 @@ use Rattle.ledger_model.specs.Changes.{withdrawn, emptied, is_withdrawn}
 use Rattle.ledger_model.specs.CertRules.{withdrawal_checks, cert_checks}
 use Rattle.ledger_model.specs.ProposalRules.{proposal_checks, vote_checks}
 use Rattle.ledger_model.specs.OutputRules.{lovelace_at, is_failed, unless_failed}
-use Rattle.ledger_model.specs.Supply.{pots_of, lovelace_in, deposits_of}
+use Rattle.book_records.specs.Outputs.{lovelace_in}
+use Rattle.ledger_model.specs.Supply.{pots_of, deposits_of}
 use Rattle.ledger_model.specs.Broken.{body_checks, balance_checks, consumed, produced}
 use Rattle.ledger_model.specs.Draft.{draft_after, last_draft}
 use Rattle.ledger_model.specs.Flows.{Pot, outputs, deposits, rewards, fees, donations, treasury, reserves, hand, Flow, flow, same_pot, sum_into, sum_from, flows_of_passed, flows_of_scripts}

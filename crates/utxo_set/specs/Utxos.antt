@@ -1,19 +1,15 @@
 -- The unspent outputs and the used transaction ids, as plain lists.
-use Rattle.std.specs.Prelude.{ℕ, List}
+use Rattle.std.specs.Prelude.{List}
 use Rattle.gov_ids.specs.declared.OutRef.{OutRef}
 use Rattle.gov_ids.specs.declared.TxId.{TxId}
 use Rattle.gov_ids.specs.Orders.{outref_cmp, txid_cmp}
 use Rattle.book_records.specs.declared.Output.{Output}
-use Rattle.maps.specs.Maps.{IsMap, IsSet, sum_values}
+use Rattle.maps.specs.Maps.{IsMap, IsSet}
 
 -- the unspent outputs by reference, and the ids of the transactions that were applied, each in order
 pub record Utxos : Type 0 where
   pub outputs : List (OutRef × Output)
   pub used : List TxId
-
--- what the outputs hold together
-abbrev pub lovelace_in : List (OutRef × Output) → ℕ
-lovelace_in outputs = sum_values (λ o. o.lovelace) outputs
 
 -- each reference and each id stands once, in order
 pub record IsInOrder (u : Utxos) : Type 0 where

@@ -4,7 +4,8 @@
 ghost use Rattle.std.specs.Prelude.{◌≡◌, ◌+◌, ◌^◌, ◌<◌, [], None, option_map, OnOk, OnErr};
 ghost use Rattle.gov_ids.specs.Orders.{outref_cmp, txid_cmp};
 ghost use Rattle.maps.specs.Maps.{value_at, with_value, without_key, entry_after, has_member, with_key, without_member, key_after};
-ghost use Rattle.utxo_set.specs.Utxos.{lovelace_in, IsInOrder};
+ghost use Rattle.book_records.specs.Outputs.{lovelace_in};
+ghost use Rattle.utxo_set.specs.Utxos.{IsInOrder};
 
 pub use book_records::Output;
 use coin_frac::NoMemory;
@@ -25,7 +26,8 @@ pub struct UtxoSet {
 
 impl Model for UtxoSet {
     ghost use Rattle.std.specs.Prelude.{◌≡◌};
-    ghost use Rattle.utxo_set.specs.Utxos.{Utxos, lovelace_in, IsInOrder};
+    ghost use Rattle.book_records.specs.Outputs.{lovelace_in};
+ghost use Rattle.utxo_set.specs.Utxos.{Utxos, IsInOrder};
 
     ghost Value = { Utxos };
 

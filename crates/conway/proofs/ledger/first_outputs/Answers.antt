@@ -4,7 +4,8 @@ use Rattle.std.proofs.lemmas.List.Sums.{sum_by-drop_more}
 use Rattle.gov_ids.proofs.Totals.{outref_total}
 use Rattle.gov_ids.specs.Orders.{outref_cmp}
 use Rattle.maps.proofs.Fresh.{AreFresh, distinct_from_repeats, fresh_from_absent}
-use Rattle.utxo_set.specs.Utxos.{Utxos, lovelace_in}
+use Rattle.book_records.specs.Outputs.{lovelace_in}
+use Rattle.utxo_set.specs.Utxos.{Utxos}
 use Rattle.conway.proofs.Puts.{lovelace_at, absent_next, fresh_after, sum_after, none_in_empty, with_first-next}
 use Rattle.conway.proofs.ledger.first_outputs.Goals as goal
 

@@ -3,7 +3,7 @@ use Rattle.book_records.specs.declared.Output.{Output}
 use Rattle.gov_ids.specs.declared.OutRef.{OutRef}
 use Rattle.gov_ids.specs.Orders.{outref_cmp}
 use Rattle.maps.proofs.Fresh.{AreFresh}
-use Rattle.utxo_set.specs.Utxos.{lovelace_in}
+use Rattle.book_records.specs.Outputs.{lovelace_in}
 use Rattle.conway.proofs.Puts.{with_first}
 use Rattle.conway.proofs.ledger.first_outputs.Given as goal
 

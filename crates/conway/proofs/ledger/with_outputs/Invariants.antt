@@ -2,7 +2,7 @@ use Rattle.std.proofs.Common.{◌≡◌, ◌+◌, drop, sum_by}
 use Rattle.book_records.specs.declared.Output.{Output}
 use Rattle.gov_ids.specs.Orders.{outref_cmp}
 use Rattle.maps.proofs.Fresh.{AreFresh}
-use Rattle.utxo_set.specs.Utxos.{lovelace_in}
+use Rattle.book_records.specs.Outputs.{lovelace_in}
 use Rattle.conway.proofs.Puts.{made_from, with_made}
 use Rattle.conway.proofs.ledger.with_outputs.Given as goal
 

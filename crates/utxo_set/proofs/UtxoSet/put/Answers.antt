@@ -2,7 +2,8 @@ use Rattle.std.proofs.Common.{◌≡◌, ◌+◌, None, ap, ◌∙◌, arith}
 use Rattle.gov_ids.specs.Orders.{outref_cmp}
 use Rattle.maps.proofs.Sums.{sum_values-with_value_absent}
 use Rattle.maps.specs.Maps.{value_at, with_value}
-use Rattle.utxo_set.specs.Utxos.{Utxos, lovelace_in}
+use Rattle.book_records.specs.Outputs.{lovelace_in}
+use Rattle.utxo_set.specs.Utxos.{Utxos}
 use Rattle.utxo_set.proofs.UtxoSet.put.Goals as goal
 
 pub invariant_of-self-2 : goal.invariant_of-self-2

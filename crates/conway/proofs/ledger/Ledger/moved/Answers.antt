@@ -4,7 +4,8 @@ use Rattle.std.specs.Map.{keys_of}
 use Rattle.book_records.specs.declared.Output.{Output}
 use Rattle.gov_ids.specs.Orders.{outref_cmp}
 use Rattle.maps.specs.Maps.{value_at}
-use Rattle.utxo_set.specs.Utxos.{Utxos, lovelace_in}
+use Rattle.book_records.specs.Outputs.{lovelace_in}
+use Rattle.utxo_set.specs.Utxos.{Utxos}
 use Rattle.conway.specs.contracts.ledger.Ledger.{the_view}
 use Rattle.conway.specs.Step.{first_broken, made_outputs}
 use Rattle.conway.specs.World.{World}
