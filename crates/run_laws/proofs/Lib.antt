@@ -4,3 +4,4 @@ pub mod GoodBlock
 pub mod Start
 pub mod Reach
 pub mod Counted
+pub mod Dormant
