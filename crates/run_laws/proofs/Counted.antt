@@ -21,7 +21,7 @@ use Rattle.run_model.specs.Laws.{CountedIsThePulses}
 use Rattle.run_model.specs.Limits.{is_genesis, is_readable}
 use Rattle.run_model.specs.Runs.{accepted_records, pulse_in, world_after_all}
 use Rattle.run_model.specs.Step.{block_checks, crossed, enters_next, epoch_at, pulsed, refusal_of, step_by, world_after}
-use Rattle.run_laws.specs.Good.{IsGood}
+use Rattle.run_laws.proofs.Good.{IsGood}
 use Rattle.run_laws.proofs.Lists.{left_of, right_of, all_weaken, all_append}
 use Rattle.run_laws.proofs.GoodTx.{IsSameTime, tx_time}
 use Rattle.run_laws.proofs.GoodBlock.{boundary_epoch, boundary_length}

@@ -28,7 +28,7 @@ use Rattle.ledger_model.specs.World.{World}
 use Rattle.run_model.specs.Boundary.{update_applied, after_rewards, after_terms, after_enactment, after_payments, world_after_boundary, is_reaped, without_pool}
 use Rattle.run_model.specs.Laws.{IsCoveredUpdate}
 use Rattle.run_model.specs.Step.{pulsed, crossed, in_order_of_credential}
-use Rattle.run_laws.specs.Good.{IsGood}
+use Rattle.run_laws.proofs.Good.{IsGood}
 use Rattle.run_laws.proofs.Lists.{distinct_from}
 
 -- what the pending update leaves as it is

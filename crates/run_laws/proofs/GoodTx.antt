@@ -44,7 +44,7 @@ use Rattle.ledger_model.specs.Transaction.{after_failed, after_passed, after_scr
 use Rattle.tx_balance.proofs.Outputs.{made_not_there}
 use Rattle.tx_balance.proofs.OutputParts.{parts_of, id_is_new}
 use Rattle.run_model.specs.Laws.{IsCoveredUpdate}
-use Rattle.run_laws.specs.Good.{IsGood, IsLiveIn}
+use Rattle.run_laws.proofs.Good.{IsGood, IsLiveIn}
 use Rattle.run_laws.proofs.Lists.{or_left, or_right, all_weaken, all_append, all_with_values, own_append}
 
 -- what certificates keep of a draft

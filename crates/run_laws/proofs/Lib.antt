@@ -1,3 +1,4 @@
+pub mod Good
 pub mod Lists
 pub mod GoodTx
 pub mod GoodBlock
@@ -5,3 +6,4 @@ pub mod Start
 pub mod Reach
 pub mod Counted
 pub mod Pulses
+pub mod Dormant

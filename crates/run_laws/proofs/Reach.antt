@@ -30,7 +30,7 @@ use Rattle.run_model.specs.Runs.{IsReached, world_after_all}
 use Rattle.run_model.specs.Step.{crossed, in_order_of_credential, enters_next, pulsed, refusal_of, reward_checks, rewards_in, rewards_out, step, step_by, world_after}
 use Rattle.epoch_balance.proofs.Covered.{payments_are_covered}
 use Rattle.epoch_balance.proofs.Whole.{boundary_balances}
-use Rattle.run_laws.specs.Good.{IsGood}
+use Rattle.run_laws.proofs.Good.{IsGood}
 use Rattle.run_laws.proofs.Lists.{left_of, right_of, not_true}
 use Rattle.run_laws.proofs.GoodTx.{tx_good, tx_supply}
 use Rattle.run_laws.proofs.GoodBlock.{boundary_supply, crossed_good, pulsed_good, rewards_good}

@@ -37,7 +37,7 @@ use Rattle.ledger_model.specs.World.{World}
 use Rattle.ledger_model.specs.Supply.{supply_of}
 use Rattle.run_model.specs.Genesis.{world_of_genesis, genesis_fault, genesis_checks, genesis_sum, genesis_members, pool_ids, drep_ids}
 use Rattle.run_model.specs.Laws.{IsCoveredUpdate}
-use Rattle.run_laws.specs.Good.{IsGood}
+use Rattle.run_laws.proofs.Good.{IsGood}
 use Rattle.run_laws.proofs.Lists.{or_left, or_right, both_false, all_with_values, distinct_from}
 
 empty_sorted : {K : Type 0} (cmp : K → K → Ordering) → IsStrictlySortedBy cmp []

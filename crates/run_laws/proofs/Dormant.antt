@@ -1,0 +1,436 @@
+-- The dormant bound holds of every ledger that records reach.
+use Rattle.std.proofs.Common.{◌≡◌, ℕ, ◌+◌, ◌^◌, ◌<◌, ◌≤◌, ◌==◌, ◌⊎◌, inl, inr, List, [], ◌∷◌, ◌++◌, Bool, true, false, cond, Option, Some, None, filter, filter_map, flat_map, map, fold, take, length, unwrap_or, refl, ap, subst, ◌∙◌, arith}
+use Rattle.std.specs.List.{AllByRecursion, cons_option, enumerate_from, list_all}
+use Rattle.std.specs.Ordering.{eq_by_cmp, match_ordering}
+use Rattle.std.specs.declared.cmp.Ordering.TheVariants.{Less, Equal, Greater}
+use Rattle.std.proofs.lemmas.Bool.{ltb-true}
+use Rattle.maps.specs.Maps.{changed_where, value_at, with_value, with_values, without_key}
+use Rattle.maps.specs.Words.{is_empty, none_or}
+use Rattle.gov_ids.specs.declared.ActionId.{ActionId}
+use Rattle.gov_ids.specs.declared.Credential.{Credential}
+use Rattle.gov_ids.specs.declared.TxId.{TxId}
+use Rattle.gov_ids.specs.declared.Voter.TheVariants as voter
+use Rattle.gov_ids.specs.Orders.{credential_cmp}
+use Rattle.pparams.specs.declared.Params.{Params}
+use Rattle.pparams.specs.declared.Update.{Update}
+use Rattle.pparams.specs.Overlay.{laid_over}
+use Rattle.book_records.specs.declared.DrepState.{DrepState}
+use Rattle.gov_actions.specs.declared.action.Action.{Action}
+use Rattle.gov_actions.specs.declared.action.Action.TheVariants.{NoConfidence, UpdateCommittee, NewConstitution, HardForkInitiation, ParameterChange, TreasuryWithdrawals, Info}
+use Rattle.gov_actions.specs.declared.action.Proposal.{Proposal}
+use Rattle.gov_actions.specs.declared.state.LastIds.{LastIds}
+use Rattle.gov_actions.specs.Kinds.{priority_of}
+use Rattle.gov_model.specs.Enacted.{enacted_after, update_of}
+use Rattle.gov_model.specs.Kept.{kept_of}
+use Rattle.gov_model.specs.Ratified.{is_one_of, order_of, ratified_of}
+use Rattle.gov_model.specs.Snapshot.{Snapshot}
+use Rattle.tx_records.specs.declared.cert.Cert.{Cert}
+use Rattle.tx_records.specs.declared.cert.Cert.TheVariants.{AccountReg, AccountUnreg, Delegate, PoolReg, PoolRetire, DrepReg, DrepUnreg, DrepUpdate, HotAuth, HotResign}
+use Rattle.tx_records.specs.declared.genesis.Genesis.{Genesis}
+use Rattle.tx_records.specs.declared.record.Record.{Record}
+use Rattle.tx_records.specs.declared.record.Record.TheVariants as records
+use Rattle.tx_records.specs.declared.record.Rewards.{Rewards}
+use Rattle.tx_records.specs.declared.reply.Rule.{Rule}
+use Rattle.tx_records.specs.declared.tx.ProposalRecord.{ProposalRecord}
+use Rattle.tx_records.specs.declared.tx.Scripts.{Scripts}
+use Rattle.tx_records.specs.declared.tx.Scripts.TheVariants.{Absent, Passed, Failed}
+use Rattle.tx_records.specs.declared.tx.Tx.{Tx}
+use Rattle.ledger_model.specs.World.{World}
+use Rattle.ledger_model.specs.Changes.{changed_by, dormant_added, extended, fresh_expiry, has_voted, having_acted, is_kept_active, new_drep, refreshed, voters_refreshed, withdrawn, without_vote_of}
+use Rattle.ledger_model.specs.Draft.{draft_with, is_refused, last_draft}
+use Rattle.ledger_model.specs.Transaction.{after_failed, after_passed, after_scripts, made_proposal, made_proposals, with_votes, world_after_tx}
+use Rattle.run_model.specs.Boundary.{after_members, after_rewards, update_applied, world_after_boundary}
+use Rattle.run_model.specs.Genesis.{world_of_genesis}
+use Rattle.run_model.specs.Laws.{DormantBound}
+use Rattle.run_model.specs.Limits.{are_params, is_action, is_genesis, is_readable, is_slot, is_tx, is_u32}
+use Rattle.run_model.specs.Runs.{IsReached, world_after_all}
+use Rattle.run_model.specs.Step.{crossed, enters_next, in_order_of_credential, pulsed, refusal_of, step, step_by, world_after}
+use Rattle.run_laws.proofs.Lists.{all_append, all_weaken, left_of, right_of}
+
+-- what holds of each item, after a map and after a filter
+module _ {A : Type 0} (P : A → Type 0) where
+  all_made : {B : Type 0} (Q : B → Type 0) (f : A → B) → ((x : A) → P x → Q (f x)) → (xs : List A) → AllByRecursion P xs → AllByRecursion Q (map f xs)
+  all_made Q f k [] h = tt
+  all_made Q f k (x ∷ xs) h = (k x h.0, all_made Q f k xs h.1)
+
+  all_passing : (p : A → Bool) (xs : List A) → AllByRecursion P xs → AllByRecursion P (filter p xs)
+  all_passing p [] h = tt
+  all_passing p (x ∷ xs) h = elim (p x) as (λ b. AllByRecursion P (cond b (x ∷ filter p xs) (filter p xs))) [
+    | true ↦ (h.0, all_passing p xs h.1)
+    | false ↦ all_passing p xs h.1
+  ]
+
+-- what holds of each DRep of a map
+abbrev EachDrep : (DrepState → Type 0) → List (Credential × DrepState) → Type 0
+EachDrep P es = AllByRecursion (λ (e : Credential × DrepState). P e.1) es
+
+-- what holds of each value of a map after a change
+module _ (P : DrepState → Type 0) where
+  by_test : (b : Bool) (x y : DrepState) → P x → P y → P (cond b x y)
+  by_test true x y h k = h
+  by_test false x y h k = k
+
+  each_with_value : (k : Credential) (v : DrepState) (es : List (Credential × DrepState)) → P v → EachDrep P es → EachDrep P (with_value credential_cmp k v es)
+  each_with_value k v [] p h = (p, tt)
+  each_with_value k v (e ∷ es) p h =
+      elim (credential_cmp k e.0) as (λ r. EachDrep P (match_ordering r ((k, v) ∷ e ∷ es) ((e.0, v) ∷ es) (e ∷ with_value credential_cmp k v es))) [
+        | Less ↦ (p, h)
+        | Equal ↦ (p, h.1)
+        | Greater ↦ (h.0, each_with_value k v es p h.1)
+      ]
+
+  each_with_values : (new es : List (Credential × DrepState)) → EachDrep P new → EachDrep P es → EachDrep P (with_values credential_cmp new es)
+  each_with_values [] es p h = h
+  each_with_values (e ∷ new) es p h = each_with_values new (with_value credential_cmp e.0 e.1 es) p.1 (each_with_value e.0 e.1 es p.0 h)
+
+  each_without_key : (k : Credential) (es : List (Credential × DrepState)) → EachDrep P es → EachDrep P (without_key credential_cmp k es)
+  each_without_key k [] h = tt
+  each_without_key k (e ∷ es) h = elim (eq_by_cmp credential_cmp k e.0) as (λ b. EachDrep P (cond b es (e ∷ without_key credential_cmp k es))) [
+    | true ↦ h.1
+    | false ↦ (h.0, each_without_key k es h.1)
+  ]
+
+  found_by : (b : Bool) (v x : DrepState) (rest : Option DrepState) → P v → (rest ≡ Some x → P x) → cond b (Some v) rest ≡ Some x → P x
+  found_by true v x rest p k e = let is : v ≡ x = cc in subst P is p
+  found_by false v x rest p k e = k e
+
+  each_found : (es : List (Credential × DrepState)) (k : Credential) (x : DrepState) → EachDrep P es → value_at credential_cmp es k ≡ Some x → P x
+  each_found [] k x h e = cc
+  each_found (v ∷ es) k x h e = found_by (eq_by_cmp credential_cmp k v.0) v.1 x (value_at credential_cmp es k) h.0 (λ d. each_found es k x h.1 d) e
+
+-- the same where some values change, and the claim with them
+each_changed : (P Q : DrepState → Type 0) (p : Credential → DrepState → Bool) (f : DrepState → DrepState) → ((x : DrepState) → P x → Q (f x)) → ((x : DrepState) → P x → Q x)
+    → (es : List (Credential × DrepState)) → EachDrep P es → EachDrep Q (changed_where p f es)
+each_changed P Q p f k l [] h = tt
+each_changed P Q p f k l (e ∷ es) h = (by_test Q (p e.0 e.1) (f e.1) e.1 (k e.1 h.0) (l e.1 h.0), each_changed P Q p f k l es h.1)
+
+-- no epoch is dormant, or no proposal is live
+abbrev IsAwake : ℕ → List Proposal → Type 0
+IsAwake dormant ps = (dormant ≡ 0) ⊎ (ps ≡ [])
+
+awake_made : (f : Proposal → Proposal) (dormant : ℕ) (ps : List Proposal) → IsAwake dormant ps → IsAwake dormant (map f ps)
+awake_made f dormant ps (inl e) = inl e
+awake_made f dormant ps (inr e) = inr (ap (λ (l : List Proposal). map f l) e)
+
+-- certificates leave the dormant count
+cert_dormant : (c : Cert) (d : World) → (changed_by c d).dormant ≡ d.dormant
+cert_dormant (AccountReg cred deposit pool drep) d = refl
+cert_dormant (AccountUnreg cred refund) d = refl
+cert_dormant (Delegate cred pool drep) d = refl
+cert_dormant (PoolReg pool cost pledge margin account) d = refl
+cert_dormant (PoolRetire pool epoch) d = refl
+cert_dormant (DrepReg cred deposit) d = refl
+cert_dormant (DrepUnreg cred refund) d = refl
+cert_dormant (DrepUpdate cred) d = refl
+cert_dormant (HotAuth cold key) d = refl
+cert_dormant (HotResign cold) d = refl
+
+either_dormant : (b : Bool) (c : Cert) (d : World) → (cond b d (changed_by c d)).dormant ≡ d.dormant
+either_dormant true c d = refl
+either_dormant false c d = cert_dormant c d
+
+certs_dormant : (w : World) (cs : List Cert) (d : World) → (fold (draft_with w) d cs).dormant ≡ d.dormant
+certs_dormant w [] d = refl
+certs_dormant w (c ∷ cs) d = certs_dormant w cs (draft_with w d c) ∙ either_dormant (is_refused w d c) c d
+
+-- a proposal ends the dormant epochs
+awake_after : (w : World) (id : TxId) (ps : List ProposalRecord) (old : List Proposal) (dormant : ℕ) → IsAwake dormant old → (is_empty ps ≡ false → dormant ≡ 0)
+    → IsAwake dormant (old ++ map (λ p. made_proposal w id p.0 p.1) (enumerate_from 0 ps))
+awake_after w id [] old dormant (inl e) k = inl e
+awake_after w id [] old dormant (inr e) k = inr (ap (λ (l : List Proposal). l ++ []) e)
+awake_after w id (p ∷ ps) old dormant a k = inl (k refl)
+
+refresh_dormant : (b : Bool) (tx : Tx) (v : World) → b ≡ false → (voters_refreshed tx (cond b v (dormant_added v))).dormant ≡ 0
+refresh_dormant true tx v e = cc
+refresh_dormant false tx v e = refl
+
+-- where there was no proposal the boundary keeps none, and it counts an epoch only where none is left
+none_kept : (dormant : ℕ) (ps : List Proposal) (enacted expired : List ActionId) (last : LastIds) → IsAwake dormant ps → IsAwake dormant (kept_of ps enacted expired last)
+none_kept dormant ps enacted expired last (inl e) = inl e
+none_kept dormant ps enacted expired last (inr e) = inr (ap (λ (l : List Proposal). kept_of l enacted expired last) e)
+
+noted_awake : (ps : List Proposal) (dormant : ℕ) → IsAwake dormant ps → IsAwake (cond (is_empty ps) (dormant + 1) dormant) ps
+noted_awake [] dormant a = inr refl
+noted_awake (p ∷ ps) dormant (inl e) = inl e
+noted_awake (p ∷ ps) dormant (inr e) = cc
+
+noted_most : (b : Bool) (n : ℕ) → cond b (n + 1) n ≤ n + 1
+noted_most true n = omega arith
+noted_most false n = omega arith
+
+-- updates and proposals that set no activity past a limit
+module _ (most : ℕ) where
+  abbrev IsActive : Option ℕ → Type 0
+  IsActive None = Unit {0}
+  IsActive (Some n) = n ≤ most
+
+  abbrev IsActiveUpdate : Option Update → Type 0
+  IsActiveUpdate None = Unit {0}
+  IsActiveUpdate (Some u) = IsActive u.drep_activity
+
+  abbrev IsActiveAction : Action → Type 0
+  IsActiveAction a = IsActiveUpdate (update_of a)
+
+  abbrev AreActive : List Proposal → Type 0
+  AreActive ps = AllByRecursion (λ (p : Proposal). IsActiveAction p.action) ps
+
+  abbrev AreActiveRecords : List ProposalRecord → Type 0
+  AreActiveRecords ps = AllByRecursion (λ (p : ProposalRecord). IsActiveAction p.action) ps
+
+  made_live : (w : World) (id : TxId) (n : ℕ) (ps : List ProposalRecord) → AreActiveRecords ps
+      → AreActive (map (λ p. made_proposal w id p.0 p.1) (enumerate_from n ps))
+  made_live w id n [] h = tt
+  made_live w id n (p ∷ ps) h = (h.0, made_live w id (n + 1) ps h.1)
+
+  -- enacting such proposals leaves the activity within its range
+  overlaid : (o : Option ℕ) (n : ℕ) → n ≤ most → IsActive o → unwrap_or o n ≤ most
+  overlaid None n h k = h
+  overlaid (Some m) n h k = k
+
+  one_overlaid : (o : Option Update) (rest : List Update) (s : Params) → s.drep_activity ≤ most → IsActiveUpdate o
+      → ((t : Params) → t.drep_activity ≤ most → (fold laid_over t rest).drep_activity ≤ most) → (fold laid_over s (cons_option o rest)).drep_activity ≤ most
+  one_overlaid None rest s h a k = k s h
+  one_overlaid (Some u) rest s h a k = k (laid_over s u) (overlaid u.drep_activity s.drep_activity h a)
+
+  abbrev updates_of : List Proposal → List Update
+  updates_of es = filter_map (λ (a : ActionId × Action). update_of a.1) (map (λ (a : Proposal). (a.id, a.action)) es)
+
+  all_overlaid : (es : List Proposal) (s : Params) → s.drep_activity ≤ most → AreActive es → (fold laid_over s (updates_of es)).drep_activity ≤ most
+  all_overlaid [] s h a = h
+  all_overlaid (p ∷ es) s h a = one_overlaid (update_of p.action) (updates_of es) s h a.0 (λ t k. all_overlaid es t k a.1)
+
+  in_order_active : (ns : List ℕ) (ps : List Proposal) → AreActive ps → AreActive (flat_map (λ (n : ℕ). filter (λ (p : Proposal). priority_of p.action == n) ps) ns)
+  in_order_active [] ps h = tt
+  in_order_active (n ∷ ns) ps h =
+      all_append (λ (p : Proposal). IsActiveAction p.action) (filter (λ (p : Proposal). priority_of p.action == n) ps) _ (all_passing (λ (p : Proposal). IsActiveAction p.action) (λ (p : Proposal). priority_of p.action == n) ps h) (in_order_active ns ps h)
+
+  enacted_active : (f : Snapshot) → f.start.params.drep_activity ≤ most → AreActive f.proposals
+      → (enacted_after f (filter (is_one_of (ratified_of f)) (order_of f))).params.drep_activity ≤ most
+  enacted_active f h a =
+      all_overlaid (filter (is_one_of (ratified_of f)) (order_of f)) f.start.params h
+      (all_passing (λ (p : Proposal). IsActiveAction p.action) (is_one_of (ratified_of f)) (order_of f) (in_order_active (0 ∷ 1 ∷ 2 ∷ 3 ∷ 4 ∷ 5 ∷ 6 ∷ []) f.proposals a))
+
+-- the bound: expiries begin within top, and activities are within most
+module _ (top most : ℕ) where
+  abbrev IsTimely : ℕ → ℕ → DrepState → Type 0
+  IsTimely dormant epoch d = d.expiry + dormant ≤ top + most + epoch
+
+  -- the law, with the activity of the parameters that live and frozen proposals leave within its range
+  record IsWithin (w : World) : Type 0 where
+    awake : IsAwake w.dormant w.proposals
+    at_most : w.dormant ≤ w.epoch
+    dreps : EachDrep (IsTimely w.dormant w.epoch) w.dreps
+    activity : w.state.params.drep_activity ≤ most
+    start : w.frozen.start.params.drep_activity ≤ most
+    live : AreActive most w.proposals
+    frozen : AreActive most w.frozen.proposals
+
+  fresh_is_timely : (w : World) → IsWithin w → fresh_expiry w + w.dormant ≤ top + most + w.epoch
+  fresh_is_timely w h = omega (arith, h.at_most, h.activity)
+
+  -- where only the DReps change
+  dreps_within : (w : World) (es : List (Credential × DrepState)) → IsWithin w → EachDrep (IsTimely w.dormant w.epoch) es → IsWithin (record w { dreps = es })
+  dreps_within w es h d = record { awake = h.awake; at_most = h.at_most; dreps = d; activity = h.activity; start = h.start; live = h.live; frozen = h.frozen }
+
+  acted_within : (p : Credential → DrepState → Bool) (w : World) → IsWithin w → IsWithin (record w { dreps = changed_where p (having_acted w) w.dreps })
+  acted_within p w h =
+      dreps_within w (changed_where p (having_acted w) w.dreps) h
+      (each_changed (IsTimely w.dormant w.epoch) (IsTimely w.dormant w.epoch) p (having_acted w) (λ x k. fresh_is_timely w h) (λ x k. k) w.dreps h.dreps)
+
+  cert_within : (c : Cert) (w : World) → IsWithin w → IsWithin (changed_by c w)
+  cert_within (AccountReg cred deposit pool drep) w h = record { awake = h.awake; at_most = h.at_most; dreps = h.dreps; activity = h.activity; start = h.start; live = h.live; frozen = h.frozen }
+  cert_within (AccountUnreg cred refund) w h = record { awake = h.awake; at_most = h.at_most; dreps = h.dreps; activity = h.activity; start = h.start; live = h.live; frozen = h.frozen }
+  cert_within (Delegate cred pool drep) w h = record { awake = h.awake; at_most = h.at_most; dreps = h.dreps; activity = h.activity; start = h.start; live = h.live; frozen = h.frozen }
+  cert_within (PoolReg pool cost pledge margin account) w h = record { awake = h.awake; at_most = h.at_most; dreps = h.dreps; activity = h.activity; start = h.start; live = h.live; frozen = h.frozen }
+  cert_within (PoolRetire pool epoch) w h = record { awake = h.awake; at_most = h.at_most; dreps = h.dreps; activity = h.activity; start = h.start; live = h.live; frozen = h.frozen }
+  cert_within (DrepReg cred deposit) w h =
+      dreps_within w (with_value credential_cmp cred (new_drep w) w.dreps) h (each_with_value (IsTimely w.dormant w.epoch) cred (new_drep w) w.dreps (fresh_is_timely w h) h.dreps)
+  cert_within (DrepUnreg cred refund) w h =
+      record {
+        awake = awake_made (without_vote_of (voter.Drep cred)) w.dormant w.proposals h.awake;
+        at_most = h.at_most;
+        dreps = each_without_key (IsTimely w.dormant w.epoch) cred w.dreps h.dreps;
+        activity = h.activity;
+        start = h.start;
+        live = all_made (λ (p : Proposal). IsActiveAction most p.action) (λ (p : Proposal). IsActiveAction most p.action) (without_vote_of (voter.Drep cred)) (λ p k. k) w.proposals h.live;
+        frozen = h.frozen;
+      }
+  cert_within (DrepUpdate cred) w h = acted_within (λ q x. eq_by_cmp credential_cmp cred q) w h
+  cert_within (HotAuth cold key) w h = record { awake = h.awake; at_most = h.at_most; dreps = h.dreps; activity = h.activity; start = h.start; live = h.live; frozen = h.frozen }
+  cert_within (HotResign cold) w h = record { awake = h.awake; at_most = h.at_most; dreps = h.dreps; activity = h.activity; start = h.start; live = h.live; frozen = h.frozen }
+
+  either_within : (b : Bool) (c : Cert) (d : World) → IsWithin d → IsWithin (cond b d (changed_by c d))
+  either_within true c d h = h
+  either_within false c d h = cert_within c d h
+
+  certs_within : (w : World) (cs : List Cert) (d : World) → IsWithin d → IsWithin (fold (draft_with w) d cs)
+  certs_within w [] d h = h
+  certs_within w (c ∷ cs) d h = certs_within w cs (draft_with w d c) (either_within (is_refused w d c) c d h)
+
+  -- the refresh
+  withdrawn_within : (tx : Tx) (w : World) → IsWithin w → IsWithin (withdrawn tx w)
+  withdrawn_within tx w h = record { awake = h.awake; at_most = h.at_most; dreps = h.dreps; activity = h.activity; start = h.start; live = h.live; frozen = h.frozen }
+
+  added_within : (w : World) → IsWithin w → IsWithin (dormant_added w)
+  added_within w h =
+      record {
+        awake = inl refl;
+        at_most = omega arith;
+        dreps = each_changed (IsTimely w.dormant w.epoch) (IsTimely 0 w.epoch) (λ c d. is_kept_active w d) (extended w) (λ x k. omega (arith, k)) (λ x k. omega (arith, k)) w.dreps h.dreps;
+        activity = h.activity;
+        start = h.start;
+        live = h.live;
+        frozen = h.frozen;
+      }
+
+  refresh_within : (b : Bool) (tx : Tx) (w : World) → IsWithin w → IsWithin (voters_refreshed tx (cond b w (dormant_added w)))
+  refresh_within true tx w h = acted_within (λ c d. has_voted tx c) w h
+  refresh_within false tx w h = acted_within (λ c d. has_voted tx c) (dormant_added w) (added_within w h)
+
+  draft_within : (tx : Tx) (w : World) → IsWithin w → IsWithin (last_draft w tx)
+  draft_within tx w h =
+      certs_within w (take (length tx.certs) tx.certs) (refreshed tx (withdrawn tx w)) (refresh_within (is_empty tx.proposals) tx (withdrawn tx w) (withdrawn_within tx w h))
+
+  passed_within : (w : World) (tx : Tx) → IsWithin w → AreActiveRecords most tx.proposals → IsWithin (after_passed w tx)
+  passed_within w tx h new =
+      let d : World = last_draft w tx in
+      let k : IsWithin d = draft_within tx w h in
+      record {
+        awake = awake_after w tx.id tx.proposals (map (with_votes tx) d.proposals) d.dormant (awake_made (with_votes tx) d.dormant d.proposals k.awake) (
+            λ e. certs_dormant w (take (length tx.certs) tx.certs) (refreshed tx (withdrawn tx w)) ∙ refresh_dormant (is_empty tx.proposals) tx (withdrawn tx w) e
+            );
+        at_most = k.at_most;
+        dreps = k.dreps;
+        activity = k.activity;
+        start = k.start;
+        live = all_append (λ (p : Proposal). IsActiveAction most p.action) (map (with_votes tx) d.proposals) (made_proposals w tx) (all_made (λ (p : Proposal). IsActiveAction most p.action) (λ (p : Proposal). IsActiveAction most p.action) (with_votes tx) (λ p k. k) d.proposals k.live) (made_live most w tx.id 0 tx.proposals new);
+        frozen = k.frozen;
+      }
+
+  failed_within : (w : World) (tx : Tx) → IsWithin w → IsWithin (after_failed w tx)
+  failed_within w tx h = record { awake = h.awake; at_most = h.at_most; dreps = h.dreps; activity = h.activity; start = h.start; live = h.live; frozen = h.frozen }
+
+  by_scripts : (sc : Scripts) (w : World) (tx : Tx) → IsWithin (after_failed w tx) → IsWithin (after_passed w tx) → IsWithin (after_scripts sc w tx)
+  by_scripts Absent w tx f p = p
+  by_scripts Passed w tx f p = p
+  by_scripts Failed w tx f p = f
+
+  tx_within : (w : World) (tx : Tx) → IsWithin w → AreActiveRecords most tx.proposals → IsWithin (world_after_tx w tx)
+  tx_within w tx h new = by_scripts tx.scripts w tx (failed_within w tx h) (passed_within w tx h new)
+
+  -- the boundary
+  update_within : (o : Option Rewards) (w : World) → IsWithin w → IsWithin (update_applied o w)
+  update_within None w h = h
+  update_within (Some u) w h = record { awake = h.awake; at_most = h.at_most; dreps = h.dreps; activity = h.activity; start = h.start; live = h.live; frozen = h.frozen }
+
+  boundary_within : (w : World) → IsWithin w → IsWithin (world_after_boundary w)
+  boundary_within w h =
+      let v : World = after_rewards w in
+      let k : IsWithin v = update_within w.pending w h in
+      let kept : List Proposal = (after_members w).proposals in
+      let most_now : cond (is_empty kept) (v.dormant + 1) v.dormant ≤ v.dormant + 1 = noted_most (is_empty kept) v.dormant in
+      let activity : (world_after_boundary w).state.params.drep_activity ≤ most = enacted_active most v.frozen k.start k.frozen in
+      let live : AreActive most kept = all_passing (λ (p : Proposal). IsActiveAction most p.action) _ _ (all_passing (λ (p : Proposal). IsActiveAction most p.action) _ v.proposals k.live) in
+      record {
+        awake = noted_awake kept v.dormant (none_kept v.dormant v.proposals _ _ _ k.awake);
+        at_most = omega (arith, most_now, k.at_most);
+        dreps = all_weaken (λ (e : Credential × DrepState). IsTimely v.dormant v.epoch e.1) (λ (e : Credential × DrepState). IsTimely (cond (is_empty kept) (v.dormant + 1) v.dormant) (v.epoch + 1) e.1) (λ e l. omega (arith, l, most_now)) v.dreps k.dreps;
+        activity = activity;
+        start = activity;
+        live = live;
+        frozen = live;
+      }
+
+  crossed_within : (b : Bool) (w : World) → IsWithin w → IsWithin (crossed b w)
+  crossed_within true w h = boundary_within w h
+  crossed_within false w h = h
+
+  pulsed_within : (slot pulse : ℕ) (w : World) → IsWithin w → IsWithin (pulsed slot pulse w)
+  pulsed_within slot pulse w h = record { awake = h.awake; at_most = h.at_most; dreps = h.dreps; activity = h.activity; start = h.start; live = h.live; frozen = h.frozen }
+
+  pending_within : (u : Rewards) (w : World) → IsWithin w → IsWithin (record w { pending = Some (in_order_of_credential u) })
+  pending_within u w h = record { awake = h.awake; at_most = h.at_most; dreps = h.dreps; activity = h.activity; start = h.start; live = h.live; frozen = h.frozen }
+
+-- the bound of the law
+abbrev IsBounded : World → Type 0
+IsBounded w = IsWithin (2 ^ 62) (2 ^ 32) w
+
+-- what reading gives of activities
+short : (n : ℕ) → is_u32 n ≡ true → n ≤ 2 ^ 32
+short n h = let less : n < 2 ^ 32 = ltb-true n (2 ^ 32) h in omega (arith, less)
+
+short_option : (o : Option ℕ) → none_or is_u32 o ≡ true → IsActive (2 ^ 32) o
+short_option None h = tt
+short_option (Some n) h = short n h
+
+action_active : (a : Action) → is_action a ≡ true → IsActiveAction (2 ^ 32) a
+action_active (NoConfidence previous) h = tt
+action_active (UpdateCommittee previous remove add threshold) h = tt
+action_active (NewConstitution previous document script) h = tt
+action_active (HardForkInitiation previous version) h = tt
+action_active (ParameterChange previous update policy) h = short_option update.drep_activity (right_of _ _ (left_of _ _ h))
+action_active (TreasuryWithdrawals targets policy) h = tt
+action_active Info h = tt
+
+actions_active : (ps : List ProposalRecord) → list_all (λ (p : ProposalRecord). is_action p.action) ps ≡ true → AreActiveRecords (2 ^ 32) ps
+actions_active [] h = tt
+actions_active (p ∷ ps) h = (action_active p.action (left_of _ _ h), actions_active ps (right_of _ _ h))
+
+tx_active : (tx : Tx) → is_tx tx ≡ true → AreActiveRecords (2 ^ 32) tx.proposals
+tx_active tx h = actions_active tx.proposals (right_of _ _ (left_of _ _ (left_of _ _ (left_of _ _ (left_of _ _ (left_of _ _ (left_of _ _ h)))))))
+
+-- the genesis
+abbrev Drep3 : Type 0
+Drep3 = Credential × ℕ × ℕ
+
+abbrev as_entry : Drep3 → Credential × DrepState
+as_entry d = (d.0, record { deposit = d.1; expiry = d.2 })
+
+early : (n epoch : ℕ) → is_slot n ≡ true → n + 0 ≤ 2 ^ 62 + 2 ^ 32 + epoch
+early n epoch h = let less : n < 2 ^ 62 = ltb-true n (2 ^ 62) h in omega (arith, less)
+
+all_early : (epoch : ℕ) (ds : List Drep3) → list_all (λ (d : Drep3). is_slot d.2) ds ≡ true → EachDrep (IsTimely (2 ^ 62) (2 ^ 32) 0 epoch) (map as_entry ds)
+all_early epoch [] h = tt
+all_early epoch (d ∷ ds) h = (early d.2 epoch (left_of _ _ h), all_early epoch ds (right_of _ _ h))
+
+at_least_none : (n : ℕ) → 0 ≤ n
+at_least_none n = omega arith
+
+genesis_bounded : (g : Genesis) → is_genesis g ≡ true → IsBounded (world_of_genesis g)
+genesis_bounded g h =
+    let params : are_params g.params ≡ true = right_of _ _ (left_of _ _ h) in
+    let activity : g.params.drep_activity ≤ 2 ^ 32 = short g.params.drep_activity (right_of _ _ (left_of _ _ params)) in
+    let expiries : list_all (λ (d : Drep3). is_slot d.2) g.dreps ≡ true = right_of _ _ (left_of _ _ (left_of _ _ h)) in
+    record {
+      awake = inl refl;
+      at_most = at_least_none (world_of_genesis g).epoch;
+      dreps = each_with_values (IsTimely (2 ^ 62) (2 ^ 32) 0 (world_of_genesis g).epoch) (map as_entry g.dreps) [] (all_early (world_of_genesis g).epoch g.dreps expiries) tt;
+      activity = activity;
+      start = activity;
+      live = tt;
+      frozen = tt;
+    }
+
+-- each record
+accepted_bounded : (w : World) (r : Record) → IsBounded w → is_readable r ≡ true → IsBounded (world_after w r)
+accepted_bounded w (records.Genesis g) b h = b
+accepted_bounded w (records.Block slot pulse) b h = pulsed_within (2 ^ 62) (2 ^ 32) slot pulse (crossed (enters_next w slot) w) (crossed_within (2 ^ 62) (2 ^ 32) (enters_next w slot) w b)
+accepted_bounded w (records.Rewards u) b h = pending_within (2 ^ 62) (2 ^ 32) u w b
+accepted_bounded w (records.Tx tx) b h = tx_within (2 ^ 62) (2 ^ 32) w tx b (tx_active tx h)
+accepted_bounded w (records.Print what) b h = b
+
+bounded_by : (o : Option Rule) (w : World) (r : Record) → IsBounded w → is_readable r ≡ true → IsBounded (step_by o w r).0
+bounded_by (Some rule) w r b h = b
+bounded_by None w r b h = accepted_bounded w r b h
+
+all_bounded : (rs : List Record) (w : World) → IsBounded w → list_all is_readable rs ≡ true → IsBounded (world_after_all w rs)
+all_bounded [] w b h = b
+all_bounded (r ∷ rs) w b h = all_bounded rs (step w r).0 (bounded_by (refusal_of w r) w r b (left_of _ _ h)) (right_of _ _ h)
+
+reached_bounded : (w : World) → IsReached w → IsBounded w
+reached_bounded w h = subst (λ (v : World). IsBounded v) h.reached (all_bounded h.records (world_of_genesis h.genesis) (genesis_bounded h.genesis h.readable) h.all_readable)
+
+pub dormant_bound : DormantBound
+dormant_bound w h =
+    let b : IsBounded w = reached_bounded w h in
+    record { awake = b.awake; at_most = b.at_most; expiries = λ c d e. each_found (IsTimely (2 ^ 62) (2 ^ 32) w.dormant w.epoch) w.dreps c d b.dreps e }
