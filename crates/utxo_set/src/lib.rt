@@ -27,7 +27,7 @@ pub struct UtxoSet {
 impl Model for UtxoSet {
     ghost use Rattle.std.specs.Prelude.{◌≡◌};
     ghost use Rattle.book_records.specs.Outputs.{lovelace_in};
-ghost use Rattle.utxo_set.specs.Utxos.{Utxos, IsInOrder};
+    ghost use Rattle.utxo_set.specs.Utxos.{Utxos, IsInOrder};
 
     ghost Value = { Utxos };
 
