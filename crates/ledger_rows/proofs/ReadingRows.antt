@@ -4,7 +4,8 @@ use Rattle.std.specs.Fmt.{digits}
 use Rattle.hex.specs.Hex.{encode_with}
 use Rattle.tx_records.specs.declared.field.FieldName.TheVariants as field
 use Rattle.tx_records.specs.declared.record.Record.TheVariants as records
-use Rattle.text_model.specs.Runs.{Reading, Read, Malformed, TooLong}
+use Rattle.tx_records.specs.declared.record.Reading.{Reading}
+use Rattle.tx_records.specs.declared.record.Reading.TheVariants.{Read, Malformed, TooLong}
 use Rattle.ledger_rows.proofs.Base.{base, says}
 
 abbrev no_records_input : List (ℕ × Reading)

@@ -1,3 +1,6 @@
+ghost use Rattle.std.specs.Prelude.{◌≡◌};
+ghost use Rattle.tx_records.specs.FieldTexts.{text_of_field};
+
 /// What of a line can be wrong: that it is no JSON value, its kind, or a field of its record. (Own)
 #[derive(Clone, Copy, Debug, PartialEq, Eq)]
 pub enum FieldName {
@@ -42,4 +45,54 @@ pub enum FieldName {
     Certs,
     Proposals,
     Votes,
+}
+
+impl FieldName {
+    /// The name as a record writes it.
+    pub fn text(&self) -> &'static str
+        ensures { result.now ≡ text_of_field self.now }
+    {
+        match self {
+            FieldName::Json => "json",
+            FieldName::Kind => "kind",
+            FieldName::Network => "network",
+            FieldName::Slot => "slot",
+            FieldName::EpochLength => "epochLength",
+            FieldName::Version => "version",
+            FieldName::Supply => "supply",
+            FieldName::Reserves => "reserves",
+            FieldName::Treasury => "treasury",
+            FieldName::Params => "params",
+            FieldName::Document => "document",
+            FieldName::Script => "script",
+            FieldName::Committee => "committee",
+            FieldName::Outputs => "outputs",
+            FieldName::Accounts => "accounts",
+            FieldName::Pools => "pools",
+            FieldName::Dreps => "dreps",
+            FieldName::Pulse => "pulse",
+            FieldName::Epoch => "epoch",
+            FieldName::FromReserves => "fromReserves",
+            FieldName::FromFees => "fromFees",
+            FieldName::ToTreasury => "toTreasury",
+            FieldName::Rewards => "rewards",
+            FieldName::What => "what",
+            FieldName::Id => "id",
+            FieldName::Inputs => "inputs",
+            FieldName::Fee => "fee",
+            FieldName::Size => "size",
+            FieldName::ScriptFee => "scriptFee",
+            FieldName::Witnessed => "witnessed",
+            FieldName::Scripts => "scripts",
+            FieldName::From => "from",
+            FieldName::Until => "until",
+            FieldName::Collateral => "collateral",
+            FieldName::CollateralReturn => "collateralReturn",
+            FieldName::Donation => "donation",
+            FieldName::Withdrawals => "withdrawals",
+            FieldName::Certs => "certs",
+            FieldName::Proposals => "proposals",
+            FieldName::Votes => "votes",
+        }
+    }
 }
