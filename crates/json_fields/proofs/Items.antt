@@ -1,0 +1,62 @@
+-- The entries of a JSON array, as the code sees them.
+use Rattle.std.proofs.Common.{◌≡◌, ◌≢◌, List, [], ◌∷◌, length, get_or, Some, None, refl, arith}
+use Rattle.serde_json.specs.View.{items_view, view}
+use Rattle.serde_json.specs.declared.value.Value.{Value}
+use Rattle.json_fields.specs.Kinds.{two_of, three_of, four_of, five_of, six_of}
+
+-- an array of another length has no two entries
+pub not_two : (xs : List Value) → length xs ≢ 2 → two_of (items_view xs) ≡ None
+not_two [] h = refl
+not_two (a ∷ []) h = refl
+not_two (a ∷ b ∷ []) h = absurd (h refl)
+not_two (a ∷ b ∷ c ∷ xs) h = refl
+
+-- an array of another length has no three entries
+pub not_three : (xs : List Value) → length xs ≢ 3 → three_of (items_view xs) ≡ None
+not_three [] h = refl
+not_three (a ∷ []) h = refl
+not_three (a ∷ b ∷ []) h = refl
+not_three (a ∷ b ∷ c ∷ []) h = absurd (h refl)
+not_three (a ∷ b ∷ c ∷ d ∷ xs) h = refl
+
+-- an array of another length has no four entries
+pub not_four : (xs : List Value) → length xs ≢ 4 → four_of (items_view xs) ≡ None
+not_four [] h = refl
+not_four (a ∷ []) h = refl
+not_four (a ∷ b ∷ []) h = refl
+not_four (a ∷ b ∷ c ∷ []) h = refl
+not_four (a ∷ b ∷ c ∷ d ∷ []) h = absurd (h refl)
+not_four (a ∷ b ∷ c ∷ d ∷ e ∷ xs) h = refl
+
+-- an array of another length has no five entries
+pub not_five : (xs : List Value) → length xs ≢ 5 → five_of (items_view xs) ≡ None
+not_five [] h = refl
+not_five (a ∷ []) h = refl
+not_five (a ∷ b ∷ []) h = refl
+not_five (a ∷ b ∷ c ∷ []) h = refl
+not_five (a ∷ b ∷ c ∷ d ∷ []) h = refl
+not_five (a ∷ b ∷ c ∷ d ∷ e ∷ []) h = absurd (h refl)
+not_five (a ∷ b ∷ c ∷ d ∷ e ∷ f ∷ xs) h = refl
+
+-- an array of another length has no six entries
+pub not_six : (xs : List Value) → length xs ≢ 6 → six_of (items_view xs) ≡ None
+not_six [] h = refl
+not_six (a ∷ []) h = refl
+not_six (a ∷ b ∷ []) h = refl
+not_six (a ∷ b ∷ c ∷ []) h = refl
+not_six (a ∷ b ∷ c ∷ d ∷ []) h = refl
+not_six (a ∷ b ∷ c ∷ d ∷ e ∷ []) h = refl
+not_six (a ∷ b ∷ c ∷ d ∷ e ∷ f ∷ []) h = absurd (h refl)
+not_six (a ∷ b ∷ c ∷ d ∷ e ∷ f ∷ g ∷ xs) h = refl
+
+-- an array of that length has them
+pub is_six : (xs : List Value) (a b c d e f : Value) → length xs ≡ 6
+    → six_of (items_view xs) ≡ Some (view (get_or xs 0 a), view (get_or xs 1 b), view (get_or xs 2 c), view (get_or xs 3 d), view (get_or xs 4 e), view (get_or xs 5 f))
+is_six [] a b c d e f h = cc
+is_six (p ∷ []) a b c d e f h = cc
+is_six (p ∷ q ∷ []) a b c d e f h = cc
+is_six (p ∷ q ∷ r ∷ []) a b c d e f h = cc
+is_six (p ∷ q ∷ r ∷ s ∷ []) a b c d e f h = cc
+is_six (p ∷ q ∷ r ∷ s ∷ t ∷ []) a b c d e f h = cc
+is_six (p ∷ q ∷ r ∷ s ∷ t ∷ u ∷ []) a b c d e f h = refl
+is_six (p ∷ q ∷ r ∷ s ∷ t ∷ u ∷ v ∷ xs) a b c d e f h = absurd (omega (arith, h))

@@ -1,0 +1,22 @@
+//! Readers of JSON values, one for each kind of field.
+#![tactic(auto)]
+
+mod distinct;
+mod fault;
+mod kinds;
+mod lists;
+mod readers;
+
+pub use distinct::{Name, Named, read_distinct_list};
+pub use fault::FieldFault;
+pub use kinds::{maybe, needed};
+pub use lists::{Kind, ListFault, read_list};
+pub use readers::{
+    field, optional_field, read_account, read_action_id, read_address, read_bool, read_credential,
+    read_drep, read_five, read_four, read_hash28, read_hash32, read_items, read_number_below,
+    read_pair, read_pool_id, read_ratio, read_ref, read_six, read_text, read_three, read_tx_id,
+    read_u16, read_u32, read_u64, read_unit, read_voter,
+};
+
+#[cfg(test)]
+mod tests;
