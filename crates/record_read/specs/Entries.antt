@@ -1,0 +1,162 @@
+-- What the entries of lists and the other parts of a record read as. (Own)
+use Rattle.std.specs.Prelude.{ℕ, ◌^◌, List, [], ◌∷◌, Option, Some, None, Result, Ok, Err, bytes_eq, codes, nat_le, if◌then◌else◌}
+use Rattle.serde_json.specs.Data.{Data, null, boolean, number, string, array, object}
+use Rattle.coin_frac.specs.Fraction.{Fraction}
+use Rattle.gov_ids.specs.declared.Address.{Address}
+use Rattle.gov_ids.specs.declared.Credential.{Credential}
+use Rattle.gov_ids.specs.declared.Drep.{Drep}
+use Rattle.gov_ids.specs.declared.OutRef.{OutRef}
+use Rattle.gov_ids.specs.declared.PoolId.{PoolId}
+use Rattle.gov_actions.specs.declared.action.Vote.{Vote}
+use Rattle.gov_actions.specs.declared.action.Vote.TheVariants.{Yes, No, Abstain}
+use Rattle.tx_records.specs.declared.genesis.GenesisCommittee.{GenesisCommittee}
+use Rattle.tx_records.specs.declared.genesis.GenesisPool.{GenesisPool}
+use Rattle.tx_records.specs.declared.tx.ProposalRecord.{ProposalRecord}
+use Rattle.tx_records.specs.declared.tx.Scripts.{Scripts}
+use Rattle.tx_records.specs.declared.tx.Scripts.TheVariants.{Absent, Passed, Failed}
+use Rattle.tx_records.specs.declared.tx.TxOutput.{TxOutput}
+use Rattle.tx_records.specs.declared.tx.VoteRecord.{VoteRecord}
+use Rattle.json_fields.specs.declared.fault.FieldFault.{FieldFault}
+use Rattle.json_fields.specs.declared.fault.FieldFault.TheVariants.{OutOfRange}
+use Rattle.json_fields.specs.Entries.{needed_in, both_in, without_place}
+use Rattle.json_fields.specs.Kinds.{text_in, u64_in, u32_in, number_below, credential_in, account_in, address_in, ref_in, action_id_in, drep_in, voter_in, pool_id_in, unit_in, three_in, five_in, six_in}
+use Rattle.json_fields.specs.Lists.{list_in}
+use Rattle.json_fields.specs.Steps.{◌>>=◌}
+use Rattle.action_read.specs.Actions.{action_in}
+
+-- ---- numbers and words
+
+-- a slot, a term or an expiry
+abbrev pub slot_in : Data → Result ℕ FieldFault
+slot_in d = number_below (2 ^ 62) d
+
+-- 0 or 1
+abbrev pub network_in : Data → Result ℕ FieldFault
+network_in d = number_below 2 d
+
+-- how many slots an epoch has, at least 1
+abbrev pub epoch_length_in : Data → Result ℕ FieldFault
+epoch_length_in d = u32_in d >>= λ n. if nat_le 1 n then Ok n else Err OutOfRange
+
+-- a protocol version of the Conway era
+abbrev pub genesis_version_in : Data → Result (ℕ × ℕ) FieldFault
+genesis_version_in d = both_in u32_in u32_in d >>= λ v. if nat_le 10 v.0 then Ok v else Err OutOfRange
+
+-- how the scripts ended
+abbrev pub scripts_of : List ℕ → Result Scripts FieldFault
+scripts_of word =
+    if bytes_eq word (codes "none") then Ok Absent else
+    if bytes_eq word (codes "ok") then Ok Passed else
+    if bytes_eq word (codes "failed") then Ok Failed else
+    Err OutOfRange
+
+-- the word of a record
+abbrev pub scripts_in : Data → Result Scripts FieldFault
+scripts_in d = text_in d >>= scripts_of
+
+-- a vote
+abbrev pub vote_of : List ℕ → Result Vote FieldFault
+vote_of word =
+    if bytes_eq word (codes "yes") then Ok Yes else
+    if bytes_eq word (codes "no") then Ok No else
+    if bytes_eq word (codes "abstain") then Ok Abstain else
+    Err OutOfRange
+
+-- the word of a vote
+abbrev pub vote_in : Data → Result Vote FieldFault
+vote_in d = text_in d >>= vote_of
+
+-- an entry that may be null
+abbrev pub nullable_in : {A : Type 0} → (Data → Result A FieldFault) → Data → Result (Option A) FieldFault
+nullable_in reading null = Ok None
+nullable_in reading (boolean b) = reading (boolean b) >>= λ x. Ok (Some x)
+nullable_in reading (number n) = reading (number n) >>= λ x. Ok (Some x)
+nullable_in reading (string s) = reading (string s) >>= λ x. Ok (Some x)
+nullable_in reading (array ds) = reading (array ds) >>= λ x. Ok (Some x)
+nullable_in reading (object ms) = reading (object ms) >>= λ x. Ok (Some x)
+
+-- ---- a genesis
+
+-- a member: its cold key, its term, its hot key
+unfoldable pub member_in : Data → Result (Credential × ℕ × Option Credential) FieldFault
+member_in d = do
+  parts ← three_in d
+  cold ← credential_in parts.0
+  term ← slot_in parts.1
+  hot ← nullable_in credential_in parts.2
+  Ok (cold, term, hot)
+
+-- a committee
+unfoldable pub committee_in : Data → Result GenesisCommittee FieldFault
+committee_in d = do
+  threshold ← needed_in (codes "threshold") unit_in d
+  members ← needed_in (codes "members") (λ v. without_place (list_in 16777216 member_in v)) d
+  Ok (record { threshold = threshold; members = members })
+
+-- an output: its reference, its address, its lovelace
+unfoldable pub genesis_output_in : Data → Result (OutRef × Address × ℕ) FieldFault
+genesis_output_in d = do
+  parts ← three_in d
+  at ← ref_in parts.0
+  address ← address_in parts.1
+  lovelace ← u64_in parts.2
+  Ok (at, address, lovelace)
+
+-- an account: its credential, its deposit, its balance, its pool, its DRep
+unfoldable pub genesis_account_in : Data → Result (Credential × ℕ × ℕ × Option PoolId × Option Drep) FieldFault
+genesis_account_in d = do
+  parts ← five_in d
+  cred ← credential_in parts.0
+  deposit ← u64_in parts.1
+  rewards ← u64_in parts.2
+  pool ← nullable_in pool_id_in parts.3
+  drep ← nullable_in drep_in parts.4
+  Ok (cred, deposit, rewards, pool, drep)
+
+-- a pool: its id, its deposit, its cost, its pledge, its margin, its reward account
+unfoldable pub genesis_pool_in : Data → Result GenesisPool FieldFault
+genesis_pool_in d = do
+  parts ← six_in d
+  pool ← pool_id_in parts.0
+  deposit ← u64_in parts.1
+  cost ← u64_in parts.2
+  pledge ← u64_in parts.3
+  margin ← unit_in parts.4
+  account ← account_in parts.5
+  Ok (record { pool = pool; deposit = deposit; cost = cost; pledge = pledge; margin = margin; account = account })
+
+-- a DRep: its credential, its deposit, its expiry
+unfoldable pub genesis_drep_in : Data → Result (Credential × ℕ × ℕ) FieldFault
+genesis_drep_in d = do
+  parts ← three_in d
+  cred ← credential_in parts.0
+  deposit ← u64_in parts.1
+  expiry ← slot_in parts.2
+  Ok (cred, deposit, expiry)
+
+-- ---- a transaction
+
+-- an output: its address, its lovelace, its size in bytes
+unfoldable pub output_in : Data → Result TxOutput FieldFault
+output_in d = do
+  parts ← three_in d
+  address ← address_in parts.0
+  lovelace ← u64_in parts.1
+  bytes ← u32_in parts.2
+  Ok (record { address = address; lovelace = lovelace; bytes = bytes })
+
+-- a proposal
+unfoldable pub proposal_in : Data → Result ProposalRecord FieldFault
+proposal_in d = do
+  deposit ← needed_in (codes "deposit") u64_in d
+  account ← needed_in (codes "return") account_in d
+  action ← needed_in (codes "action") action_in d
+  Ok (record { deposit = deposit; account = account; action = action })
+
+-- a vote on an action
+unfoldable pub vote_record_in : Data → Result VoteRecord FieldFault
+vote_record_in d = do
+  voter ← needed_in (codes "voter") voter_in d
+  action ← needed_in (codes "action") action_id_in d
+  vote ← needed_in (codes "vote") vote_in d
+  Ok (record { voter = voter; action = action; vote = vote })

@@ -1,0 +1,7 @@
+pub mod Faults
+pub mod Fields
+pub mod Entries
+pub mod Certs
+pub mod Records
+pub mod Lines
+pub mod Reads

@@ -1,0 +1,11 @@
+-- What a reader of records answers: what the reading gives, unless memory ran out.
+use Rattle.std.specs.Prelude.{◌≡◌, Result, Ok, Err}
+use Rattle.record_read.specs.declared.fault.RecordFault.{RecordFault}
+use Rattle.record_read.specs.declared.fault.RecordFault.TheVariants.{BadJson, UnknownKind, BadField, NoMemory}
+
+abbrev pub ReadsRecord : {A : Type 0} → Result A RecordFault → Result A RecordFault → Type 0
+ReadsRecord (Ok x) reading = reading ≡ Ok x
+ReadsRecord (Err BadJson) reading = reading ≡ Err BadJson
+ReadsRecord (Err UnknownKind) reading = reading ≡ Err UnknownKind
+ReadsRecord (Err (BadField name place)) reading = reading ≡ Err (BadField name place)
+ReadsRecord (Err NoMemory) reading = Unit {0}

@@ -1,0 +1,164 @@
+-- What a JSON value reads as, where it is a record; fields are read in this order, and the first that does not read is named. (Own)
+use Rattle.std.specs.Prelude.{ℕ, ◌^◌, true, List, Option, Some, None, Result, Ok, Err, bytes_eq, codes, if◌then◌else◌}
+use Rattle.serde_json.specs.Data.{Data}
+use Rattle.gov_ids.specs.Orders.{account_cmp, credential_cmp}
+use Rattle.tx_records.specs.declared.field.FieldName.TheVariants as fields
+use Rattle.tx_records.specs.declared.genesis.Genesis.{Genesis}
+use Rattle.tx_records.specs.declared.record.Record.{Record}
+use Rattle.tx_records.specs.declared.record.Record.TheVariants as records
+use Rattle.tx_records.specs.declared.record.Rewards.{Rewards}
+use Rattle.tx_records.specs.declared.record.What.{What}
+use Rattle.tx_records.specs.declared.record.What.TheVariants.{Pots, State}
+use Rattle.tx_records.specs.declared.tx.Scripts.TheVariants.{Absent}
+use Rattle.tx_records.specs.declared.tx.Tx.{Tx}
+use Rattle.json_fields.specs.declared.fault.FieldFault.{FieldFault}
+use Rattle.json_fields.specs.declared.fault.FieldFault.TheVariants.{OutOfRange}
+use Rattle.json_fields.specs.Entries.{needed_in, both_in}
+use Rattle.json_fields.specs.Kinds.{text_in, bool_in, u64_in, u32_in, hash28_in, hash32_in, credential_in, account_in, ref_in, tx_id_in}
+use Rattle.json_fields.specs.Steps.{◌>>=◌}
+use Rattle.action_read.specs.Params.{params_in}
+use Rattle.record_read.specs.declared.fault.RecordFault.{RecordFault}
+use Rattle.record_read.specs.declared.fault.RecordFault.TheVariants.{UnknownKind}
+use Rattle.record_read.specs.Certs.{cert_in}
+use Rattle.record_read.specs.Entries.{slot_in, network_in, epoch_length_in, genesis_version_in, scripts_in, committee_in, genesis_output_in, genesis_account_in, genesis_pool_in, genesis_drep_in, output_in, proposal_in, vote_record_in}
+use Rattle.record_read.specs.Fields.{needed, optional, defaulted, needed_list, needed_distinct_list, optional_list, optional_distinct_list}
+
+-- the most entries of most lists of a transaction
+abbrev pub few : ℕ
+few = 65536
+
+-- the most outputs of a transaction
+abbrev pub output_limit : ℕ
+output_limit = 65535
+
+-- the most entries of every other list
+abbrev pub many : ℕ
+many = 16777216
+
+-- the ledger at the start
+unfoldable pub genesis_in : Data → Result Genesis RecordFault
+genesis_in d = do
+  network ← needed fields.Network network_in d
+  slot ← needed fields.Slot slot_in d
+  epoch_length ← needed fields.EpochLength epoch_length_in d
+  version ← needed fields.Version genesis_version_in d
+  supply ← needed fields.Supply u64_in d
+  reserves ← needed fields.Reserves u64_in d
+  treasury ← needed fields.Treasury u64_in d
+  params ← needed fields.Params params_in d
+  document ← needed fields.Document hash32_in d
+  script ← optional fields.Script hash28_in d
+  committee ← optional fields.Committee committee_in d
+  outputs ← needed_list fields.Outputs many genesis_output_in d
+  accounts ← needed_list fields.Accounts many genesis_account_in d
+  pools ← needed_list fields.Pools many genesis_pool_in d
+  dreps ← needed_list fields.Dreps many genesis_drep_in d
+  Ok (record {
+    network = network;
+    slot = slot;
+    epoch_length = epoch_length;
+    version = version;
+    supply = supply;
+    reserves = reserves;
+    treasury = treasury;
+    params = params;
+    document = document;
+    script = script;
+    committee = committee;
+    outputs = outputs;
+    accounts = accounts;
+    pools = pools;
+    dreps = dreps;
+  })
+
+-- a block
+unfoldable pub block_in : Data → Result Record RecordFault
+block_in d = do
+  slot ← needed fields.Slot slot_in d
+  pulse ← needed fields.Pulse u32_in d
+  Ok (records.Block slot pulse)
+
+-- a reward update
+unfoldable pub rewards_in : Data → Result Rewards RecordFault
+rewards_in d = do
+  epoch ← needed fields.Epoch u64_in d
+  from_reserves ← needed fields.FromReserves u64_in d
+  from_fees ← needed fields.FromFees u64_in d
+  to_treasury ← needed fields.ToTreasury u64_in d
+  rewards ← needed_distinct_list fields.Rewards credential_cmp (λ r. r.0) many (both_in credential_in u64_in) d
+  Ok (record { epoch = epoch; from_reserves = from_reserves; from_fees = from_fees; to_treasury = to_treasury; rewards = rewards })
+
+-- a transaction
+unfoldable pub tx_in : Data → Result Tx RecordFault
+tx_in d = do
+  id ← needed fields.Id tx_id_in d
+  inputs ← needed_list fields.Inputs few ref_in d
+  outputs ← needed_list fields.Outputs output_limit output_in d
+  fee ← needed fields.Fee u64_in d
+  size ← needed fields.Size u32_in d
+  script_fee ← defaulted 0 fields.ScriptFee u64_in d
+  witnessed ← defaulted true fields.Witnessed bool_in d
+  scripts ← defaulted Absent fields.Scripts scripts_in d
+  from ← optional fields.From slot_in d
+  until ← optional fields.Until slot_in d
+  collateral ← optional_list fields.Collateral few ref_in d
+  collateral_return ← optional fields.CollateralReturn output_in d
+  treasury ← optional fields.Treasury u64_in d
+  donation ← defaulted 0 fields.Donation u64_in d
+  withdrawals ← optional_distinct_list fields.Withdrawals account_cmp (λ x. x.0) few (both_in account_in u64_in) d
+  certs ← optional_list fields.Certs few cert_in d
+  proposals ← optional_list fields.Proposals few proposal_in d
+  votes ← optional_list fields.Votes few vote_record_in d
+  Ok (record {
+    id = id;
+    inputs = inputs;
+    outputs = outputs;
+    fee = fee;
+    size = size;
+    script_fee = script_fee;
+    witnessed = witnessed;
+    scripts = scripts;
+    from = from;
+    until = until;
+    collateral = collateral;
+    collateral_return = collateral_return;
+    treasury = treasury;
+    donation = donation;
+    withdrawals = withdrawals;
+    certs = certs;
+    proposals = proposals;
+    votes = votes;
+  })
+
+-- what a print asks for
+abbrev pub what_of : List ℕ → Result What FieldFault
+what_of word = if bytes_eq word (codes "pots") then Ok Pots else if bytes_eq word (codes "state") then Ok State else Err OutOfRange
+
+-- the word of a print
+abbrev pub what_in : Data → Result What FieldFault
+what_in d = text_in d >>= what_of
+
+-- a print
+unfoldable pub print_in : Data → Result Record RecordFault
+print_in d = do
+  what ← needed fields.What what_in d
+  Ok (records.Print what)
+
+-- by the word of its kind
+abbrev pub record_of_kind : List ℕ → Data → Result Record RecordFault
+record_of_kind kind d =
+    if bytes_eq kind (codes "genesis") then (genesis_in d >>= λ g. Ok (records.Genesis g)) else
+    if bytes_eq kind (codes "block") then block_in d else
+    if bytes_eq kind (codes "rewards") then (rewards_in d >>= λ u. Ok (records.Rewards u)) else
+    if bytes_eq kind (codes "tx") then (tx_in d >>= λ tx. Ok (records.Tx tx)) else
+    if bytes_eq kind (codes "print") then print_in d else
+    Err UnknownKind
+
+-- by what its kind reads as
+abbrev pub record_by : Result (List ℕ) FieldFault → Data → Result Record RecordFault
+record_by (Ok kind) d = record_of_kind kind d
+record_by (Err fault) d = Err UnknownKind
+
+-- a record of any kind
+abbrev pub record_in : Data → Result Record RecordFault
+record_in d = record_by (needed_in (codes "kind") text_in d) d

@@ -1,0 +1,419 @@
+ghost use Rattle.std.specs.Prelude.{◌≡◌};
+ghost use Rattle.serde_json.specs.View.{view};
+ghost use Rattle.json_fields.specs.Reads.{Reads};
+ghost use Rattle.record_read.specs.Entries.{nullable_in};
+
+use action_read::ActionField;
+use gov_actions::Vote;
+use gov_ids::{Account, ActionId, Address, Credential, Drep, OutRef, PoolId, Voter};
+use json_fields::{
+    FieldFault, Kind, Named, needed, read_account, read_address, read_credential, read_five,
+    read_list, read_number_below, read_pool_id, read_ref, read_six, read_text, read_three,
+    read_u32, read_u64, read_unit,
+};
+use listed::Listed;
+use serde_json::Value;
+use std::alloc::Global;
+use tx_records::{GenesisCommittee, GenesisPool, ProposalRecord, Scripts, TxOutput, VoteRecord};
+
+/// The most members of a committee.
+const MEMBER_LIMIT: u32 = 16_777_216;
+
+/// A slot, a term or an expiry.
+pub struct Slot;
+
+impl Kind for Slot {
+    type Entry = u64;
+
+    ghost use Rattle.record_read.specs.Entries.{slot_in};
+
+    ghost reading = { slot_in };
+
+    fn read(_alloc: Global, value: &Value) -> Result<u64, FieldFault> {
+        read_number_below(1 << 62, value)
+    }
+}
+
+/// A network: 0 or 1.
+pub struct Network;
+
+impl Kind for Network {
+    type Entry = u8;
+
+    ghost use Rattle.record_read.specs.Entries.{network_in};
+
+    ghost reading = { network_in };
+
+    fn read(_alloc: Global, value: &Value) -> Result<u8, FieldFault> {
+        let network = read_number_below(2, value)?;
+        Ok(network as u8)
+    }
+}
+
+/// How many slots an epoch has: at least 1.
+pub struct EpochLength;
+
+impl Kind for EpochLength {
+    type Entry = u32;
+
+    ghost use Rattle.record_read.specs.Entries.{epoch_length_in};
+
+    ghost reading = { epoch_length_in };
+
+    fn read(_alloc: Global, value: &Value) -> Result<u32, FieldFault> {
+        let slots = read_u32(value)?;
+        if slots >= 1 {
+            Ok(slots)
+        } else {
+            Err(FieldFault::OutOfRange)
+        }
+    }
+}
+
+/// A protocol version, major and minor; that of the Conway era is at least 10.
+pub struct GenesisVersion;
+
+impl Kind for GenesisVersion {
+    type Entry = (u32, u32);
+
+    ghost use Rattle.record_read.specs.Entries.{genesis_version_in};
+
+    ghost reading = { genesis_version_in };
+
+    fn read(alloc: Global, value: &Value) -> Result<(u32, u32), FieldFault> {
+        let version = <(u32, u32)>::read(alloc, value)?;
+        if version.0 >= 10 {
+            Ok(version)
+        } else {
+            Err(FieldFault::OutOfRange)
+        }
+    }
+}
+
+/// How the scripts of a transaction ended.
+pub struct ScriptsField;
+
+impl Kind for ScriptsField {
+    type Entry = Scripts;
+
+    ghost use Rattle.record_read.specs.Entries.{scripts_in};
+
+    ghost reading = { scripts_in };
+
+    fn read(_alloc: Global, value: &Value) -> Result<Scripts, FieldFault> {
+        match read_text(value)? {
+            "none" => Ok(Scripts::Absent),
+            "ok" => Ok(Scripts::Passed),
+            "failed" => Ok(Scripts::Failed),
+            _ => Err(FieldFault::OutOfRange),
+        }
+    }
+}
+
+/// A vote.
+pub struct VoteField;
+
+impl Kind for VoteField {
+    type Entry = Vote;
+
+    ghost use Rattle.record_read.specs.Entries.{vote_in};
+
+    ghost reading = { vote_in };
+
+    fn read(_alloc: Global, value: &Value) -> Result<Vote, FieldFault> {
+        match read_text(value)? {
+            "yes" => Ok(Vote::Yes),
+            "no" => Ok(Vote::No),
+            "abstain" => Ok(Vote::Abstain),
+            _ => Err(FieldFault::OutOfRange),
+        }
+    }
+}
+
+/// An entry that may be null.
+fn nullable<K: Kind>(alloc: Global, value: &Value) -> Result<Option<K::Entry>, FieldFault>
+    ensures { Reads result (nullable_in K.reading (view value.now)) }
+{
+    if value.is_null() {
+        return Ok(None);
+    }
+    Ok(Some(K::read(alloc, value)?))
+}
+
+/// A member of a committee: its cold key, its term, its hot key.
+pub struct Member;
+
+impl Kind for Member {
+    type Entry = (Credential, u64, Option<Credential>);
+
+    ghost use Rattle.record_read.specs.Entries.{member_in};
+
+    ghost reading = { member_in };
+
+    #[tactic(auto, unfolding(crate::specs::Entries::member_in))]
+    fn read(
+        alloc: Global,
+        value: &Value,
+    ) -> Result<(Credential, u64, Option<Credential>), FieldFault> {
+        let (cold, term, hot) = read_three(value)?;
+        let cold = read_credential(cold)?;
+        let term = Slot::read(alloc, term)?;
+        let hot = nullable::<Credential>(alloc, hot)?;
+        Ok((cold, term, hot))
+    }
+}
+
+/// The members of a committee.
+struct Members;
+
+impl Kind for Members {
+    type Entry = Listed<(Credential, u64, Option<Credential>)>;
+
+    ghost use Rattle.json_fields.specs.Entries.{without_place};
+    ghost use Rattle.json_fields.specs.Lists.{list_in};
+    ghost use Rattle.record_read.specs.Entries.{member_in};
+
+    ghost reading = { λ v. without_place (list_in 16777216 member_in v) };
+
+    fn read(
+        alloc: Global,
+        value: &Value,
+    ) -> Result<Listed<(Credential, u64, Option<Credential>)>, FieldFault> {
+        read_list::<Member>(alloc, MEMBER_LIMIT, value).map_err(|error| error.fault)
+    }
+}
+
+/// A committee.
+pub struct Committee;
+
+impl Kind for Committee {
+    type Entry = GenesisCommittee;
+
+    ghost use Rattle.record_read.specs.Entries.{committee_in};
+
+    ghost reading = { committee_in };
+
+    #[tactic(auto, unfolding(crate::specs::Entries::committee_in))]
+    fn read(alloc: Global, value: &Value) -> Result<GenesisCommittee, FieldFault> {
+        let threshold = needed::<coin_frac::Unit>(alloc, value, "threshold")?;
+        let members = needed::<Members>(alloc, value, "members")?;
+        Ok(GenesisCommittee { threshold, members })
+    }
+}
+
+/// An output of a genesis: its reference, its address, its lovelace.
+pub struct GenesisOutput;
+
+impl Kind for GenesisOutput {
+    type Entry = (OutRef, Address, u64);
+
+    ghost use Rattle.record_read.specs.Entries.{genesis_output_in};
+
+    ghost reading = { genesis_output_in };
+
+    #[tactic(auto, unfolding(crate::specs::Entries::genesis_output_in))]
+    fn read(_alloc: Global, value: &Value) -> Result<(OutRef, Address, u64), FieldFault> {
+        let (at, address, lovelace) = read_three(value)?;
+        let at = read_ref(at)?;
+        let address = read_address(address)?;
+        let lovelace = read_u64(lovelace)?;
+        Ok((at, address, lovelace))
+    }
+}
+
+/// An account of a genesis: its credential, its deposit, its balance, its pool, its DRep.
+pub struct GenesisAccount;
+
+impl Kind for GenesisAccount {
+    type Entry = (Credential, u64, u64, Option<PoolId>, Option<Drep>);
+
+    ghost use Rattle.record_read.specs.Entries.{genesis_account_in};
+
+    ghost reading = { genesis_account_in };
+
+    #[tactic(auto, unfolding(crate::specs::Entries::genesis_account_in))]
+    fn read(
+        alloc: Global,
+        value: &Value,
+    ) -> Result<(Credential, u64, u64, Option<PoolId>, Option<Drep>), FieldFault> {
+        let (cred, deposit, rewards, pool, drep) = read_five(value)?;
+        let cred = read_credential(cred)?;
+        let deposit = read_u64(deposit)?;
+        let rewards = read_u64(rewards)?;
+        let pool = nullable::<PoolId>(alloc, pool)?;
+        let drep = nullable::<Drep>(alloc, drep)?;
+        Ok((cred, deposit, rewards, pool, drep))
+    }
+}
+
+/// A pool of a genesis: its id, its deposit, its cost, its pledge, its margin, its reward account.
+pub struct GenesisPoolEntry;
+
+impl Kind for GenesisPoolEntry {
+    type Entry = GenesisPool;
+
+    ghost use Rattle.record_read.specs.Entries.{genesis_pool_in};
+
+    ghost reading = { genesis_pool_in };
+
+    #[tactic(auto, unfolding(crate::specs::Entries::genesis_pool_in))]
+    fn read(_alloc: Global, value: &Value) -> Result<GenesisPool, FieldFault> {
+        let (pool, deposit, cost, pledge, margin, account) = read_six(value)?;
+        let pool = read_pool_id(pool)?;
+        let deposit = read_u64(deposit)?;
+        let cost = read_u64(cost)?;
+        let pledge = read_u64(pledge)?;
+        let margin = read_unit(margin)?;
+        let account = read_account(account)?;
+        Ok(GenesisPool {
+            pool,
+            deposit,
+            cost,
+            pledge,
+            margin,
+            account,
+        })
+    }
+}
+
+/// A DRep of a genesis: its credential, its deposit, its expiry.
+pub struct GenesisDrep;
+
+impl Kind for GenesisDrep {
+    type Entry = (Credential, u64, u64);
+
+    ghost use Rattle.record_read.specs.Entries.{genesis_drep_in};
+
+    ghost reading = { genesis_drep_in };
+
+    #[tactic(auto, unfolding(crate::specs::Entries::genesis_drep_in))]
+    fn read(alloc: Global, value: &Value) -> Result<(Credential, u64, u64), FieldFault> {
+        let (cred, deposit, expiry) = read_three(value)?;
+        let cred = read_credential(cred)?;
+        let deposit = read_u64(deposit)?;
+        let expiry = Slot::read(alloc, expiry)?;
+        Ok((cred, deposit, expiry))
+    }
+}
+
+/// An output of a transaction: its address, its lovelace, its size in bytes.
+pub struct Output;
+
+impl Kind for Output {
+    type Entry = TxOutput;
+
+    ghost use Rattle.record_read.specs.Entries.{output_in};
+
+    ghost reading = { output_in };
+
+    #[tactic(auto, unfolding(crate::specs::Entries::output_in))]
+    fn read(_alloc: Global, value: &Value) -> Result<TxOutput, FieldFault> {
+        let (address, lovelace, bytes) = read_three(value)?;
+        let address = read_address(address)?;
+        let lovelace = read_u64(lovelace)?;
+        let bytes = read_u32(bytes)?;
+        Ok(TxOutput {
+            address,
+            lovelace,
+            bytes,
+        })
+    }
+}
+
+/// A proposal of a transaction.
+pub struct ProposalEntry;
+
+impl Kind for ProposalEntry {
+    type Entry = ProposalRecord;
+
+    ghost use Rattle.record_read.specs.Entries.{proposal_in};
+
+    ghost reading = { proposal_in };
+
+    #[tactic(auto, unfolding(crate::specs::Entries::proposal_in))]
+    fn read(alloc: Global, value: &Value) -> Result<ProposalRecord, FieldFault> {
+        let deposit = needed::<u64>(alloc, value, "deposit")?;
+        let account = needed::<Account>(alloc, value, "return")?;
+        let action = needed::<ActionField>(alloc, value, "action")?;
+        Ok(ProposalRecord {
+            deposit,
+            account,
+            action,
+        })
+    }
+}
+
+/// A vote of a transaction.
+pub struct VoteEntry;
+
+impl Kind for VoteEntry {
+    type Entry = VoteRecord;
+
+    ghost use Rattle.record_read.specs.Entries.{vote_record_in};
+
+    ghost reading = { vote_record_in };
+
+    #[tactic(auto, unfolding(crate::specs::Entries::vote_record_in))]
+    fn read(alloc: Global, value: &Value) -> Result<VoteRecord, FieldFault> {
+        let voter = needed::<Voter>(alloc, value, "voter")?;
+        let action = needed::<ActionId>(alloc, value, "action")?;
+        let vote = needed::<VoteField>(alloc, value, "vote")?;
+        Ok(VoteRecord {
+            voter,
+            action,
+            vote,
+        })
+    }
+}
+
+/// An account's reward: its credential, its lovelace.
+pub struct Reward;
+
+impl Kind for Reward {
+    type Entry = (Credential, u64);
+
+    ghost use Rattle.json_fields.specs.Entries.{both_in};
+    ghost use Rattle.json_fields.specs.Kinds.{credential_in, u64_in};
+
+    ghost reading = { both_in credential_in u64_in };
+
+    fn read(alloc: Global, value: &Value) -> Result<(Credential, u64), FieldFault> {
+        <(Credential, u64)>::read(alloc, value)
+    }
+}
+
+impl Named for Reward {
+    type Name = Credential;
+
+    ghost name = { λ r. r.0 };
+
+    fn name_of(entry: &(Credential, u64)) -> Credential {
+        entry.0
+    }
+}
+
+/// A withdrawal: its account, its lovelace.
+pub struct Withdrawal;
+
+impl Kind for Withdrawal {
+    type Entry = (Account, u64);
+
+    ghost use Rattle.json_fields.specs.Entries.{both_in};
+    ghost use Rattle.json_fields.specs.Kinds.{account_in, u64_in};
+
+    ghost reading = { both_in account_in u64_in };
+
+    fn read(alloc: Global, value: &Value) -> Result<(Account, u64), FieldFault> {
+        <(Account, u64)>::read(alloc, value)
+    }
+}
+
+impl Named for Withdrawal {
+    type Name = Account;
+
+    ghost name = { λ x. x.0 };
+
+    fn name_of(entry: &(Account, u64)) -> Account {
+        entry.0
+    }
+}

@@ -1,0 +1,16 @@
+//! The reading of records: one line of JSON each.
+#![tactic(auto)]
+
+mod certs;
+mod entries;
+mod fault;
+mod fields;
+mod lines;
+mod records;
+
+pub use action_read::read_action;
+pub use fault::RecordFault;
+pub use lines::read_record;
+
+#[cfg(test)]
+mod tests;
