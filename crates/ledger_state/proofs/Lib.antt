@@ -1,0 +1,11 @@
+pub mod Apart
+pub mod Balance
+pub mod Bare
+pub mod Blank
+pub mod BuiltGenesis
+pub mod BuiltTx
+pub mod Committed
+pub mod Puts
+pub mod Repeats
+pub mod Starting
+pub mod UsedIds

@@ -1,0 +1,48 @@
+use Rattle.std.proofs.Common.{◌≡◌, None, arith, drop, length-drop, refl, ◌∙◌}
+use Rattle.gov_ids.proofs.Totals.{outref_total}
+use Rattle.gov_ids.specs.Orders.{outref_cmp}
+use Rattle.ledger_model.specs.Transaction.{kept_output}
+use Rattle.maps.proofs.Fresh.{fresh_from_absent}
+use Rattle.maps.specs.Maps.{value_at}
+use Rattle.std.proofs.lemmas.List.Sums.{sum_by-drop_more}
+use Rattle.tx_balance.proofs.Outputs.{made_once}
+use Rattle.ledger_state.proofs.Puts.{made_absent, made_at, made_fresh, made_lovelace, made_rest, made_sum}
+use Rattle.ledger_state.proofs.books.with_outputs.Goals as goal
+
+pub loop-output-init : goal.loop-output-init
+loop-output-init c =
+    rw c.as_slice-output-items.ensures (record {
+      place = refl;
+      fresh = fresh_from_absent outref_total (made_at c.args.tx.now.id 0 c.args.tx.now.outputs) c.args.utxo.outputs (made_once c.args.tx.now.id kept_output 0 c.args.tx.now.outputs) c.requires.absent;
+      sum = refl;
+      rest = refl;
+    })
+
+pub put-requires-clause-absent : goal.put-requires-clause-absent
+put-requires-clause-absent c =
+    made_absent c.args.tx.now.id c.loop-output.index (drop c.loop-output.output-index c.as_slice-output-items.result.now) c.loop-output.utxo.outputs
+    (omega (arith, length-drop c.loop-output.output-index c.as_slice-output-items.result.now)) c.loop-output.invariant.fresh
+
+pub put-requires-clause-fits : goal.put-requires-clause-fits
+put-requires-clause-fits c = grind (arith, sum_by-drop_more made_lovelace)
+
+pub loop-output-preserved : goal.loop-output-preserved
+loop-output-preserved c =
+    let id = c.args.tx.now.id in
+    let outputs = c.as_slice-output-items.result.now in
+    let n = c.loop-output.index in
+    let i = c.loop-output.output-index in
+    let l = c.loop-output-test.true in
+    let h = c.loop-output.invariant in
+    let u = c.loop-output.utxo in
+    let v = c.put.new.self in
+    let k = c.kept.ensures in
+    let p = c.in_ok-put.ensures.ok in
+    let absent : value_at outref_cmp c.loop-output.utxo.outputs (record { tx = c.args.tx.now.id; index = c.loop-output.index }) ≡ None =
+    made_absent id n (drop i outputs) c.loop-output.utxo.outputs (omega (arith, length-drop i outputs)) h.fresh in
+    record {
+      place = omega arith;
+      fresh = made_fresh id outputs u v n i _ c.kept.result l k p h.fresh;
+      sum = made_sum id outputs u v n i _ c.kept.result l k p _ absent h.sum;
+      rest = made_rest id outputs u v n i _ c.kept.result l k p ∙ h.rest;
+    }

@@ -1,0 +1,23 @@
+use Rattle.std.proofs.Common.{List, ap, subst, sym, ◌∙◌}
+use Rattle.std.proofs.lemmas.List.{drop_all}
+use Rattle.gov_ids.specs.declared.OutRef.{OutRef}
+use Rattle.gov_ids.specs.Orders.{outref_cmp}
+use Rattle.maps.proofs.Kept.{IsMap-without_key}
+use Rattle.maps.specs.Maps.{IsMap}
+use Rattle.utxo_set.specs.Utxos.{Utxos}
+use Rattle.ledger_state.proofs.Puts.{without, without_next, without_none}
+use Rattle.ledger_state.proofs.books.without_outputs.Goals as goal
+
+pub loop-at-preserved : goal.loop-at-preserved
+loop-at-preserved c =
+    let h = c.loop-at.invariant in
+    let p = c.take.ensures.rest in
+    record {
+      in_order = subst (λ (u : Utxos). IsMap outref_cmp u.outputs) (sym p) (IsMap-without_key outref_cmp _ c.loop-at.utxo.outputs h.in_order);
+      rest = without_next c.args.taken.now c.loop-at.utxo c.take.new.self c.loop-at.at-index _ c.loop-at-test.true h.in_order p ∙ h.rest;
+    }
+
+pub returns : goal.returns
+returns c =
+    sym (without_none c.loop-at.utxo) ∙ ap (λ (rs : List OutRef). without rs c.loop-at.utxo) (sym (drop_all c.loop-at.at-index c.args.taken.now c.loop-at-test.false))
+    ∙ c.loop-at.invariant.rest

@@ -1,0 +1,12 @@
+use Rattle.std.proofs.Common.{◌≡◌, drop}
+use Rattle.gov_ids.specs.Orders.{outref_cmp}
+use Rattle.maps.specs.Maps.{IsMap}
+use Rattle.ledger_state.proofs.Puts.{without}
+use Rattle.ledger_state.proofs.books.without_outputs.Given as goal
+
+-- the book without what is left is the book without all
+abbrev pub invariant-loop-at : goal.invariant-loop-at
+invariant-loop-at l = record {
+  in_order : IsMap outref_cmp l.utxo.outputs;
+  rest : without (drop l.at-index l.taken) l.utxo ≡ without l.taken l.fn.utxo;
+}

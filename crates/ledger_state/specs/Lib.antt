@@ -1,0 +1,4 @@
+pub mod Held
+pub mod Built
+pub mod Starts
+pub mod Laws

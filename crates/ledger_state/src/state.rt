@@ -1,0 +1,143 @@
+ghost use Rattle.std.specs.Prelude.{◌≡◌};
+ghost use Rattle.ledger_model.specs.World.{World};
+ghost use Rattle.ledger_model.specs.Supply.{pots_of};
+ghost use Rattle.ledger_state.specs.Held.{world_of};
+ghost use Rattle.utxo_set.specs.Utxos.{IsInOrder};
+
+mod commit;
+mod genesis;
+
+use pparams::Params;
+use std::marker::Model;
+use tx_records::Pots;
+use utxo_set::UtxoSet;
+
+/// The ledger after some records, as far as the records that are built ask or change it. (LState of the formal specification)
+#[derive(Drop)]
+pub struct LedgerState {
+    network: u8,
+    supply: u64,
+    slot: u64,
+    reserves: u64,
+    treasury: u64,
+    fees: u64,
+    donations: u64,
+    params: Params,
+    utxo: UtxoSet,
+}
+
+impl Model for LedgerState {
+    ghost use Rattle.std.specs.Coded.{codes};
+    ghost use Rattle.ledger_state.specs.Held.{Held, IsSound};
+
+    ghost Value = { Held };
+
+    ghost coded = { Prim.hlevel codes };
+
+    ghost view = { λ a. record {
+      network = a.network;
+      supply = a.supply;
+      slot = a.slot;
+      reserves = a.reserves;
+      treasury = a.treasury;
+      fees = a.fees;
+      donations = a.donations;
+      params = a.params;
+      outputs = a.utxo.outputs;
+      used = a.utxo.used;
+    } };
+
+    ghost invariant = { λ a. IsSound (record {
+      network = a.network;
+      supply = a.supply;
+      slot = a.slot;
+      reserves = a.reserves;
+      treasury = a.treasury;
+      fees = a.fees;
+      donations = a.donations;
+      params = a.params;
+      outputs = a.utxo.outputs;
+      used = a.utxo.used;
+    }) };
+}
+
+impl LedgerState {
+    /// 0 for the test networks, 1 for mainnet.
+    pub fn network(&self) -> u8
+        ensures { result ≡ self.now.network }
+    {
+        self.network
+    }
+
+    /// The last slot.
+    pub fn slot(&self) -> u64
+        ensures { result ≡ self.now.slot }
+    {
+        self.slot
+    }
+
+    /// All lovelace.
+    pub fn supply(&self) -> u64
+        ensures { result ≡ self.now.supply }
+    {
+        self.supply
+    }
+
+    /// In lovelace.
+    pub fn reserves(&self) -> u64
+        ensures { result ≡ self.now.reserves }
+    {
+        self.reserves
+    }
+
+    /// In lovelace.
+    pub fn treasury(&self) -> u64
+        ensures { result ≡ self.now.treasury }
+    {
+        self.treasury
+    }
+
+    /// The fee pot, in lovelace.
+    pub fn fees(&self) -> u64
+        ensures { result ≡ self.now.fees }
+    {
+        self.fees
+    }
+
+    /// The donation pot, in lovelace.
+    pub fn donations(&self) -> u64
+        ensures { result ≡ self.now.donations }
+    {
+        self.donations
+    }
+
+    /// The protocol parameters.
+    pub fn params(&self) -> &Params
+        ensures { result.now ≡ self.now.params }
+    {
+        &self.params
+    }
+
+    /// The unspent outputs and the used transaction ids.
+    pub fn outputs(&self) -> &UtxoSet
+        ensures outputs { result.now.outputs ≡ self.now.outputs }
+        ensures used { result.now.used ≡ self.now.used }
+    {
+        &self.utxo
+    }
+
+    /// The seven pots.
+    pub fn pots(&self) -> Pots
+        ensures { (start : World) → result ≡ pots_of (world_of self.now start) }
+    {
+        Pots {
+            outputs: self.utxo.total(),
+            deposits: 0,
+            rewards: 0,
+            fees: self.fees,
+            donations: self.donations,
+            treasury: self.treasury,
+            reserves: self.reserves,
+        }
+    }
+}
