@@ -1,0 +1,3 @@
+pub mod Built
+pub mod Firsts
+pub mod Groups

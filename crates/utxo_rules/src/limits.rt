@@ -1,0 +1,55 @@
+ghost use Rattle.std.specs.Prelude.{◌≡◌, true};
+ghost use Rattle.ledger_model.specs.World.{World};
+ghost use Rattle.ledger_model.specs.Checks.{answer_of};
+ghost use Rattle.ledger_model.specs.OutputRules.{fee_checks, is_outside, least_fee, treasury_checks, unless_failed};
+ghost use Rattle.ledger_state.specs.Held.{world_of};
+
+use ledger_state::LedgerState;
+use tx_records::rules::{FEE_TOO_SMALL, OUTSIDE_VALIDITY, TREASURY_VALUE_WRONG, TX_TOO_LARGE};
+use tx_records::{Rule, Scripts, Tx};
+
+/// The rules on size, time and fee.
+pub fn check_fee(s: &LedgerState, tx: &Tx) -> Result<(), Rule>
+    ensures { (start : World) → result ≡ answer_of (fee_checks (world_of s.now start) tx.now) }
+{
+    let most = s.params().max_tx_size;
+    if tx.size > most {
+        return Err(Rule::keeping(TX_TOO_LARGE, u128::from(most)));
+    }
+    if is_outside(s.slot(), tx) {
+        return Err(Rule::keeping(OUTSIDE_VALIDITY, u128::from(s.slot())));
+    }
+    let least = least_fee(s, tx);
+    if u128::from(tx.fee) < least {
+        return Err(Rule::keeping(FEE_TOO_SMALL, least));
+    }
+    Ok(())
+}
+
+/// Whether the transaction may not stand at this slot.
+fn is_outside(slot: u64, tx: &Tx) -> bool
+    ensures { (w : World) → w.slot ≡ slot → result ≡ is_outside w tx.now }
+{
+    tx.from.is_some_and(|from| slot < from) || tx.until.is_some_and(|until| slot >= until)
+}
+
+/// The least fee, in lovelace.
+fn least_fee(s: &LedgerState, tx: &Tx) -> u128
+    ensures { (start : World) → result ≡ least_fee (world_of s.now start) tx.now }
+{
+    let params = s.params();
+    let fixed = params.min_fee_b;
+    let script_fee = tx.script_fee;
+    u128::from(params.min_fee_a) * u128::from(tx.size) + u128::from(fixed) + u128::from(script_fee)
+}
+
+/// The rule on the treasury value, which a transaction whose scripts failed need not keep.
+pub fn check_treasury(s: &LedgerState, tx: &Tx) -> Result<(), Rule>
+    ensures { (start : World) → result ≡ answer_of (unless_failed tx.now.scripts (treasury_checks (world_of s.now start) tx.now)) }
+{
+    let treasury = s.treasury();
+    if !matches!(tx.scripts, Scripts::Failed) && tx.treasury.is_some_and(|said| said != treasury) {
+        return Err(Rule::keeping(TREASURY_VALUE_WRONG, u128::from(treasury)));
+    }
+    Ok(())
+}
