@@ -1,0 +1,7 @@
+use Rattle.std.proofs.Common.{◌≡◌, ◌++◌, map, drop}
+use Rattle.text_model.specs.Words.{spaced}
+use Rattle.report.proofs.words.push_words.Given as goal
+
+-- what is added so far, and the words that are left, are all of them
+abbrev pub invariant-loop-word : goal.invariant-loop-word
+invariant-loop-word l = l.line.items ++ spaced (map (λ w. w.now) (drop l.word-index l.words)) ≡ l.fn.line.items ++ spaced (map (λ w. w.now) l.words)

@@ -1,0 +1,9 @@
+-- The texts of rules as the program holds them. (Own)
+use Rattle.std.specs.Prelude.{map}
+use Rattle.tx_records.specs.RuleTexts as texts
+use Rattle.tx_records.specs.RuleTexts.{rule_text}
+use Rattle.report.specs.declared.rule_texts.RuleText.{RuleText}
+
+-- a rule's text, with its words as texts
+abbrev pub text_seen : RuleText → texts.RuleText
+text_seen t = rule_text t.number t.name.now (map (λ w. w.now) t.words.now)

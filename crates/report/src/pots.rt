@@ -1,0 +1,83 @@
+ghost use Rattle.std.specs.Prelude.{◌≡◌, ◌++◌, ◌∷◌, flat_map, OnOk};
+ghost use Rattle.ledger_model.specs.Supply.{total_of};
+ghost use Rattle.text_model.specs.Replies.{pots_words};
+ghost use Rattle.text_model.specs.Words.{Text, line_of, spaced};
+ghost use Rattle.report.specs.Amounts.{amount_words};
+ghost use Rattle.report.specs.PotsWords.{pots_word_text};
+
+use crate::words::{begin, end, push_amounts, push_word};
+use coin_frac::NoMemory;
+use tx_records::Pots;
+
+/// What stands before the pots in their line. (Own)
+#[derive(Clone, Copy, Debug, PartialEq, Eq)]
+pub enum PotsWord {
+    /// The answer to a genesis.
+    Genesis,
+    /// The answer to a print, and the end of a boundary.
+    Pots,
+}
+
+impl PotsWord {
+    /// The word as a line has it.
+    fn text(&self) -> &'static str
+        ensures { result.now ≡ pots_word_text self.now }
+    {
+        match self {
+            PotsWord::Genesis => "genesis",
+            PotsWord::Pots => "pots",
+        }
+    }
+}
+
+/// The sum of the pots, in lovelace.
+fn total(pots: &Pots) -> u128
+    ensures { result ≡ total_of pots.now }
+{
+    u128::from(pots.outputs)
+        + u128::from(pots.deposits)
+        + u128::from(pots.rewards)
+        + u128::from(pots.fees)
+        + u128::from(pots.donations)
+        + u128::from(pots.treasury)
+        + u128::from(pots.reserves)
+}
+
+/// The pots and their sum, each with its name.
+fn amounts_of(pots: &Pots) -> [(&'static str, u128); 8]
+    ensures { (word : Text) → word ∷ flat_map (λ a. amount_words a.0.now a.1) result ≡ pots_words word pots.now }
+{
+    [
+        ("outputs", u128::from(pots.outputs)),
+        ("deposits", u128::from(pots.deposits)),
+        ("rewards", u128::from(pots.rewards)),
+        ("fees", u128::from(pots.fees)),
+        ("donations", u128::from(pots.donations)),
+        ("treasury", u128::from(pots.treasury)),
+        ("reserves", u128::from(pots.reserves)),
+        ("supply", total(pots)),
+    ]
+}
+
+/// Adds the pots and their sum, after a word.
+fn push_pots(line: &mut Vec<u8>, word: &str, pots: &Pots) -> Result<(), NoMemory>
+    ensures { OnOk result (line.new.items ≡ line.old.items ++ spaced (pots_words word.now pots.now)) }
+{
+    push_word(line, word)?;
+    push_amounts(line, &amounts_of(pots))?;
+    Ok(())
+}
+
+/// The line of the pots, in place of what the buffer held.
+pub fn pots_line(
+    line: &mut Vec<u8>,
+    number: u64,
+    word: PotsWord,
+    pots: &Pots,
+) -> Result<(), NoMemory>
+    ensures { OnOk result (line.new.items ≡ line_of number (pots_words (pots_word_text word) pots.now)) }
+{
+    begin(line, number)?;
+    push_pots(line, word.text(), pots)?;
+    end(line)
+}
