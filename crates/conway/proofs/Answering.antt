@@ -5,18 +5,17 @@ use Rattle.byte_lines.specs.Faults.{with_bytes}
 use Rattle.byte_lines.specs.Reader.{Reader}
 use Rattle.byte_lines.specs.declared.sink.SinkFault.{SinkFault}
 use Rattle.byte_lines.specs.declared.sink.SinkFault.TheVariants as sink_faults
-use Rattle.conway.specs.declared.record.Reading.{Reading}
+use Rattle.tx_records.specs.declared.record.Reading.{Reading}
 use Rattle.conway.specs.declared.status.Status.{Status}
 use Rattle.conway.specs.declared.status.Status.TheVariants as statuses
 use Rattle.conway.specs.Endings.{HasEnded, IsFront}
 use Rattle.conway.specs.Heard.{HearsNext}
-use Rattle.conway.specs.Runs.{text_from, text_of_records}
+use Rattle.conway.specs.Runs.{lines_of, text_from, text_of_records, world_after}
 use Rattle.conway.specs.Statuses.{status_of_sink_fault}
-use Rattle.conway.specs.Step.{step}
-use Rattle.conway.specs.Texts.{reply_words}
+use Rattle.text_model.specs.Runs.{text_of_lines}
 use Rattle.text_model.specs.Words.{Text, line_of}
 use Rattle.conway.specs.Turns.{Writes, Stands, GoesOn, Stops}
-use Rattle.conway.specs.World.{World}
+use Rattle.ledger_model.specs.World.{World}
 use Rattle.conway.proofs.Ends.{ends_at_read, ends_over, ends_done, ends_without_memory, ends_at_write}
 use Rattle.conway.proofs.Heard.{heard_now}
 
@@ -35,17 +34,21 @@ front_before text more = (more, refl)
 pub front_part : (text line : Text) (k : ℕ) → IsFront (text ++ take k line) (text ++ line)
 front_part text line k = (drop k line, ap (λ (l : Text). text ++ l) (sym (take-append-drop k line)) ∙ sym (append_assoc text (take k line) (drop k line)))
 
--- the line of a reply
+-- the text of the answer
 abbrev pub reply_of : ℕ → World → Reading → Text
-reply_of n w r = line_of n (reply_words (step w r).1)
+reply_of n w r = text_of_lines n (lines_of w r)
+
+-- a text of one line
+pub one_line : (n : ℕ) (words : List Text) → line_of n words ≡ text_of_lines n (words ∷ [])
+one_line n words = sym (append-nil (line_of n words))
 
 -- one record more: its line follows
 pub writes_more : (records : List (ℕ × Reading)) (w : World) (written : Text) (n : ℕ) (r : Reading)
-    → Writes records w written → Writes (records ++ (n, r) ∷ []) (step w r).0 (written ++ reply_of n w r)
+    → Writes records w written → Writes (records ++ (n, r) ∷ []) (world_after w r) (written ++ reply_of n w r)
 writes_more records w written n r writes = λ more.
     ap (λ (rs : List (ℕ × Reading)). text_of_records rs) (append_assoc records ((n, r) ∷ []) more)
     ∙ writes ((n, r) ∷ more)
-    ∙ ap Some (sym (append_assoc written (reply_of n w r) (text_from (step w r).0 more)))
+    ∙ ap Some (sym (append_assoc written (reply_of n w r) (text_from (world_after w r) more)))
 
 -- a run that ended, and wrote no more
 stops_now : (status : Status) (bytes : List ℕ) (left had : Option (List ℕ)) (written : Text) → HasEnded status bytes left written → Stops status bytes left had had written
@@ -83,7 +86,7 @@ module _ (bytes : List ℕ) (old : Reader) (before : Option (List ℕ)) (w : Wor
     pub stops_without_memory : Stops statuses.NoMemory bytes left had had written
     stops_without_memory =
         stops_now statuses.NoMemory bytes left had written
-        (ends_without_memory bytes left (stands.records ++ (new.number, r) ∷ []) (step w r).0 (written ++ reply_of new.number w r) written
+        (ends_without_memory bytes left (stands.records ++ (new.number, r) ∷ []) (world_after w r) (written ++ reply_of new.number w r) written
         (heard_now bytes new left _ heard.0 heard.1) (writes_more stands.records w written new.number r stands.writes) (front_before written (reply_of new.number w r)))
 
     -- the sink did not take the whole line
@@ -92,18 +95,18 @@ module _ (bytes : List ℕ) (old : Reader) (before : Option (List ℕ)) (w : Wor
     stops_at_sink has line sink_faults.WriteFault k is took = record {
       more = take k line;
       wrote = took;
-      ended = ends_at_write bytes new left (stands.records ++ (new.number, r) ∷ []) (step w r).0 (written ++ line) (written ++ take k line)
-          heard.0 heard.1 (subst (λ (t : Text). Writes (stands.records ++ (new.number, r) ∷ []) (step w r).0 (written ++ t)) (sym is) (writes_more stands.records w written new.number r stands.writes)) (front_part written line k);
+      ended = ends_at_write bytes new left (stands.records ++ (new.number, r) ∷ []) (world_after w r) (written ++ line) (written ++ take k line)
+          heard.0 heard.1 (subst (λ (t : Text). Writes (stands.records ++ (new.number, r) ∷ []) (world_after w r) (written ++ t)) (sym is) (writes_more stands.records w written new.number r stands.writes)) (front_part written line k);
     }
     stops_at_sink has line sink_faults.NoMemory k is took = record {
       more = take k line;
       wrote = took;
-      ended = ends_without_memory bytes left (stands.records ++ (new.number, r) ∷ []) (step w r).0 (written ++ line) (written ++ take k line)
-          (heard_now bytes new left _ heard.0 heard.1) (subst (λ (t : Text). Writes (stands.records ++ (new.number, r) ∷ []) (step w r).0 (written ++ t)) (sym is) (writes_more stands.records w written new.number r stands.writes)) (front_part written line k);
+      ended = ends_without_memory bytes left (stands.records ++ (new.number, r) ∷ []) (world_after w r) (written ++ line) (written ++ take k line)
+          (heard_now bytes new left _ heard.0 heard.1) (subst (λ (t : Text). Writes (stands.records ++ (new.number, r) ∷ []) (world_after w r) (written ++ t)) (sym is) (writes_more stands.records w written new.number r stands.writes)) (front_part written line k);
     }
 
     -- the sink took the whole line
-    pub goes_on : (has : Option (List ℕ)) (line : Text) (after : World) → line ≡ reply_of new.number w r → after ≡ (step w r).0 → has ≡ with_bytes had line
+    pub goes_on : (has : Option (List ℕ)) (line : Text) (after : World) → line ≡ reply_of new.number w r → after ≡ (world_after w r) → has ≡ with_bytes had line
         → GoesOn bytes new left had has after written
     goes_on has line after is world took = record {
       more = line;
@@ -114,7 +117,7 @@ module _ (bytes : List ℕ) (old : Reader) (before : Option (List ℕ)) (w : Wor
         within = heard.1;
         writes =
             subst (λ (v : World). Writes (stands.records ++ (new.number, r) ∷ []) v (written ++ line)) (sym world)
-            (subst (λ (t : Text). Writes (stands.records ++ (new.number, r) ∷ []) (step w r).0 (written ++ t)) (sym is) (writes_more stands.records w written new.number r stands.writes));
+            (subst (λ (t : Text). Writes (stands.records ++ (new.number, r) ∷ []) (world_after w r) (written ++ t)) (sym is) (writes_more stands.records w written new.number r stands.writes));
       };
     }
 

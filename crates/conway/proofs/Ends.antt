@@ -1,13 +1,12 @@
 -- How a run ends, from what was read and what was written.
 use Rattle.std.proofs.Common.{◌≡◌, ◌≢◌, ℕ, ◌<◌, ◌≤◌, ◌↔◌, List, [], ◌∷◌, ◌++◌, false, Option, Some, None, length, refl, sym, ap, subst, ◌∙◌, arith, append_assoc, inl, inr}
-use Rattle.std.specs.Prelude.{IsTrue, option_map, unwrap_or}
+use Rattle.std.specs.Prelude.{IsTrue, unwrap_or}
 use Rattle.std.proofs.lemmas.List.{append-nil, length-append}
 use Rattle.byte_lines.specs.Pieces.{whole_of}
 use Rattle.byte_lines.specs.Reader.{Reader}
-use Rattle.conway.specs.declared.record.Genesis.{Genesis}
-use Rattle.tx_records.specs.declared.genesis.GenesisRule.{GenesisRule}
-use Rattle.conway.specs.declared.record.Reading.{Reading}
-use Rattle.conway.specs.declared.record.Reading.TheVariants as readings
+use Rattle.tx_records.specs.declared.genesis.Genesis.{Genesis}
+use Rattle.tx_records.specs.declared.record.Reading.{Reading}
+use Rattle.tx_records.specs.declared.record.Reading.TheVariants as readings
 use Rattle.conway.specs.declared.status.GenesisCause.{GenesisCause}
 use Rattle.conway.specs.declared.status.GenesisCause.TheVariants as causes
 use Rattle.conway.specs.declared.status.Status.{Status}
@@ -16,24 +15,28 @@ use Rattle.conway.specs.Endings.{start_fault, text_or_nothing, counted, IsMissin
 use Rattle.conway.specs.Heard.{HasHeard, HadHeard}
 use Rattle.conway.specs.Limits.{stream_limit}
 use Rattle.conway.specs.Records.{records_of}
-use Rattle.conway.specs.Runs.{text_from, text_of_records, text_of_run, text_by_genesis}
+use Rattle.conway.specs.Runs.{text_from, text_of_records, text_of_run, genesis_cause, text_by_cause}
 use Rattle.text_model.specs.Words.{Text}
 use Rattle.conway.specs.Turns.{Writes}
-use Rattle.conway.specs.World.{World, genesis_fault}
+use Rattle.ledger_model.specs.World.{World}
+use Rattle.tx_records.specs.declared.record.Record.TheVariants as kinds
 use Rattle.conway.proofs.Heard.{heard_now}
 use Rattle.conway.proofs.Fronts.{IsPartRead, part_read, front_of_stream, records_of_whole, records_of_all, counted_within, came_within}
 
-by_fault : (n : ℕ) (g : Genesis) (rs : List (ℕ × Reading)) (t : Text) (fault : Option GenesisRule) → text_by_genesis n g fault rs ≡ Some t → option_map causes.Broken fault ≡ None
-by_fault n g rs t (Some rule) e = cc
+by_fault : (n : ℕ) (g : Genesis) (rs : List (ℕ × Reading)) (t : Text) (fault : Option GenesisCause) → text_by_cause n g fault rs ≡ Some t → fault ≡ None
+by_fault n g rs t (Some cause) e = cc
 by_fault n g rs t None e = refl
 
--- records that have a text begin with a genesis that breaks no rule
+-- records that have a text begin with a genesis to begin with
 pub starts_well : (rs : List (ℕ × Reading)) (t : Text) → text_of_records rs ≡ Some t → start_fault rs ≡ None
 starts_well [] t e = cc
 starts_well ((n, readings.TooLong) ∷ rs) t e = cc
-starts_well ((n, readings.Genesis g) ∷ rs) t e = by_fault n g rs t (genesis_fault g) e
-starts_well ((n, readings.Transfer x) ∷ rs) t e = cc
-starts_well ((n, readings.Other) ∷ rs) t e = cc
+starts_well ((n, readings.Malformed field place) ∷ rs) t e = cc
+starts_well ((n, readings.Read (kinds.Genesis g)) ∷ rs) t e = by_fault n g rs t (genesis_cause g) e
+starts_well ((n, readings.Read (kinds.Block slot pulse)) ∷ rs) t e = cc
+starts_well ((n, readings.Read (kinds.Rewards u)) ∷ rs) t e = cc
+starts_well ((n, readings.Read (kinds.Tx tx)) ∷ rs) t e = cc
+starts_well ((n, readings.Read (kinds.Print _)) ∷ rs) t e = cc
 
 module _ (records : List (ℕ × Reading)) (w : World) (written : Text) (writes : Writes records w written) where
   -- the text of bytes that begin with these records begins with what was written

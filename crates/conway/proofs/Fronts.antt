@@ -7,7 +7,7 @@ use Rattle.byte_lines.specs.Reader.{Reader, lines_left, lines_from}
 use Rattle.byte_lines.proofs.PieceLemmas.{pieces_from-feed}
 use Rattle.byte_lines.proofs.RunLemmas.{lines_from-feed}
 use Rattle.std.proofs.lemmas.List.{map-append}
-use Rattle.conway.specs.declared.record.Reading.{Reading}
+use Rattle.tx_records.specs.declared.record.Reading.{Reading}
 use Rattle.conway.specs.Endings.{counted}
 use Rattle.conway.specs.Heard.{HasHeard, HadHeard}
 use Rattle.conway.specs.Limits.{line_limit, stream_limit}

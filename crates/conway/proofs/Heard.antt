@@ -11,8 +11,8 @@ use Rattle.byte_lines.specs.declared.lines.Line.TheVariants.{Whole, TooLong, End
 use Rattle.byte_lines.specs.declared.lines.LineFault.{LineFault}
 use Rattle.byte_lines.specs.declared.lines.LineFault.TheVariants as faults
 use Rattle.byte_lines.proofs.TurnLemmas.{HasGiven-more}
-use Rattle.conway.specs.declared.record.Reading.{Reading}
-use Rattle.conway.specs.declared.record.Reading.TheVariants as readings
+use Rattle.tx_records.specs.declared.record.Reading.{Reading}
+use Rattle.tx_records.specs.declared.record.Reading.TheVariants as readings
 use Rattle.conway.specs.Heard.{HasHeard, HadHeard, Hears}
 use Rattle.conway.specs.Limits.{line_limit, stream_limit}
 use Rattle.conway.specs.Records.{records_from, record_of, reading_of_line}

@@ -1,42 +1,117 @@
--- The laws of the ledger hold.
-use Rattle.std.proofs.Common.{◌≡◌, List, [], ◌∷◌, Option, Some, None, refl, ◌∙◌}
-use Rattle.conway.specs.declared.record.Reading.{Reading}
-use Rattle.conway.specs.declared.record.Reading.TheVariants as readings
-use Rattle.tx_records.specs.declared.reply.Reply.TheVariants.{Accepted, Refused}
+-- Runs of what is built are runs of the whole ledger.
+use Rattle.std.proofs.Common.{◌≡◌, ℕ, Bool, true, false, ◌&&◌, List, [], ◌∷◌, ◌++◌, Option, Some, None, if◌then◌else◌, refl, sym, ap, ◌∙◌}
+use Rattle.std.specs.Prelude.{filter_map, option_map}
+use Rattle.std.specs.List.{cons_option, list_all}
+use Rattle.ledger_model.specs.World.{World}
+use Rattle.run_model.specs.Genesis.{genesis_fault, world_of_genesis}
+use Rattle.run_model.specs.Laws as laws
+use Rattle.run_model.specs.Limits.{is_readable}
+use Rattle.run_model.specs.Runs as whole
+use Rattle.run_model.specs.Step.{acceptance_of, accepted_as, refusal_of, step, step_by}
+use Rattle.text_model.specs.Runs as text
+use Rattle.text_model.specs.Runs.{text_of_lines}
+use Rattle.text_model.specs.Words.{Text}
+use Rattle.tx_records.specs.declared.genesis.Genesis.{Genesis}
+use Rattle.tx_records.specs.declared.genesis.GenesisRule.{GenesisRule}
+use Rattle.tx_records.specs.declared.record.Reading.{Reading}
+use Rattle.tx_records.specs.declared.record.Reading.TheVariants.{Read, Malformed, TooLong}
+use Rattle.tx_records.specs.declared.record.Record.{Record}
+use Rattle.tx_records.specs.declared.record.Record.TheVariants as records
+use Rattle.tx_records.specs.declared.reply.Reply.TheVariants.{Refused}
 use Rattle.tx_records.specs.declared.reply.Rule.{Rule}
-use Rattle.conway.specs.declared.record.Transfer.{Transfer}
-use Rattle.conway.specs.Laws.{SoundStays, SupplyStays, RefusedChangesNothing, Flows, AcceptedFlows, world_after_all}
-use Rattle.conway.specs.Step.{first_broken, world_after_transfer, refusal_of, step, step_by}
-use Rattle.conway.specs.World.{World, IsSound, supply_of, world_of_genesis}
-use Rattle.conway.proofs.Sound.{allowed, outputs_sum, sound_genesis, sound_step, supply_stays}
+use Rattle.tx_records.specs.declared.tx.Scripts.{Scripts}
+use Rattle.tx_records.specs.declared.tx.Scripts.TheVariants as scripts
+use Rattle.conway.specs.declared.status.GenesisCause.TheVariants as causes
+use Rattle.conway.specs.Built.{is_built, is_built_reading}
+use Rattle.conway.specs.Laws.{RunsAreOfTheWhole, TextIsOfTheWhole, SupplyStays, RefusedChangesNothing, built_record, is_within, world_after_all}
+use Rattle.conway.specs.Runs.{genesis_text, not_built_words, text_by_cause, text_from}
 
-sound_after_all : (w : World) (rs : List Reading) → IsSound w → IsSound (world_after_all w rs)
-sound_after_all w [] s = s
-sound_after_all w (r ∷ rs) s = sound_after_all (step w r).0 rs (sound_step w r s)
+-- ---- the ledger
 
-pub sound_holds : SoundStays
-sound_holds g rs e = sound_after_all (world_of_genesis g) rs (sound_genesis g e)
+pub runs : RunsAreOfTheWhole
+runs w [] = refl
+runs w ((n, Malformed field place) ∷ rs) = runs w rs
+runs w ((n, TooLong) ∷ rs) = runs w rs
+runs w ((n, Read r) ∷ rs) =
+    elim (is_built r) as (λ b. world_after_all (if b then (step w r).0 else w) rs ≡ whole.world_after_all w (cons_option (if b then Some r else None) (filter_map built_record rs))) [
+      | true ↦ runs (step w r).0 rs
+      | false ↦ runs w rs
+    ]
 
-balanced_after : (w : World) (rs : List Reading) → IsSound w → supply_of (world_after_all w rs) ≡ w.supply
-balanced_after w [] s = s.balanced
-balanced_after w (r ∷ rs) s = balanced_after (step w r).0 rs (sound_step w r s) ∙ supply_stays w r
+-- no acceptance is a refusal
+no_refusal : (scripts : Scripts) (rule : Rule) → accepted_as scripts ≡ Refused rule → ⊥
+no_refusal scripts.Absent rule e = cc
+no_refusal scripts.Passed rule e = cc
+no_refusal scripts.Failed rule e = cc
 
-pub supply_holds : SupplyStays
-supply_holds g rs e = balanced_after (world_of_genesis g) rs (sound_genesis g e)
+not_accepted : (w : World) (r : Record) (rule : Rule) → acceptance_of r ≡ Refused rule → ⊥
+not_accepted w (records.Genesis g) rule e = cc
+not_accepted w (records.Block slot pulse) rule e = cc
+not_accepted w (records.Rewards u) rule e = cc
+not_accepted w (records.Print _) rule e = cc
+not_accepted w (records.Tx tx) rule e = no_refusal tx.scripts rule e
 
-refused_by : (o : Option Rule) (w : World) (r : Reading) (rule : Rule) → (step_by o w r).1 ≡ Refused rule → (step_by o w r).0 ≡ w
-refused_by (Some other) w r rule e = refl
-refused_by None w r rule e = cc
+refused_stays : (w : World) (r : Record) (rule : Rule) (found : Option Rule) → (step_by found w r).1 ≡ Refused rule → (step_by found w r).0 ≡ w
+refused_stays w r rule (Some other) e = refl
+refused_stays w r rule None e = absurd (not_accepted w r rule e)
 
-pub refused_holds : RefusedChangesNothing
-refused_holds w r rule e = refused_by (refusal_of w r) w r rule e
+pub refused : RefusedChangesNothing
+refused w r rule e =
+    elim (is_built r) as (λ b. (if b then (step w r).0 else w) ≡ w) [
+      | true ↦ refused_stays w r rule (refusal_of w r) e
+      | false ↦ refl
+    ]
 
-flows_after : (w : World) (t : Transfer) → IsSound w → first_broken w t ≡ None → Flows w t (world_after_transfer w t)
-flows_after w t s e = let a = allowed w t e in record { even = a.even; outputs = outputs_sum w t s a; others = refl }
+-- ---- the supply
 
-pub flows_hold : AcceptedFlows
-flows_hold w t s e =
-    elim (first_broken w t) as (λ o. first_broken w t ≡ o → (step_by o w (readings.Transfer t)).1 ≡ Accepted → Flows w t (step_by o w (readings.Transfer t)).0) [
-      | Some rule ↦ λ is e. cc
-      | None ↦ λ is e. flows_after w t s is
-    ] refl e
+both : (a b : Bool) → (a && b) ≡ true → (a ≡ true) × (b ≡ true)
+both true b e = (refl, e)
+both false b e = cc
+
+-- the records that are built are within the limits, where all that was read is
+built_within : (rs : List (ℕ × Reading)) → list_all is_within rs ≡ true → list_all is_readable (filter_map built_record rs) ≡ true
+built_within [] e = refl
+built_within ((n, Malformed field place) ∷ rs) e = built_within rs e
+built_within ((n, TooLong) ∷ rs) e = built_within rs e
+built_within ((n, Read r) ∷ rs) e =
+    let h = both (is_readable r) (list_all is_within rs) e in
+    elim (is_built r) as (λ b. list_all is_readable (cons_option (if b then Some r else None) (filter_map built_record rs)) ≡ true) [
+      | true ↦ ap (λ b. b && list_all is_readable (filter_map built_record rs)) h.0 ∙ built_within rs h.1
+      | false ↦ built_within rs h.1
+    ]
+
+pub supply : laws.SupplyStays → SupplyStays
+supply law g rs readable sound within = law (world_after_all (world_of_genesis g) rs) (record {
+  genesis = g;
+  records = filter_map built_record rs;
+  readable = readable;
+  all_readable = built_within rs within;
+  sound = sound;
+  reached = sym (runs (world_of_genesis g) rs);
+})
+
+-- ---- the text
+
+all_text : (w : World) (rs : List (ℕ × Reading)) → list_all (λ (r : ℕ × Reading). is_built_reading r.1) rs ≡ true → text_from w rs ≡ text.text_from w rs
+all_text w [] e = refl
+all_text w (r ∷ rs) e =
+    let h = both (is_built_reading r.1) (list_all (λ (q : ℕ × Reading). is_built_reading q.1) rs) e in
+    ap (λ b. text_of_lines r.0 (if b then text.lines_of w r.1 else not_built_words ∷ []) ++ text_from (if b then text.world_after_reading w r.1 else w) rs) h.0
+    ∙ ap (λ (t : Text). text_of_lines r.0 (text.lines_of w r.1) ++ t) (all_text (text.world_after_reading w r.1) rs h.1)
+
+by_rule : (n : ℕ) (g : Genesis) (rs : List (ℕ × Reading)) (found : Option GenesisRule) → list_all (λ (r : ℕ × Reading). is_built_reading r.1) rs ≡ true
+    → text_by_cause n g (option_map causes.Broken found) rs ≡ text.text_of_genesis n g found rs
+by_rule n g rs (Some rule) e = refl
+by_rule n g rs None e = ap (λ (t : Text). Some (genesis_text n g ++ t)) (all_text (world_of_genesis g) rs e)
+
+pub text_is : TextIsOfTheWhole
+text_is [] s e = refl
+text_is ((n, Malformed field place) ∷ rs) s e = refl
+text_is ((n, TooLong) ∷ rs) s e = refl
+text_is ((n, Read (records.Block slot pulse)) ∷ rs) s e = refl
+text_is ((n, Read (records.Rewards u)) ∷ rs) s e = refl
+text_is ((n, Read (records.Tx tx)) ∷ rs) s e = refl
+text_is ((n, Read (records.Print _)) ∷ rs) s e = refl
+text_is ((n, Read (records.Genesis g)) ∷ rs) s e =
+    ap (λ b. text_by_cause n g (if b then option_map causes.Broken (genesis_fault g) else Some causes.NotBuilt) rs) s
+    ∙ by_rule n g rs (genesis_fault g) e

@@ -4,10 +4,5 @@ pub mod Complete
 pub mod Ends
 pub mod Fronts
 pub mod Heard
-pub mod Items
-pub mod Json
-pub mod Words
-pub mod RecordsLeft
-pub mod Puts
-pub mod Sound
 pub mod LawsHold
+pub mod Judging

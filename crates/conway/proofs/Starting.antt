@@ -1,28 +1,26 @@
 -- The start of a run, from what was heard.
 use Rattle.std.proofs.Common.{◌≡◌, ℕ, List, [], ◌∷◌, ◌++◌, Option, Some, None, Result, Ok, Err, take, refl, sym, ap, subst, ◌∙◌}
-use Rattle.std.specs.Prelude.{option_map, ⊤}
+use Rattle.std.specs.Prelude.{⊤}
 use Rattle.byte_lines.specs.Faults.{with_bytes}
 use Rattle.byte_lines.specs.declared.sink.SinkFault.{SinkFault}
 use Rattle.byte_lines.specs.declared.sink.SinkFault.TheVariants as sink_faults
 use Rattle.byte_lines.specs.Reader.{Reader}
-use Rattle.conway.specs.declared.ledger.GenesisFault.{GenesisFault}
-use Rattle.conway.specs.declared.ledger.GenesisFault.TheVariants as faults
-use Rattle.conway.specs.declared.record.Genesis.{Genesis}
-use Rattle.tx_records.specs.declared.genesis.GenesisRule.{GenesisRule}
-use Rattle.conway.specs.declared.record.Reading.{Reading}
-use Rattle.conway.specs.declared.record.Reading.TheVariants as readings
+use Rattle.tx_records.specs.declared.record.Reading.{Reading}
+use Rattle.tx_records.specs.declared.record.Reading.TheVariants as readings
 use Rattle.conway.specs.declared.status.GenesisCause.{GenesisCause}
 use Rattle.conway.specs.declared.status.GenesisCause.TheVariants as causes
 use Rattle.conway.specs.declared.status.Status.{Status}
 use Rattle.conway.specs.declared.status.Status.TheVariants as statuses
 use Rattle.conway.specs.Endings.{HasEnded, IsReplayed, start_fault}
-use Rattle.conway.specs.Heard.{HearsNext}
-use Rattle.conway.specs.Starts.{StartsAs}
-use Rattle.conway.specs.Runs.{text_from, text_by_genesis, genesis_text}
-use Rattle.conway.specs.Statuses.{status_of_genesis_fault, status_of_sink_fault, status_by}
+use Rattle.conway.specs.Heard.{HasHeard, HearsNext}
+use Rattle.conway.specs.Runs.{text_from, text_by_cause, genesis_text, genesis_cause}
+use Rattle.conway.specs.Statuses.{status_of_sink_fault, status_by}
 use Rattle.text_model.specs.Words.{Text}
-use Rattle.conway.specs.Turns.{HasStarted, Writes, Stands, Stops, AnswersAll}
-use Rattle.conway.specs.World.{World, genesis_fault, world_of_genesis}
+use Rattle.conway.specs.Turns.{BeginsWith, HasStarted, Starts, Writes, Stands, Stops, AnswersAll}
+use Rattle.ledger_model.specs.World.{World}
+use Rattle.ledger_state.specs.Held.{Held, world_of}
+use Rattle.run_model.specs.Genesis.{world_of_genesis}
+use Rattle.tx_records.specs.declared.record.Record.TheVariants as kinds
 use Rattle.conway.proofs.Answering.{took_nothing, took_both, front_part}
 use Rattle.conway.proofs.Ends.{ends_early, ends_early_at_read, ends_early_over, ends_missing, ends_bad, ends_at_write, ends_without_memory}
 use Rattle.conway.proofs.Heard.{heard_now}
@@ -47,34 +45,44 @@ module _ (bytes : List ℕ) (new : Reader) (left : Option (List ℕ)) where
       → HearsNext bytes new left [] (Ok (Some r)) → HasEnded (statuses.BadGenesis cause) bytes left []
   bad_start r cause bad heard = ends_bad bytes new left ((new.number, r) ∷ []) heard.0 cause heard.1 bad
 
-  -- the genesis gives no ledger
-  pub broken_start : (g : Genesis) (fault : GenesisFault) → StartsAs (Err fault) g → HearsNext bytes new left [] (Ok (Some (readings.Genesis g)))
-      → HasEnded (status_of_genesis_fault fault) bytes left []
-  broken_start g (faults.Broken rule) is heard =
-      bad_start (readings.Genesis g) (causes.Broken rule) (λ more. ap (λ (o : Option GenesisRule). option_map causes.Broken o) is) heard
-  broken_start g faults.NoMemory is heard = ends_early bytes left ((new.number, readings.Genesis g) ∷ []) (heard_now bytes new left _ heard.0 heard.1)
-
-  -- the genesis gives its ledger
-  pub has_started : (g : Genesis) (w : World) → StartsAs (Ok w) g → HearsNext bytes new left [] (Ok (Some (readings.Genesis g))) → HasStarted bytes new left w
-  has_started g w is heard = record { genesis = g; heard = heard.0; within = heard.1; sound = is.0; ledger = is.1 }
+  -- what was read first gives a ledger, or none
+  pub starts_with : (r : Reading) (result : Result Held Status) → BeginsWith result r → HearsNext bytes new left [] (Ok (Some r)) → Starts bytes new left result
+  starts_with r (Ok h) is heard = record {
+    genesis = is.0;
+    heard = subst (λ (x : Reading). HasHeard bytes new left ((new.number, x) ∷ [])) is.1 heard.0;
+    within = heard.1;
+    sound = is.2;
+    ledger = is.3;
+  }
+  starts_with r (Err (statuses.BadGenesis cause)) is heard = bad_start r cause (λ more. is) heard
+  starts_with r (Err statuses.NoMemory) is heard = ends_early bytes left ((new.number, r) ∷ []) (heard_now bytes new left _ heard.0 heard.1)
+  starts_with r (Err statuses.Done) is heard = absurd is
+  starts_with r (Err statuses.Usage) is heard = absurd is
+  starts_with r (Err statuses.ReadFault) is heard = absurd is
+  starts_with r (Err statuses.WriteFault) is heard = absurd is
+  starts_with r (Err statuses.TooMuch) is heard = absurd is
 
 -- a run that wrote nothing
 pub replay_of_nothing : (status : Status) (bytes : List ℕ) (left had : Option (List ℕ)) → HasEnded status bytes left [] → IsReplayed status bytes left had had
 replay_of_nothing status bytes left had ended = record { written = []; wrote = took_nothing had; ended = ended }
 
-module _ (bytes : List ℕ) (r : Reader) (left : Option (List ℕ)) (w : World) (started : HasStarted bytes r left w) where
+module _ (bytes : List ℕ) (r : Reader) (left : Option (List ℕ)) (h : Held) (started : HasStarted bytes r left h) where
+  -- the whole ledger of the genesis
+  abbrev first_world : World
+  first_world = world_of h (world_of_genesis started.genesis)
+
   -- the text of the genesis
   abbrev first_line : Text
   first_line = genesis_text r.number started.genesis
 
-  by_rule : (fault : Option GenesisRule) → fault ≡ None → (more : List (ℕ × Reading))
-      → text_by_genesis r.number started.genesis fault more ≡ Some (first_line ++ text_from (world_of_genesis started.genesis) more)
+  by_rule : (fault : Option GenesisCause) → fault ≡ None → (more : List (ℕ × Reading))
+      → text_by_cause r.number started.genesis fault more ≡ Some (first_line ++ text_from (world_of_genesis started.genesis) more)
   by_rule None e more = refl
-  by_rule (Some rule) e more = cc
+  by_rule (Some cause) e more = cc
 
-  pub writes_first : Writes ((r.number, readings.Genesis started.genesis) ∷ []) w first_line
+  pub writes_first : Writes ((r.number, readings.Read (kinds.Genesis started.genesis)) ∷ []) first_world first_line
   writes_first = λ more.
-      by_rule (genesis_fault started.genesis) started.sound more
+      by_rule (genesis_cause started.genesis) started.sound more
       ∙ ap (λ (v : World). Some (first_line ++ text_from v more)) (sym started.ledger)
 
   -- memory ran out before the first line was handed on
@@ -88,23 +96,23 @@ module _ (bytes : List ℕ) (r : Reader) (left : Option (List ℕ)) (w : World) 
   first_at_sink had has line sink_faults.WriteFault k is took = record {
     written = take k line;
     wrote = took;
-    ended = ends_at_write bytes r left _ w line (take k line) started.heard started.within
-        (subst (λ (t : Text). Writes ((r.number, readings.Genesis started.genesis) ∷ []) w t) (sym is) writes_first) (front_part [] line k);
+    ended = ends_at_write bytes r left _ first_world line (take k line) started.heard started.within
+        (subst (λ (t : Text). Writes ((r.number, readings.Read (kinds.Genesis started.genesis)) ∷ []) first_world t) (sym is) writes_first) (front_part [] line k);
   }
   first_at_sink had has line sink_faults.NoMemory k is took = record {
     written = take k line;
     wrote = took;
-    ended = ends_without_memory bytes left _ w line (take k line) (heard_now bytes r left _ started.heard started.within)
-        (subst (λ (t : Text). Writes ((r.number, readings.Genesis started.genesis) ∷ []) w t) (sym is) writes_first) (front_part [] line k);
+    ended = ends_without_memory bytes left _ first_world line (take k line) (heard_now bytes r left _ started.heard started.within)
+        (subst (λ (t : Text). Writes ((r.number, readings.Read (kinds.Genesis started.genesis)) ∷ []) first_world t) (sym is) writes_first) (front_part [] line k);
   }
 
   -- the first line was written
-  pub first_stands : (line : Text) → line ≡ first_line → Stands bytes r left w line
+  pub first_stands : (line : Text) → line ≡ first_line → Stands bytes r left first_world line
   first_stands line is = record {
-    records = (r.number, readings.Genesis started.genesis) ∷ [];
+    records = (r.number, readings.Read (kinds.Genesis started.genesis)) ∷ [];
     heard = started.heard;
     within = started.within;
-    writes = subst (λ (t : Text). Writes ((r.number, readings.Genesis started.genesis) ∷ []) w t) (sym is) writes_first;
+    writes = subst (λ (t : Text). Writes ((r.number, readings.Read (kinds.Genesis started.genesis)) ∷ []) first_world t) (sym is) writes_first;
   }
 
 -- after the first line all others were answered

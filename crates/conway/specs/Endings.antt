@@ -1,25 +1,33 @@
 -- How a run of `replay` may end, and what it has written then. (Own)
-use Rattle.std.specs.Prelude.{◌≡◌, ◌⊎◌, ℕ, ◌<◌, ◌↔◌, List, [], ◌∷◌, ◌++◌, Option, Some, None, option_map, take, unwrap_or, length}
+use Rattle.std.specs.Prelude.{◌≡◌, ◌⊎◌, ℕ, ◌<◌, ◌↔◌, List, [], ◌∷◌, ◌++◌, Option, Some, None, take, unwrap_or, length}
 use Rattle.byte_lines.specs.Faults.{with_bytes}
 use Rattle.byte_lines.specs.Pieces.{whole_of}
-use Rattle.conway.specs.declared.record.Reading.{Reading}
-use Rattle.conway.specs.declared.record.Reading.TheVariants as readings
+use Rattle.tx_records.specs.declared.record.Reading.{Reading}
+use Rattle.tx_records.specs.declared.record.Reading.TheVariants as readings
+use Rattle.tx_records.specs.declared.record.Record.TheVariants as records
 use Rattle.conway.specs.declared.status.GenesisCause.{GenesisCause}
 use Rattle.conway.specs.declared.status.GenesisCause.TheVariants as causes
 use Rattle.conway.specs.declared.status.Status.{Status}
 use Rattle.conway.specs.declared.status.Status.TheVariants as statuses
 use Rattle.conway.specs.Limits.{stream_limit}
 use Rattle.conway.specs.Records.{records_of}
-use Rattle.conway.specs.Runs.{text_of_run}
+use Rattle.conway.specs.Runs.{genesis_cause, text_of_run}
 use Rattle.text_model.specs.Words.{Text}
-use Rattle.conway.specs.World.{genesis_fault}
 
--- why the first record is no genesis to begin with, where it is not
+-- why what was read first is no genesis to begin with, where it is not
+abbrev pub reading_fault : Reading → Option GenesisCause
+reading_fault readings.TooLong = Some causes.TooLong
+reading_fault (readings.Malformed field place) = Some (causes.Malformed field place)
+reading_fault (readings.Read (records.Genesis g)) = genesis_cause g
+reading_fault (readings.Read (records.Block slot pulse)) = Some causes.NoGenesis
+reading_fault (readings.Read (records.Rewards u)) = Some causes.NoGenesis
+reading_fault (readings.Read (records.Tx tx)) = Some causes.NoGenesis
+reading_fault (readings.Read (records.Print _)) = Some causes.NoGenesis
+
+-- the same of a stream's records
 abbrev pub start_fault : List (ℕ × Reading) → Option GenesisCause
 start_fault [] = Some causes.Missing
-start_fault ((n, readings.TooLong) ∷ rs) = Some causes.TooLong
-start_fault ((n, readings.Genesis g) ∷ rs) = option_map causes.Broken (genesis_fault g)
-start_fault ((n, _) ∷ rs) = Some causes.NotBuilt
+start_fault ((n, r) ∷ rs) = reading_fault r
 
 -- the text of a run over these bytes, nothing where there is none
 abbrev pub text_or_nothing : List ℕ → Text

@@ -5,8 +5,8 @@ use Rattle.byte_lines.specs.Reader.{Reader}
 use Rattle.byte_lines.specs.declared.lines.Line.{Line}
 use Rattle.byte_lines.specs.declared.lines.Line.TheVariants.{Whole, TooLong, End}
 use Rattle.byte_lines.specs.declared.lines.LineFault.{LineFault}
-use Rattle.conway.specs.declared.record.Reading.{Reading}
-use Rattle.conway.specs.declared.record.Reading.TheVariants as readings
+use Rattle.tx_records.specs.declared.record.Reading.{Reading}
+use Rattle.tx_records.specs.declared.record.Reading.TheVariants as readings
 use Rattle.conway.specs.declared.replay.Found.{Found}
 use Rattle.conway.specs.declared.replay.Found.TheVariants as found
 use Rattle.conway.specs.declared.status.Status.{Status}

@@ -1,37 +1,59 @@
--- Laws of the ledger, over its definitions alone. (Own)
-use Rattle.std.specs.Prelude.{◌≡◌, ◌+◌, List, fold, None, sum_by}
-use Rattle.book_records.specs.declared.Output.{Output}
-use Rattle.conway.specs.declared.record.Genesis.{Genesis}
-use Rattle.conway.specs.declared.record.Reading.{Reading}
-use Rattle.conway.specs.declared.record.Reading.TheVariants as readings
-use Rattle.tx_records.specs.declared.reply.Reply.TheVariants.{Accepted, Refused}
+-- Laws of runs: what the program answers so far is the whole ledger over the records that are built. (Own)
+use Rattle.std.specs.Prelude.{◌≡◌, ℕ, Bool, true, List, ◌∷◌, Option, Some, None, filter_map, fold, if◌then◌else◌}
+use Rattle.std.specs.List.{list_all}
+use Rattle.ledger_model.specs.Supply.{supply_of}
+use Rattle.ledger_model.specs.World.{World}
+use Rattle.ledger_state.specs.Built.{is_built_genesis}
+use Rattle.run_model.specs.Genesis.{genesis_fault, world_of_genesis}
+use Rattle.run_model.specs.Limits.{is_genesis, is_readable}
+use Rattle.run_model.specs.Runs as whole
+use Rattle.run_model.specs.Step.{step}
+use Rattle.text_model.specs.Runs as text
+use Rattle.tx_records.specs.declared.genesis.Genesis.{Genesis}
+use Rattle.tx_records.specs.declared.record.Reading.{Reading}
+use Rattle.tx_records.specs.declared.record.Reading.TheVariants.{Read, Malformed, TooLong}
+use Rattle.tx_records.specs.declared.record.Record.{Record}
+use Rattle.tx_records.specs.declared.record.Record.TheVariants as records
+use Rattle.tx_records.specs.declared.reply.Reply.TheVariants.{Refused}
 use Rattle.tx_records.specs.declared.reply.Rule.{Rule}
-use Rattle.conway.specs.declared.record.Transfer.{Transfer}
-use Rattle.conway.specs.Step.{step, consumed, produced}
-use Rattle.conway.specs.World.{World, IsSound, pots_of, supply_of, genesis_fault, world_of_genesis}
+use Rattle.conway.specs.Built.{is_built, is_built_reading}
+use Rattle.conway.specs.Runs.{text_of_records, world_after}
 
--- the ledger after records
-abbrev pub world_after_all : World → List Reading → World
-world_after_all w rs = fold (λ (v : World) (r : Reading). (step v r).0) w rs
+-- the record that was read, where it is built
+abbrev pub built_record : ℕ × Reading → Option Record
+built_record (n, Read r) = if is_built r then Some r else None
+built_record (n, Malformed field place) = None
+built_record (n, TooLong) = None
 
--- whatever the records, the ledger is sound
-abbrev pub SoundStays : Type 0
-SoundStays = (g : Genesis) (rs : List Reading) → genesis_fault g ≡ None → IsSound (world_after_all (world_of_genesis g) rs)
+-- the ledger after what was read
+abbrev pub world_after_all : World → List (ℕ × Reading) → World
+world_after_all w rs = fold (λ (v : World) (r : ℕ × Reading). world_after v r.1) w rs
 
--- whatever the records, the pots sum to the supply of the genesis
+-- the ledger is the one that the records that are built leave, by the rules of the whole ledger
+abbrev pub RunsAreOfTheWhole : Type 0
+RunsAreOfTheWhole = (w : World) (rs : List (ℕ × Reading)) → world_after_all w rs ≡ whole.world_after_all w (filter_map built_record rs)
+
+-- the genesis is built, where the first record is one
+abbrev pub starts_built : List (ℕ × Reading) → Bool
+starts_built ((n, Read (records.Genesis g)) ∷ rs) = is_built_genesis g
+starts_built _ = true
+
+-- where all that was read is built, the text is that of the whole ledger
+abbrev pub TextIsOfTheWhole : Type 0
+TextIsOfTheWhole = (rs : List (ℕ × Reading)) → starts_built rs ≡ true → list_all (λ (r : ℕ × Reading). is_built_reading r.1) rs ≡ true
+    → text_of_records rs ≡ text.text_of_run rs
+
+-- what was read is within the limits of records
+abbrev pub is_within : ℕ × Reading → Bool
+is_within (n, Read r) = is_readable r
+is_within (n, Malformed field place) = true
+is_within (n, TooLong) = true
+
+-- whatever is read, the pots sum to the supply of the genesis
 abbrev pub SupplyStays : Type 0
-SupplyStays = (g : Genesis) (rs : List Reading) → genesis_fault g ≡ None → supply_of (world_after_all (world_of_genesis g) rs) ≡ g.supply
+SupplyStays = (g : Genesis) (rs : List (ℕ × Reading)) → is_genesis g ≡ true → genesis_fault g ≡ None → list_all is_within rs ≡ true
+    → supply_of (world_after_all (world_of_genesis g) rs) ≡ g.supply
 
 -- a refused record changes nothing
 abbrev pub RefusedChangesNothing : Type 0
-RefusedChangesNothing = (w : World) (r : Reading) (rule : Rule) → (step w r).1 ≡ Refused rule → (step w r).0 ≡ w
-
--- what a transfer from v to w moves between the pots
-pub record Flows (v : World) (t : Transfer) (w : World) : Type 0 where
-  pub even : consumed v t ≡ produced t
-  pub outputs : (pots_of w).outputs + consumed v t ≡ (pots_of v).outputs + sum_by (λ (o : Output). o.lovelace) t.outputs
-  pub others : pots_of w ≡ record (pots_of v) { outputs = (pots_of w).outputs; fees = (pots_of v).fees + t.fee }
-
--- an accepted transfer takes from the outputs what it consumes, gives them what its outputs hold, and gives the fees its fee; these are even
-abbrev pub AcceptedFlows : Type 0
-AcceptedFlows = (w : World) (t : Transfer) → IsSound w → (step w (readings.Transfer t)).1 ≡ Accepted → Flows w t (step w (readings.Transfer t)).0
+RefusedChangesNothing = (w : World) (r : Record) (rule : Rule) → (step w r).1 ≡ Refused rule → world_after w (Read r) ≡ w

@@ -4,8 +4,8 @@ use Rattle.byte_lines.specs.declared.lines.LineFault.{LineFault}
 use Rattle.byte_lines.specs.declared.lines.LineFault.TheVariants as line_faults
 use Rattle.byte_lines.specs.declared.sink.SinkFault.{SinkFault}
 use Rattle.byte_lines.specs.declared.sink.SinkFault.TheVariants as sink_faults
-use Rattle.conway.specs.declared.ledger.GenesisFault.{GenesisFault}
-use Rattle.conway.specs.declared.ledger.GenesisFault.TheVariants as genesis_faults
+use Rattle.ledger_state.specs.declared.fault.GenesisFault.{GenesisFault}
+use Rattle.ledger_state.specs.declared.fault.GenesisFault.TheVariants as genesis_faults
 use Rattle.conway.specs.declared.status.GenesisCause.TheVariants.{Broken}
 use Rattle.conway.specs.declared.status.Status.{Status}
 use Rattle.conway.specs.declared.status.Status.TheVariants as statuses

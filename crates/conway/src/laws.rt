@@ -1,9 +1,13 @@
-ghost use Rattle.conway.specs.Laws.{SoundStays, SupplyStays, RefusedChangesNothing, AcceptedFlows};
+ghost use Rattle.conway.specs.Laws.{RefusedChangesNothing, RunsAreOfTheWhole, SupplyStays, TextIsOfTheWhole};
 
-/// What holds of every run of the ledger. It does nothing.
+use run_laws::supply_stays;
+
+/// What holds of every run. It does nothing.
 pub fn laws()
-    ensures sound { SoundStays }
+    ensures runs { RunsAreOfTheWhole }
+    ensures text { TextIsOfTheWhole }
     ensures supply { SupplyStays }
     ensures refused { RefusedChangesNothing }
-    ensures flows { AcceptedFlows }
-{}
+{
+    supply_stays();
+}

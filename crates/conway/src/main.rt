@@ -1,23 +1,16 @@
 //! conway: Cardano's Conway ledger, replayed from records on standard input.
 #![tactic(auto)]
 
+mod answer;
 mod command;
-mod fields;
 mod laws;
-mod ledger;
 mod limits;
-mod lists;
-#[cfg(test)]
-mod plain;
 mod reading;
-mod record;
 mod replay;
-mod rules;
 mod run;
 mod status;
 #[cfg(test)]
 mod tests;
-mod text;
 
 use byte_lines::{ReaderSource, WriterSink};
 use run::run;

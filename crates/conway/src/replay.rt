@@ -1,29 +1,25 @@
 ghost use Rattle.std.specs.Prelude.{◌≡◌, ◌≢◌, ℕ, ◌+◌, ◌<◌, ◌≤◌, List, [], Ok, Err, None, Some, IfOk, IfSome, IsTrue, length};
 ghost use Rattle.byte_lines.specs.Answers.{line_given};
 ghost use Rattle.byte_lines.specs.Faults.{Rose};
-ghost use Rattle.conway.specs.declared.record.Reading.{Reading};
-ghost use Rattle.conway.specs.declared.rules.TheConstants.{NOT_BUILT};
+ghost use Rattle.tx_records.specs.declared.record.Reading.{Reading};
+ghost use Rattle.ledger_model.specs.World.{World};
+ghost use Rattle.ledger_state.specs.Held.{world_of};
 ghost use Rattle.conway.specs.Endings.{IsReplayed};
 ghost use Rattle.conway.specs.Heard.{HasHeard, Hears, HearsLine, HearsNext, IsFoundWithin};
-ghost use Rattle.conway.specs.Limits.{output_limit};
 ghost use Rattle.conway.specs.Records.{IsWithin};
 ghost use Rattle.conway.specs.Statuses.{status_by};
-ghost use Rattle.conway.specs.Step.{step};
 ghost use Rattle.text_model.specs.Words.{Text};
-ghost use Rattle.tx_records.specs.Rules.{plain_rule};
-ghost use Rattle.conway.specs.Turns.{Answers, AnswersAll, Stands, Starts};
+ghost use Rattle.conway.specs.Turns.{Answers, AnswersAll, Begins, BeginsWith, Stands, Starts};
 
-use crate::ledger::Ledger;
+use crate::answer::{answer_line, is_plain_genesis, judge};
 use crate::limits::{LINE_LIMIT, STREAM_LIMIT};
 use crate::reading::read_line;
-use crate::record::Reading;
-use crate::rules::NOT_BUILT;
 use crate::status::{GenesisCause, Status};
-use crate::text::{genesis_line, reply_line};
 use byte_lines::{Line, LineFault, Lines, Sink, Source, put_all};
-use coin_frac::NoMemory;
+use ledger_state::LedgerState;
+use report::{PotsWord, pots_line};
 use std::alloc::Global;
-use tx_records::{Reply, Rule};
+use tx_records::{Genesis, Reading, Record};
 
 /// The next line.
 fn hear<S: Source>(lines: &mut Lines, source: &mut S) -> Result<Line, LineFault>
@@ -95,8 +91,36 @@ fn next_record<S: Source>(
     }
 }
 
+/// The ledger of a genesis, where it is built and breaks no rule.
+fn ledger_of_genesis(alloc: Global, genesis: &Genesis) -> Result<LedgerState, Status>
+    ensures { Begins result genesis.now }
+{
+    if !is_plain_genesis(genesis) {
+        return Err(Status::BadGenesis(GenesisCause::NotBuilt));
+    }
+    Ok(LedgerState::from_genesis(alloc, genesis)?)
+}
+
+/// The ledger of what was read first, where it is such a genesis.
+fn first_ledger(alloc: Global, reading: &Reading) -> Result<LedgerState, Status>
+    ensures { BeginsWith result reading.now }
+{
+    let cause = match reading {
+        Reading::Read(Record::Genesis(genesis)) => return ledger_of_genesis(alloc, genesis),
+        Reading::Read(
+            Record::Block { .. } | Record::Rewards(_) | Record::Tx(_) | Record::Print(_),
+        ) => GenesisCause::NoGenesis,
+        Reading::Malformed { what, place } => GenesisCause::Malformed {
+            what: *what,
+            place: *place,
+        },
+        Reading::TooLong => GenesisCause::TooLong,
+    };
+    Err(Status::BadGenesis(cause))
+}
+
 /// The ledger of the first record, where it is a genesis that breaks no rule.
-fn start<S: Source>(alloc: Global, lines: &mut Lines, source: &mut S) -> Result<Ledger, Status>
+fn start<S: Source>(alloc: Global, lines: &mut Lines, source: &mut S) -> Result<LedgerState, Status>
     ensures starts { (bytes : List ℕ) → HasHeard bytes lines.old (S.left source.old) [] →
         Starts bytes lines.new (S.left source.new) result }
     ensures counted { S.faults source.old ≤ S.faults source.new }
@@ -106,43 +130,21 @@ fn start<S: Source>(alloc: Global, lines: &mut Lines, source: &mut S) -> Result<
 {
     match next_record(alloc, lines, source)? {
         None => Err(Status::BadGenesis(GenesisCause::Missing)),
-        Some(Reading::TooLong) => Err(Status::BadGenesis(GenesisCause::TooLong)),
-        Some(Reading::Genesis(genesis)) => Ok(Ledger::from_genesis(alloc, &genesis)?),
-        Some(Reading::Transfer(_)) => Err(Status::BadGenesis(GenesisCause::NotBuilt)),
-        Some(Reading::Other) => Err(Status::BadGenesis(GenesisCause::NotBuilt)),
+        Some(reading) => first_ledger(alloc, &reading),
     }
-}
-
-/// The ledger after a record, and the reply.
-pub fn answer(ledger: Ledger, reading: &Reading) -> Result<(Ledger, Reply), NoMemory>
-    requires { IsWithin reading.now }
-    ensures ledger { IfOk result (λ r. r.0 ≡ (step ledger reading.now).0) }
-    ensures reply { IfOk result (λ r. r.1 ≡ (step ledger reading.now).1) }
-{
-    match reading {
-        Reading::Transfer(transfer) => ledger.transfer(transfer),
-        Reading::TooLong | Reading::Genesis(_) | Reading::Other => Ok((ledger, not_built())),
-    }
-}
-
-/// The refusal of what is no plain transfer.
-fn not_built() -> Reply
-    ensures { result ≡ Reply.Refused (plain_rule NOT_BUILT) }
-{
-    Reply::Refused(Rule::new(NOT_BUILT))
 }
 
 /// Answers the next record, and gives the ledger after it; nothing at the end.
 fn answer_next<S: Source, K: Sink>(
     alloc: Global,
-    ledger: Ledger,
+    ledger: LedgerState,
     text: &mut Vec<u8>,
     lines: &mut Lines,
     source: &mut S,
     sink: &mut K,
-) -> Result<Option<Ledger>, Status>
-    ensures answers { (bytes : List ℕ) (written : Text) → Stands bytes lines.old (S.left source.old) ledger written →
-        Answers bytes lines.new (S.left source.new) (K.taken sink.old) (K.taken sink.new) written result }
+) -> Result<Option<LedgerState>, Status>
+    ensures answers { (bytes : List ℕ) (written : Text) (start : World) → Stands bytes lines.old (S.left source.old) (world_of ledger start) written →
+        Answers start bytes lines.new (S.left source.new) (K.taken sink.old) (K.taken sink.new) written result }
     ensures number { IfOk result (λ found. IfSome found (λ _. lines.old.number < lines.new.number)) }
     ensures few { lines.new.number ≤ lines.new.stream_max + 1 }
     ensures stream_max { lines.new.stream_max ≡ lines.old.stream_max }
@@ -155,8 +157,8 @@ fn answer_next<S: Source, K: Sink>(
     let Some(reading) = next_record(alloc, lines, source)? else {
         return Ok(None);
     };
-    let (after, reply) = answer(ledger, &reading)?;
-    reply_line(text, lines.number(), &reply)?;
+    let (after, answer) = judge(ledger, &reading)?;
+    answer_line(text, lines.number(), &answer)?;
     put_all(sink, text.as_slice())?;
     Ok(Some(after))
 }
@@ -164,13 +166,13 @@ fn answer_next<S: Source, K: Sink>(
 /// Answers each further record.
 fn answer_all<S: Source, K: Sink>(
     alloc: Global,
-    ledger: Ledger,
+    ledger: LedgerState,
     text: &mut Vec<u8>,
     lines: &mut Lines,
     source: &mut S,
     sink: &mut K,
 ) -> Result<(), Status>
-    ensures answers { (bytes : List ℕ) (written : Text) → Stands bytes lines.old (S.left source.old) ledger written →
+    ensures answers { (bytes : List ℕ) (written : Text) (start : World) → Stands bytes lines.old (S.left source.old) (world_of ledger start) written →
         AnswersAll bytes (S.left source.new) (K.taken sink.old) (K.taken sink.new) written result }
     ensures reads { S.faults source.old ≤ S.faults source.new }
     ensures writes { K.faults sink.old ≤ K.faults sink.new }
@@ -198,7 +200,7 @@ pub fn replay<S: Source, K: Sink>(alloc: Global, source: &mut S, sink: &mut K) -
     let mut lines = Lines::new(alloc, LINE_LIMIT, STREAM_LIMIT);
     let ledger = start(alloc, &mut lines, source)?;
     let mut text = Vec::new(alloc);
-    genesis_line(&mut text, lines.number(), &ledger.pots())?;
+    pots_line(&mut text, lines.number(), PotsWord::Genesis, &ledger.pots())?;
     put_all(sink, text.as_slice())?;
     answer_all(alloc, ledger, &mut text, &mut lines, source, sink)
 }

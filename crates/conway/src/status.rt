@@ -1,10 +1,10 @@
 ghost use Rattle.std.specs.Prelude.{◌≡◌};
 ghost use Rattle.conway.specs.Statuses.{status_number};
 
-use crate::ledger::GenesisFault;
 use byte_lines::{LineFault, SinkFault};
 use coin_frac::NoMemory;
-use tx_records::GenesisRule;
+use ledger_state::GenesisFault;
+use tx_records::{FieldName, GenesisRule};
 
 /// How a run ended.
 #[derive(Clone, Copy, Debug, PartialEq, Eq)]
@@ -32,7 +32,11 @@ pub enum GenesisCause {
     Missing,
     /// The line is longer than a line may be.
     TooLong,
-    /// It is no plain genesis.
+    /// It is no record: what of it is wrong, and the place in that list, from 0, where one entry is.
+    Malformed { what: FieldName, place: Option<u32> },
+    /// It is a record of another kind.
+    NoGenesis,
+    /// It has accounts, pools or DReps, which are not built yet.
     NotBuilt,
     /// The first genesis rule that it breaks.
     Broken(GenesisRule),

@@ -9,6 +9,7 @@ fn ends_with_the_number(rt: HostRuntime) {
         (Status::Usage, 2),
         (Status::BadGenesis(GenesisCause::Missing), 3),
         (Status::BadGenesis(GenesisCause::TooLong), 3),
+        (Status::BadGenesis(GenesisCause::NoGenesis), 3),
         (Status::BadGenesis(GenesisCause::NotBuilt), 3),
         (
             Status::BadGenesis(GenesisCause::Broken(GenesisRule::SumWrong)),

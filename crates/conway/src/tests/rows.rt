@@ -1,15 +1,11 @@
-//! Rows with the text that each must give, and streams against the plain program.
-ghost use Rattle.std.specs.Prelude.{◌<◌};
-
+//! Rows with the text that each must give.
 use super::memory::{replayed_in_memory, words_of};
 use super::streams::{ROW, row_text, stream};
-use crate::plain::plain_text_of_run;
 use crate::run::run;
 use crate::status::{GenesisCause, Status};
 use byte_lines::{MemorySink, MemorySource};
-use std::process::Abort;
 use std::test::Fail;
-use tx_records::GenesisRule;
+use tx_records::{FieldName, GenesisRule};
 
 /// The worked row.
 #[test]
@@ -28,8 +24,15 @@ fn refuses_a_bad_genesis(rt: HostRuntime) -> Result<(), Fail> {
         ("", GenesisCause::Missing),
         ("\n \t\r\n", GenesisCause::Missing),
         ("\nw\n2\n", GenesisCause::Broken(GenesisRule::SumWrong)),
-        ("p\nG\n", GenesisCause::NotBuilt),
-        ("2\nG\n", GenesisCause::NotBuilt),
+        ("p\nG\n", GenesisCause::NoGenesis),
+        ("2\nG\n", GenesisCause::NoGenesis),
+        (
+            "x\nG\n",
+            GenesisCause::Malformed {
+                what: FieldName::Json,
+                place: None,
+            },
+        ),
     ];
     for (shape, cause) in table {
         let bytes = stream(rt.alloc(), shape)?;
@@ -86,72 +89,5 @@ fn leaves_all_for_wrong_words(rt: HostRuntime) -> Result<(), Fail> {
     let status = run(rt.alloc(), words.as_slice(), &mut source, &mut sink);
     assert_eq!(rt; status, Status::Done);
     assert_eq!(rt; sink.as_slice(), row_text());
-    Ok(())
-}
-
-/// Whether a run over memory comes to what the plain program says.
-fn agrees(rt: &(impl Abort + AllocGlobal), shape: &str, part: usize) -> Result<(), Fail>
-    requires { 0 < part }
-{
-    let bytes = stream(rt.alloc(), shape)?;
-    let (status, sink) = replayed_in_memory(rt.alloc(), bytes.as_slice(), part)?;
-    match plain_text_of_run(rt.alloc(), bytes.as_slice())? {
-        Some(text) => {
-            assert_eq!(rt; status, Status::Done, "{shape}");
-            assert_eq!(rt; sink.as_slice(), text.as_slice(), "{shape}");
-        }
-        None => {
-            assert_eq!(rt; status.number(), 3, "{shape}");
-            assert!(rt; sink.as_slice().is_empty(), "{shape}");
-        }
-    }
-    Ok(())
-}
-
-#[test]
-fn agrees_with_the_plain_program(rt: HostRuntime) -> Result<(), Fail> {
-    let shapes = [
-        "",
-        "\n",
-        "\n\n",
-        " \t",
-        "G",
-        "G\n",
-        "\nG",
-        "\r\nG\r\n2\r\n",
-        "g\np",
-        "g\n\n\np\n",
-        "g\r\np\r",
-        "g \n \n p",
-        "f\np\n",
-        "e\np",
-        "w",
-        "w\n2",
-        "p",
-        "2\ng",
-        "g\ng\n",
-        "gg",
-        "g\n{\n",
-        "g\nxx\n",
-        "g\n2\n3\n4",
-        ROW,
-        "G\n2\n2\n3\n4\np",
-        "G\r\n2\r\n\r\n3\r\n4\r\np\r\n",
-        "G\n\n4\n \n3\n2",
-        "f",
-        "f\r",
-        "e\r\ne\r\n",
-        "\t\ne\n",
-        "g\n\"x\"\n[]\n",
-        "g\nnull\n0",
-        " g\n p",
-        "w\r\ng",
-        "x\ng\n",
-    ];
-    for shape in shapes {
-        for part in [1, 2, 7, 65_536] {
-            agrees(&rt, shape, part)?;
-        }
-    }
     Ok(())
 }

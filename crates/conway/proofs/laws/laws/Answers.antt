@@ -1,5 +1,14 @@
-use Rattle.conway.proofs.LawsHold.{sound_holds, supply_holds, refused_holds, flows_hold}
+use Rattle.conway.proofs.LawsHold.{refused, runs, supply, text_is}
 use Rattle.conway.proofs.laws.laws.Goals as goal
 
-pub returns : goal.returns
-returns c = record { sound = sound_holds; supply = supply_holds; refused = refused_holds; flows = flows_hold }
+pub returns-clause-runs : goal.returns-clause-runs
+returns-clause-runs c = runs
+
+pub returns-clause-text : goal.returns-clause-text
+returns-clause-text c = text_is
+
+pub returns-clause-supply : goal.returns-clause-supply
+returns-clause-supply c = supply c.supply_stays.ensures
+
+pub returns-clause-refused : goal.returns-clause-refused
+returns-clause-refused c = refused

@@ -1,7 +1,7 @@
 use Rattle.std.proofs.Common.{◌≡◌, ℕ, List, Option, Some, None, Ok, Err, ap, subst, sym, ◌∙◌, rules}
 use Rattle.std.proofs.lemmas.List.{append-nil}
 use Rattle.byte_lines.specs.declared.lines.Line.{Line}
-use Rattle.conway.specs.declared.record.Reading.{Reading}
+use Rattle.tx_records.specs.declared.record.Reading.{Reading}
 use Rattle.conway.specs.declared.status.Status.TheVariants as statuses
 use Rattle.conway.specs.Heard.{HasHeard, Hears}
 use Rattle.conway.specs.Records.{reading_of_line}

@@ -1,5 +1,5 @@
 use Rattle.std.proofs.Common.{◌≡◌, ◌+◌, ◌-◌, ◌≤◌, ℕ, List}
-use Rattle.conway.specs.declared.record.Reading.{Reading}
+use Rattle.tx_records.specs.declared.record.Reading.{Reading}
 use Rattle.conway.specs.Heard.{HasHeard}
 use Rattle.conway.proofs.replay.next_record.Given as goal
 
