@@ -1,5 +1,6 @@
 -- A genesis that is built: its lists of accounts, pools and DReps are empty.
 use Rattle.std.proofs.Common.{◌≡◌, ℕ, ◌+◌, ◌==◌, List, [], ◌∷◌, Bool, true, false, not, ◌&&◌, ◌||◌, Option, option_map, find, map, nat_lt, sum_by, refl, ap, ◌∙◌, arith}
+use Rattle.std.proofs.lemmas.Bool.{and_parts}
 use Rattle.std.specs.List.{list_any}
 use Rattle.maps.specs.Words.{is_empty, repeats}
 use Rattle.gov_ids.specs.Orders.{credential_cmp, outref_cmp}
@@ -8,7 +9,7 @@ use Rattle.tx_records.specs.declared.genesis.GenesisRule.{GenesisRule}
 use Rattle.tx_records.specs.declared.genesis.GenesisRule.TheVariants.{SupplyTooLarge, Repeated, UnknownTarget, WrongNetwork, SumWrong}
 use Rattle.run_model.specs.Genesis.{genesis_fault, genesis_members, genesis_sum, supply_limit}
 use Rattle.ledger_state.specs.Built.{is_built_genesis}
-use Rattle.ledger_state.proofs.Bare.{both_true, empty_is}
+use Rattle.ledger_state.proofs.Bare.{empty_is}
 
 -- with these lists empty
 abbrev pub bare_genesis : Genesis → Genesis
@@ -16,8 +17,8 @@ bare_genesis g = record g { accounts = []; pools = []; dreps = [] }
 
 pub genesis_is_bare : (g : Genesis) → is_built_genesis g ≡ true → g ≡ bare_genesis g
 genesis_is_bare g e =
-    let first = both_true (is_empty g.accounts && is_empty g.pools) (is_empty g.dreps) e in
-    let second = both_true (is_empty g.accounts) (is_empty g.pools) first.0 in
+    let first = and_parts (is_empty g.accounts && is_empty g.pools) (is_empty g.dreps) e in
+    let second = and_parts (is_empty g.accounts) (is_empty g.pools) first.0 in
     let a : g.accounts ≡ [] = empty_is g.accounts second.0 in
     let p : g.pools ≡ [] = empty_is g.pools second.1 in
     let d : g.dreps ≡ [] = empty_is g.dreps first.1 in

@@ -1,5 +1,6 @@
 -- A transaction that is built: it has no withdrawals, certificates, proposals and votes, so it changes outputs, used ids and pots alone.
 use Rattle.std.proofs.Common.{◌≡◌, ℕ, ◌+◌, ◌-◌, true, List, [], ◌&&◌, sum_by, refl, ap, sym, ◌∙◌, subst}
+use Rattle.std.proofs.lemmas.Bool.{and_parts}
 use Rattle.book_records.specs.declared.Output.{Output}
 use Rattle.gov_ids.specs.declared.OutRef.{OutRef}
 use Rattle.gov_ids.specs.Orders.{outref_cmp, txid_cmp}
@@ -12,7 +13,7 @@ use Rattle.ledger_model.specs.Transaction.{after_failed, after_passed, made_outp
 use Rattle.ledger_model.specs.World.{World}
 use Rattle.ledger_state.specs.Built.{is_built_tx}
 use Rattle.ledger_state.specs.Held.{Held, world_of}
-use Rattle.ledger_state.proofs.Bare.{both_true, empty_is}
+use Rattle.ledger_state.proofs.Bare.{empty_is}
 
 -- with these lists empty
 abbrev pub bare_tx : Tx → Tx
@@ -20,9 +21,9 @@ bare_tx tx = record tx { withdrawals = []; certs = []; proposals = []; votes = [
 
 pub tx_is_bare : (tx : Tx) → is_built_tx tx ≡ true → tx ≡ bare_tx tx
 tx_is_bare tx e =
-    let first = both_true (is_empty tx.withdrawals && is_empty tx.certs && is_empty tx.proposals) (is_empty tx.votes) e in
-    let second = both_true (is_empty tx.withdrawals && is_empty tx.certs) (is_empty tx.proposals) first.0 in
-    let third = both_true (is_empty tx.withdrawals) (is_empty tx.certs) second.0 in
+    let first = and_parts (is_empty tx.withdrawals && is_empty tx.certs && is_empty tx.proposals) (is_empty tx.votes) e in
+    let second = and_parts (is_empty tx.withdrawals && is_empty tx.certs) (is_empty tx.proposals) first.0 in
+    let third = and_parts (is_empty tx.withdrawals) (is_empty tx.certs) second.0 in
     let x : tx.withdrawals ≡ [] = empty_is tx.withdrawals third.0 in
     let c : tx.certs ≡ [] = empty_is tx.certs third.1 in
     let p : tx.proposals ≡ [] = empty_is tx.proposals second.1 in

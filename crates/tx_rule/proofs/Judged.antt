@@ -1,5 +1,5 @@
 -- What the answers of the groups say of a transaction that is built.
-use Rattle.std.proofs.Common.{◌≡◌, List, ◌++◌, Option, Some, None, Result, Ok, Err, ◌⊎◌, inl, inr, refl, sym, ap, ◌∙◌}
+use Rattle.std.proofs.Common.{◌≡◌, List, Option, Some, None, Result, Ok, Err, ◌⊎◌, inl, inr, refl, sym, subst, ap, ◌∙◌}
 use Rattle.std.specs.Prelude.{⊤, true}
 use Rattle.tx_records.specs.declared.record.Record.{Record}
 use Rattle.tx_records.specs.declared.record.Record.TheVariants as records
@@ -8,17 +8,14 @@ use Rattle.tx_records.specs.declared.tx.Scripts.{Scripts}
 use Rattle.tx_records.specs.declared.tx.Scripts.TheVariants.{Absent, Passed}
 use Rattle.tx_records.specs.declared.tx.Tx.{Tx}
 use Rattle.ledger_model.specs.Broken.{balance_checks, body_checks, first_broken}
-use Rattle.ledger_model.specs.CertRules.{withdrawal_checks, cert_checks}
-use Rattle.ledger_model.specs.Checks.{Check, answer_by, answer_of, per_place}
-use Rattle.ledger_model.specs.Draft.{draft_after, last_draft}
+use Rattle.ledger_model.proofs.CheckLaws.{answer_then, answer-append}
+use Rattle.ledger_model.specs.Checks.{Check, answer_by, answer_of}
 use Rattle.ledger_model.specs.OutputRules.{unless_failed, utxo_checks}
-use Rattle.ledger_model.specs.ProposalRules.{proposal_checks, vote_checks}
 use Rattle.ledger_model.specs.Transaction.{world_after_tx}
 use Rattle.ledger_model.specs.World.{World}
+use Rattle.ledger_state.proofs.BuiltTx.{tx_is_bare}
 use Rattle.ledger_state.specs.Built.{is_built_tx}
 use Rattle.run_model.specs.Step.{step, step_by, world_after}
-use Rattle.utxo_rules.proofs.Built.{IsBuilt, built_from}
-use Rattle.utxo_rules.proofs.Firsts.{answer_then, answer-append}
 
 pub not_failed : (scripts : Scripts) (cs : List Check) → (scripts ≡ Absent) ⊎ (scripts ≡ Passed) → answer_of cs ≡ answer_of (unless_failed scripts cs)
 not_failed scripts cs (inl e) = ap (λ (s : Scripts). answer_of (unless_failed s cs)) (sym e)
@@ -26,13 +23,8 @@ not_failed scripts cs (inr e) = ap (λ (s : Scripts). answer_of (unless_failed s
 
 module _ (w : World) (tx : Tx) where
   -- of the rules of the body, that on the balance is the only one that can be broken, since the lists of the others are empty
-  body_built : IsBuilt tx → body_checks w tx ≡ balance_checks w tx
-  body_built built = λ i.
-      per_place (withdrawal_checks w) (built.withdrawals i)
-      ++ per_place (λ k c. cert_checks w (draft_after w tx k) c) (built.certs i)
-      ++ per_place (proposal_checks w (last_draft w tx)) (built.proposals i)
-      ++ per_place (vote_checks w (last_draft w tx)) (built.votes i)
-      ++ balance_checks w tx
+  body_built : is_built_tx tx ≡ true → body_checks w tx ≡ balance_checks w tx
+  body_built built = subst (λ (t : Tx). body_checks w t ≡ balance_checks w t) (sym (tx_is_bare tx built)) refl
 
   answer_both : answer_by (first_broken w tx) ≡ answer_then (answer_of (utxo_checks w tx)) (answer_of (unless_failed tx.scripts (body_checks w tx)))
   answer_both = answer-append (utxo_checks w tx) (unless_failed tx.scripts (body_checks w tx))
@@ -46,7 +38,7 @@ module _ (w : World) (tx : Tx) where
       → answer ≡ answer_of (unless_failed tx.scripts (balance_checks w tx)) → answer ≡ answer_by (first_broken w tx)
   judged_by_balance answer h e f =
       f
-      ∙ ap (λ (cs : List Check). answer_of (unless_failed tx.scripts cs)) (sym (body_built (built_from tx h)))
+      ∙ ap (λ (cs : List Check). answer_of (unless_failed tx.scripts cs)) (sym (body_built h))
       ∙ ap (λ (a : Result ⊤ Rule). answer_then a (answer_of (unless_failed tx.scripts (body_checks w tx)))) e
       ∙ sym answer_both
 

@@ -3,24 +3,11 @@ use Rattle.std.proofs.Common.{◌≡◌, ℕ, ◌+◌, ◌<◌, ◌≤◌, List,
 use Rattle.std.proofs.Math.ListN.{drop_of_length-le}
 use Rattle.std.proofs.Math.Seq.{drop-cons}
 use Rattle.std.specs.Prelude.{⊤}
-use Rattle.maps.specs.Words.{or_else}
 use Rattle.tx_records.specs.declared.reply.Rule.{Rule}
 use Rattle.tx_records.specs.Rules.{placed}
-use Rattle.ledger_model.proofs.CheckLaws.{first_among-append, first_among-at_place}
+use Rattle.ledger_model.proofs.CheckLaws.{answer_then, answer-append, first_among-at_place}
 use Rattle.ledger_model.specs.Checks.{Check, at_place, answer_by, answer_of, first_among, per_place, per_place_from}
 use Rattle.utxo_rules.specs.Places.{answer_at}
-
--- the first answer, or the second where it is no rule
-abbrev pub answer_then : Result ⊤ Rule → Result ⊤ Rule → Result ⊤ Rule
-answer_then (Ok done) answer = answer
-answer_then (Err r) answer = Err r
-
-by_either : (a b : Option Rule) → answer_by (or_else a b) ≡ answer_then (answer_by a) (answer_by b)
-by_either None b = refl
-by_either (Some r) b = refl
-
-pub answer-append : (xs ys : List Check) → answer_of (xs ++ ys) ≡ answer_then (answer_of xs) (answer_of ys)
-answer-append xs ys = ap answer_by (first_among-append xs ys) ∙ by_either (first_among xs) (first_among ys)
 
 by_place : (i : ℕ) (o : Option Rule) → answer_by (option_map (placed i) o) ≡ answer_at i (answer_by o)
 by_place i None = refl

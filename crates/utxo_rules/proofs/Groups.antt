@@ -6,7 +6,7 @@ use Rattle.tx_records.specs.declared.tx.Tx.{Tx}
 use Rattle.ledger_model.specs.World.{World}
 use Rattle.ledger_model.specs.Checks.{Check, answer_of, per_place}
 use Rattle.ledger_model.specs.OutputRules.{id_checks, input_checks, fee_checks, output_checks, collateral_list_checks, collateral_checks, collateral_sum_checks, treasury_checks, unless_failed, utxo_checks}
-use Rattle.utxo_rules.proofs.Firsts.{answer_then, answer-append}
+use Rattle.ledger_model.proofs.CheckLaws.{answer_then, answer-append}
 
 -- the answer of these checks, or else the one that follows
 unfoldable pub before : List Check → Result ⊤ Rule → Result ⊤ Rule
