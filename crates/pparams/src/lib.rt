@@ -1,16 +1,19 @@
 //! The protocol parameters, and updates of them.
 #![tactic(auto)]
 
+mod marks;
+mod overlay;
+
 use coin_frac::{Ratio, Unit};
 
 /// The protocol parameters. Those that no rule here reads are kept and printed. (CIP-1694, Protocol parameter groups; PParams of the formal specification)
 #[derive(Clone, Copy, Debug)]
 pub struct Params {
-    /// Bytes.
+    /// Bytes; kept and not tested.
     pub max_block_body_size: u32,
     /// Bytes.
     pub max_tx_size: u32,
-    /// Bytes.
+    /// Bytes; kept and not tested.
     pub max_block_header_size: u32,
     /// Bytes of an output's value; kept and not tested.
     pub max_value_size: u32,
@@ -111,3 +114,6 @@ pub struct Groups {
     pub technical: bool,
     pub governance: bool,
 }
+
+#[cfg(test)]
+mod tests;
