@@ -5,8 +5,11 @@ use gov_ids::ActionId;
 /// Who votes on actions, in the order of a tally. (CIP-1694, Ratification)
 #[derive(Clone, Copy, Debug, PartialEq, Eq)]
 pub enum Role {
+    /// The members of the constitutional committee.
     Committee,
+    /// The DReps.
     Drep,
+    /// The stake pools.
     Pool,
 }
 
@@ -24,8 +27,11 @@ pub enum Need {
 /// What became of a frozen proposal. (RATIFY of the formal specification)
 #[derive(Clone, Copy, Debug, PartialEq, Eq)]
 pub enum Verdict {
+    /// The next boundary enacts it.
     Ratified,
+    /// It was not ratified, and its last epoch has passed.
     Expired,
+    /// Neither: it may be ratified later.
     Waiting,
 }
 
