@@ -1,32 +1,27 @@
 -- What an update, the parameters and an action give is within their limits.
-use Rattle.std.proofs.Common.{◌≡◌, ℕ, ◌^◌, Bool, true, false, not, ◌&&◌, cond, List, [], ◌∷◌, length, map, Option, Some, None, option_and_then, Result, Ok, Err, refl, ap, sym, ◌∙◌}
-use Rattle.std.specs.Prelude.{⊤, IfOk, nat_le, codes, bytes_eq}
+use Rattle.std.proofs.Common.{◌≡◌, ℕ, ◌^◌, Bool, true, false, not, ◌&&◌, cond, List, Result, Err, refl, ap, sym, ◌∙◌}
+use Rattle.std.specs.Prelude.{IfOk, codes, bytes_eq}
 use Rattle.std.specs.List.{list_all}
 use Rattle.std.proofs.lemmas.List.{map-id}
 use Rattle.serde_json.specs.Data.{Data, Items, no_items, item}
 use Rattle.serde_json.specs.Find.{as_object}
-use Rattle.coin_frac.specs.Fraction.{Fraction}
 use Rattle.gov_ids.specs.declared.Account.{Account}
 use Rattle.gov_ids.specs.declared.Credential.{Credential}
 use Rattle.gov_ids.specs.Orders.{account_cmp, credential_cmp}
 use Rattle.gov_ids.proofs.Totals.{account_total, credential_total}
 use Rattle.maps.specs.Words.{none_or, repeats}
-use Rattle.pparams.specs.declared.Params.{Params}
 use Rattle.pparams.specs.declared.Update.{Update}
 use Rattle.gov_actions.specs.declared.action.Action.{Action}
-use Rattle.gov_actions.specs.declared.action.Action.TheVariants as actions
-use Rattle.json_fields.specs.declared.fault.FieldFault.{FieldFault}
-use Rattle.json_fields.specs.declared.fault.FieldFault.TheVariants.{Missing, WrongKind, OutOfRange}
+use Rattle.json_fields.specs.declared.fault.FieldFault.TheVariants.{WrongKind, OutOfRange}
 use Rattle.json_fields.specs.Entries.{needed_in, maybe_in, both_in}
 use Rattle.json_fields.specs.Kinds.{text_in, u64_in, u32_in, u16_in, hash28_in, hash32_in, credential_in, account_in, unit_in, ratio_in, items_in}
 use Rattle.json_fields.specs.Lists.{distinct_list_in}
-use Rattle.json_fields.specs.Steps.{◌>>=◌, or_fault}
+use Rattle.json_fields.specs.Steps.{or_fault}
 use Rattle.action_read.specs.Actions.{term_in, list_limit, credentials_in, members_in, targets_in, previous_in, no_confidence_in, update_committee_in, new_constitution_in, hard_fork_in, parameter_change_in, treasury_withdrawals_in, action_of_type, action_in}
-use Rattle.action_read.specs.Params.{param_object, names_only_params, units_in, is_five, is_ten, five_units_in, ten_units_in, no_update, network_group_in, economic_group_in, technical_group_in, governance_group_in, update_in, params_in}
-use Rattle.action_read.specs.Whole.{params_of_update}
-use Rattle.run_model.specs.Limits.{is_slot, is_u32, is_u64, is_network, is_share, is_at_most, many, are_params, is_update, is_action}
-use Rattle.record_read.proofs.Sized.{IsSized, AreSized, OfSome, OfSome-and_then}
-use Rattle.record_read.proofs.Gives.{Passes, next, skip, if_some, if_test, or_else, both_pass, left_passes, right_passes, anything, needed_in-passes, maybe_in-passes, both_in-passes, sized-items_in}
+use Rattle.action_read.specs.Params.{param_object, names_only_params, units_in, is_five, is_ten, five_units_in, ten_units_in, no_update, network_group_in, economic_group_in, technical_group_in, governance_group_in, update_in}
+use Rattle.run_model.specs.Limits.{is_slot, is_u32, is_u64, is_network, is_share, is_at_most, many, is_update, is_action}
+use Rattle.record_read.proofs.Sized.{IsSized, AreSized}
+use Rattle.record_read.proofs.Gives.{Passes, next, skip, if_test, or_else, both_pass, left_passes, right_passes, anything, needed_in-passes, maybe_in-passes, both_in-passes, sized-items_in}
 use Rattle.record_read.proofs.Lists.{is_list, is_distinct_list, distinct_list_in-passes, without_place-passes}
 use Rattle.record_read.proofs.Ranges.{u64_in-passes, u32_in-passes, number_below-passes, account_in-passes, unit_in-passes}
 

@@ -1,6 +1,6 @@
 -- What the fields of a record give passes a test.
 use Rattle.std.proofs.Common.{◌≡◌, ℕ, Bool, true, List, [], Option, Some, None, Result, Ok, Err, refl}
-use Rattle.std.specs.Prelude.{⊤, IfOk, unwrap_or}
+use Rattle.std.specs.Prelude.{IfOk, unwrap_or}
 use Rattle.std.specs.Cmp.{IsTotalOrder}
 use Rattle.std.specs.declared.cmp.Ordering.{Ordering}
 use Rattle.serde_json.specs.Data.{Data}
@@ -10,10 +10,8 @@ use Rattle.json_fields.specs.declared.lists.ListFault.{ListFault}
 use Rattle.json_fields.specs.Entries.{needed_in, maybe_in}
 use Rattle.json_fields.specs.Kinds.{field_in, optional_in}
 use Rattle.json_fields.specs.Lists.{list_in, distinct_list_in}
-use Rattle.json_fields.specs.Steps.{◌>>=◌}
 use Rattle.tx_records.specs.declared.field.FieldName.{FieldName}
 use Rattle.tx_records.specs.FieldTexts.{text_of_field}
-use Rattle.record_read.specs.declared.fault.RecordFault.{RecordFault}
 use Rattle.record_read.specs.Fields.{named, needed, optional, defaulted, listed, list_by, optional_list_by, needed_list, needed_distinct_list, optional_list, optional_distinct_list}
 use Rattle.record_read.proofs.Sized.{IsSized, OfSome}
 use Rattle.record_read.proofs.Gives.{Passes, next, both_pass, needed_in-passes, maybe_in-passes, sized-field_in, sized-optional_in}

@@ -1,17 +1,15 @@
 -- What a reading gives passes a test: how a test of the parts becomes one of the whole.
-use Rattle.std.proofs.Common.{◌≡◌, ℕ, ◌<◌, ◌≤◌, Bool, true, false, not, ◌&&◌, ◌||◌, cond, leb, List, [], ◌∷◌, ◌++◌, length, map, Option, Some, None, Result, Ok, Err, refl, ap, sym, ◌∙◌, subst, arith}
-use Rattle.std.specs.Prelude.{⊤, IfOk, nat_le, unwrap_or}
-use Rattle.std.specs.List.{list_all}
-use Rattle.std.specs.declared.cmp.Ordering.{Ordering}
+use Rattle.std.proofs.Common.{◌≡◌, ℕ, Bool, true, false, ◌&&◌, cond, List, Option, Some, None, Result, Ok, Err, refl}
+use Rattle.std.specs.Prelude.{IfOk}
 use Rattle.serde_json.specs.Data.{Data, null, boolean, number, string, array, object, Items, no_items, item}
-use Rattle.serde_json.specs.Find.{get, as_object, as_array}
+use Rattle.serde_json.specs.Find.{get, as_array}
 use Rattle.maps.specs.Words.{none_or}
 use Rattle.json_fields.specs.declared.fault.FieldFault.{FieldFault}
 use Rattle.json_fields.specs.declared.fault.FieldFault.TheVariants.{Missing, WrongKind, OutOfRange, NoMemory}
-use Rattle.json_fields.specs.Entries.{needed_in, maybe_by, maybe_in, both_in, without_place}
+use Rattle.json_fields.specs.Entries.{needed_in, maybe_by, maybe_in, both_in}
 use Rattle.json_fields.specs.Kinds.{field_in, optional_in, present, or_none, items_in, pair_in, two_of, three_in, three_of}
 use Rattle.json_fields.specs.Steps.{◌>>=◌, or_fault}
-use Rattle.record_read.proofs.Sized.{IsSized, AreSized, OfSome, OfSome-map, sized-get}
+use Rattle.record_read.proofs.Sized.{IsSized, AreSized, OfSome, sized-get}
 
 -- where both parts pass
 pub both_pass : {a b : Bool} → a ≡ true → b ≡ true → (a && b) ≡ true

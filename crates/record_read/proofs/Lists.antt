@@ -1,6 +1,6 @@
 -- A list that was read: each entry passes, there are at most as many as the limit, and no name stands twice.
-use Rattle.std.proofs.Common.{◌≡◌, ℕ, ◌+◌, ◌<◌, ◌≤◌, Bool, true, false, not, ◌&&◌, ◌||◌, cond, List, [], ◌∷◌, ◌++◌, length, map, Option, Some, None, Result, Ok, Err, refl, ap, sym, ◌∙◌, subst, arith, length-append}
-use Rattle.std.specs.Prelude.{⊤, IfOk, nat_le}
+use Rattle.std.proofs.Common.{◌≡◌, ℕ, Bool, true, false, not, ◌&&◌, ◌||◌, cond, List, [], ◌∷◌, ◌++◌, length, map, Result, Ok, Err, refl, ap, ◌∙◌, arith, length-append}
+use Rattle.std.specs.Prelude.{IfOk, nat_le}
 use Rattle.std.specs.Cmp.{IsTotalOrder}
 use Rattle.std.specs.List.{list_all, list_any}
 use Rattle.std.specs.Ordering.{eq_by_cmp}
@@ -18,9 +18,8 @@ use Rattle.json_fields.specs.declared.fault.FieldFault.TheVariants.{OutOfRange}
 use Rattle.json_fields.specs.declared.lists.ListFault.{ListFault}
 use Rattle.json_fields.specs.Entries.{without_place}
 use Rattle.json_fields.specs.Kinds.{items_in}
-use Rattle.json_fields.specs.Lists.{entry_at, fault_at, whole_fault, entries_after, entries_of, is_full, list_in, is_known_or_full, distinct_list_in}
-use Rattle.json_fields.specs.Steps.{◌>>=◌}
-use Rattle.record_read.proofs.Sized.{IsSized, AreSized}
+use Rattle.json_fields.specs.Lists.{entry_at, fault_at, entries_after, entries_of, is_full, list_in, is_known_or_full, distinct_list_in}
+use Rattle.record_read.proofs.Sized.{AreSized}
 use Rattle.record_read.proofs.Gives.{Passes, next, both_pass, left_passes, right_passes, sized-items_in}
 
 -- ---- an entry

@@ -1,17 +1,14 @@
 -- What the parameters of a genesis give is within their limits.
-use Rattle.std.proofs.Common.{◌≡◌, ℕ, Bool, true, ◌&&◌, List, Option, Some, None, option_and_then, Result, Ok, Err}
-use Rattle.std.specs.Prelude.{⊤, IfOk}
+use Rattle.std.proofs.Common.{◌≡◌, Bool, true, ◌&&◌, Option, Some, None, option_and_then}
 use Rattle.std.specs.List.{list_all}
-use Rattle.coin_frac.specs.Fraction.{Fraction}
 use Rattle.maps.specs.Words.{none_or}
 use Rattle.pparams.specs.declared.Params.{Params}
 use Rattle.pparams.specs.declared.Update.{Update}
 use Rattle.json_fields.specs.declared.fault.FieldFault.TheVariants.{Missing}
-use Rattle.json_fields.specs.Steps.{or_fault}
 use Rattle.action_read.specs.Params.{update_in, params_in}
 use Rattle.action_read.specs.Whole.{params_of_update}
 use Rattle.run_model.specs.Limits.{is_u32, is_share, are_params, is_update}
-use Rattle.record_read.proofs.Sized.{IsSized, OfSome, OfSome-and_then}
+use Rattle.record_read.proofs.Sized.{OfSome}
 use Rattle.record_read.proofs.Gives.{Passes, next, if_some, both_pass, left_passes, right_passes}
 use Rattle.record_read.proofs.ActionsGive.{update_in-passes}
 

@@ -1,25 +1,22 @@
 -- What each kind of value gives is within its range.
-use Rattle.std.proofs.Common.{◌≡◌, ℕ, ◌<◌, ◌^◌, Bool, true, false, ◌&&◌, cond, List, [], ◌∷◌, take, drop, Option, Some, None, option_map, option_and_then, Result, Ok, Err, refl, lt-ltb}
-use Rattle.std.specs.Prelude.{⊤, IfOk, nat_lt, nat_le, nat_eq, codes}
-use Rattle.std.specs.Result.{result_ok}
+use Rattle.std.proofs.Common.{◌≡◌, ℕ, ◌^◌, Bool, true, false, ◌&&◌, cond, List, [], ◌∷◌, take, drop, Option, Some, None, refl, lt-ltb}
+use Rattle.std.specs.Prelude.{⊤, nat_lt, nat_le, nat_eq, codes}
 use Rattle.serde_json.specs.Data.{Num, unsigned, negative, float, Data, null, boolean, number, string, array, object}
 use Rattle.serde_json.specs.Find.{as_number, as_u64}
-use Rattle.coin_frac.specs.Fraction.{Fraction, fraction}
+use Rattle.coin_frac.specs.Fraction.{fraction}
 use Rattle.gov_ids.specs.declared.Account.{Account}
 use Rattle.gov_ids.specs.declared.Address.{Address}
-use Rattle.gov_ids.specs.Spelling.{network_of, credential_of, hash_of, stake_of, account_of, address_of}
-use Rattle.json_fields.specs.declared.fault.FieldFault.{FieldFault}
+use Rattle.gov_ids.specs.Spelling.{network_of, credential_of, stake_of, account_of, address_of}
 use Rattle.json_fields.specs.declared.fault.FieldFault.TheVariants.{WrongKind, OutOfRange}
 use Rattle.json_fields.specs.Entries.{needed_in, both_in, without_place}
-use Rattle.json_fields.specs.Kinds.{text_in, text_by, u64_in, u32_in, number_below, account_in, address_in, credential_in, ref_in, unit_in, pair_in, three_in, fraction_where}
+use Rattle.json_fields.specs.Kinds.{text_in, text_by, u64_in, u32_in, number_below, account_in, address_in, credential_in, unit_in, pair_in, three_in}
 use Rattle.json_fields.specs.Lists.{list_in}
-use Rattle.json_fields.specs.Steps.{◌>>=◌, or_fault}
+use Rattle.json_fields.specs.Steps.{or_fault}
 use Rattle.tx_records.specs.declared.genesis.GenesisCommittee.{GenesisCommittee}
-use Rattle.tx_records.specs.declared.tx.TxOutput.{TxOutput}
 use Rattle.run_model.specs.Limits.{is_slot, is_u32, is_u64, is_network, is_share, is_output}
 use Rattle.record_read.specs.Entries.{slot_in, network_in, epoch_length_in, genesis_version_in, nullable_in, member_in, committee_in, genesis_drep_in, output_in}
-use Rattle.record_read.proofs.Sized.{IsSized, IsSizedNum, OfSome, OfSome-map, OfSome-and_then}
-use Rattle.record_read.proofs.Gives.{Passes, AreTwo, AreThree, next, skip, if_some, if_test, both_pass, anything, needed_in-passes, both_in-passes, sized-pair_in, sized-three_in}
+use Rattle.record_read.proofs.Sized.{IsSized, IsSizedNum, OfSome, OfSome-and_then}
+use Rattle.record_read.proofs.Gives.{Passes, AreThree, next, skip, if_some, if_test, both_pass, needed_in-passes, sized-three_in}
 use Rattle.record_read.proofs.Lists.{is_list, list_in-passes, without_place-passes}
 
 -- ---- numbers

@@ -1,6 +1,6 @@
 -- A record that was read is within the limits.
-use Rattle.std.proofs.Common.{◌≡◌, ℕ, ◌^◌, Bool, true, not, ◌&&◌, cond, List, [], map, Option, Some, None, Result, Ok, Err, refl, subst}
-use Rattle.std.specs.Prelude.{⊤, IfOk, nat_le, nat_lt, codes, bytes_eq}
+use Rattle.std.proofs.Common.{◌≡◌, ℕ, Bool, true, ◌&&◌, List, Option, Some, None, Result, Ok, Err, refl}
+use Rattle.std.specs.Prelude.{IfOk, nat_le, nat_lt, codes, bytes_eq}
 use Rattle.std.specs.List.{list_all}
 use Rattle.std.proofs.lemmas.Result.{IfOk-at_ok}
 use Rattle.serde_json.specs.Data.{Data}
@@ -8,12 +8,11 @@ use Rattle.gov_ids.specs.declared.Account.{Account}
 use Rattle.gov_ids.specs.declared.Credential.{Credential}
 use Rattle.gov_ids.specs.Orders.{account_cmp, credential_cmp}
 use Rattle.gov_ids.proofs.Totals.{account_total, credential_total}
-use Rattle.maps.specs.Words.{none_or, repeats}
+use Rattle.maps.specs.Words.{none_or}
 use Rattle.tx_records.specs.declared.field.FieldName.TheVariants as fields
 use Rattle.tx_records.specs.declared.genesis.Genesis.{Genesis}
 use Rattle.tx_records.specs.declared.genesis.GenesisCommittee.{GenesisCommittee}
 use Rattle.tx_records.specs.declared.record.Record.{Record}
-use Rattle.tx_records.specs.declared.record.Record.TheVariants as records
 use Rattle.tx_records.specs.declared.record.Rewards.{Rewards}
 use Rattle.tx_records.specs.declared.tx.ProposalRecord.{ProposalRecord}
 use Rattle.tx_records.specs.declared.tx.Scripts.TheVariants.{Absent}
@@ -21,11 +20,10 @@ use Rattle.tx_records.specs.declared.tx.Tx.{Tx}
 use Rattle.json_fields.specs.declared.fault.FieldFault.{FieldFault}
 use Rattle.json_fields.specs.Entries.{needed_in, both_in}
 use Rattle.json_fields.specs.Kinds.{text_in, bool_in, u64_in, u32_in, hash28_in, hash32_in, credential_in, account_in, ref_in, tx_id_in}
-use Rattle.json_fields.specs.Steps.{◌>>=◌, or_fault}
+use Rattle.json_fields.specs.Steps.{or_fault}
 use Rattle.action_read.specs.Actions.{action_in}
 use Rattle.action_read.specs.Params.{params_in}
 use Rattle.run_model.specs.Genesis.{genesis_members}
-use Rattle.run_model.specs.Limits as limits
 use Rattle.run_model.specs.Limits.{is_slot, is_u32, is_u64, is_at_most, is_network, are_params, is_action, is_output, is_tx, is_genesis, is_rewards, is_readable}
 use Rattle.record_read.specs.declared.fault.RecordFault.{RecordFault}
 use Rattle.record_read.specs.declared.fault.RecordFault.TheVariants.{BadJson}
@@ -35,7 +33,7 @@ use Rattle.record_read.specs.Fields.{needed, optional, defaulted, needed_list, n
 use Rattle.record_read.specs.Lines.{json_of, record_of_line}
 use Rattle.record_read.specs.Reads.{ReadsRecord}
 use Rattle.record_read.specs.Records.{few, output_limit, many, genesis_in, block_in, rewards_in, tx_in, what_in, print_in, record_of_kind, record_by, record_in}
-use Rattle.record_read.proofs.Sized.{IsSized, OfSome, sized-json_of}
+use Rattle.record_read.proofs.Sized.{IsSized, sized-json_of}
 use Rattle.record_read.proofs.Gives.{Passes, next, skip, if_some, or_else, both_pass, left_passes, right_passes, anything, needed_in-passes, both_in-passes}
 use Rattle.record_read.proofs.Lists.{is_list, is_distinct_list}
 use Rattle.record_read.proofs.FieldsGive.{needed-passes, optional-passes, defaulted-passes, needed_list-passes, optional_list-passes, needed_distinct_list-passes, optional_distinct_list-passes}

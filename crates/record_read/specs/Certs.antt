@@ -1,5 +1,5 @@
 -- What a JSON value reads as, where it is a certificate. (Own)
-use Rattle.std.specs.Prelude.{ℕ, ◌&&◌, List, Option, Some, None, Result, Ok, Err, bytes_eq, codes, is_none, if◌then◌else◌}
+use Rattle.std.specs.Prelude.{ℕ, ◌&&◌, List, Option, Result, Ok, Err, bytes_eq, codes, is_none, if◌then◌else◌}
 use Rattle.serde_json.specs.Data.{Data}
 use Rattle.gov_ids.specs.declared.Credential.{Credential}
 use Rattle.gov_ids.specs.declared.Drep.{Drep}

@@ -1,7 +1,6 @@
 -- What the entries of lists and the other parts of a record read as. (Own)
-use Rattle.std.specs.Prelude.{ℕ, ◌^◌, List, [], ◌∷◌, Option, Some, None, Result, Ok, Err, bytes_eq, codes, nat_le, if◌then◌else◌}
+use Rattle.std.specs.Prelude.{ℕ, ◌^◌, List, Option, Some, None, Result, Ok, Err, bytes_eq, codes, nat_le, if◌then◌else◌}
 use Rattle.serde_json.specs.Data.{Data, null, boolean, number, string, array, object}
-use Rattle.coin_frac.specs.Fraction.{Fraction}
 use Rattle.gov_ids.specs.declared.Address.{Address}
 use Rattle.gov_ids.specs.declared.Credential.{Credential}
 use Rattle.gov_ids.specs.declared.Drep.{Drep}

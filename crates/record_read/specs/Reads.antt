@@ -3,6 +3,7 @@ use Rattle.std.specs.Prelude.{◌≡◌, Result, Ok, Err}
 use Rattle.record_read.specs.declared.fault.RecordFault.{RecordFault}
 use Rattle.record_read.specs.declared.fault.RecordFault.TheVariants.{BadJson, UnknownKind, BadField, NoMemory}
 
+-- a reader of a record, of a field or of a part of one
 abbrev pub ReadsRecord : {A : Type 0} → Result A RecordFault → Result A RecordFault → Type 0
 ReadsRecord (Ok x) reading = reading ≡ Ok x
 ReadsRecord (Err BadJson) reading = reading ≡ Err BadJson

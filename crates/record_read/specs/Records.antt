@@ -1,5 +1,5 @@
 -- What a JSON value reads as, where it is a record; fields are read in this order, and the first that does not read is named. (Own)
-use Rattle.std.specs.Prelude.{ℕ, ◌^◌, true, List, Option, Some, None, Result, Ok, Err, bytes_eq, codes, if◌then◌else◌}
+use Rattle.std.specs.Prelude.{ℕ, true, List, Result, Ok, Err, bytes_eq, codes, if◌then◌else◌}
 use Rattle.serde_json.specs.Data.{Data}
 use Rattle.gov_ids.specs.Orders.{account_cmp, credential_cmp}
 use Rattle.tx_records.specs.declared.field.FieldName.TheVariants as fields

@@ -5,11 +5,13 @@ mod certs;
 mod entries;
 mod fault;
 mod fields;
+mod laws;
 mod lines;
 mod records;
 
 pub use action_read::read_action;
 pub use fault::RecordFault;
+pub use laws::lines_read_within_limits;
 pub use lines::read_record;
 
 #[cfg(test)]

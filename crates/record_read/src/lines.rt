@@ -23,7 +23,7 @@ fn json(alloc: Global, bytes: &[u8]) -> Result<Option<Value>, NoMemory>
     }
 }
 
-/// The record of a line, or what of it is wrong.
+/// The record of a line, or the first thing of it that is wrong. `NoMemory` may come at any time. (Own)
 pub fn read_record(alloc: Global, line: &[u8]) -> Result<Record, RecordFault>
     ensures reads { ReadsRecord result (record_of_line line.now) }
     ensures readable { IfOk result (λ r. is_readable r ≡ true) }
