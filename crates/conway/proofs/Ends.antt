@@ -11,7 +11,7 @@ use Rattle.conway.specs.declared.status.GenesisCause.{GenesisCause}
 use Rattle.conway.specs.declared.status.GenesisCause.TheVariants as causes
 use Rattle.conway.specs.declared.status.Status.{Status}
 use Rattle.conway.specs.declared.status.Status.TheVariants as statuses
-use Rattle.conway.specs.Endings.{start_fault, text_or_nothing, counted, IsMissingOnly, IsFront, IsPartOfText, HasEnded}
+use Rattle.conway.specs.Endings.{start_fault, text_or_nothing, counted, IsDecided, IsMissingOnly, IsFront, IsPartOfText, HasEnded}
 use Rattle.conway.specs.Heard.{HasHeard, HadHeard}
 use Rattle.conway.specs.Limits.{stream_limit}
 use Rattle.conway.specs.Records.{records_of}
@@ -125,6 +125,12 @@ missing_only : (fault : Option GenesisCause) → fault ≡ None → IsMissingOnl
 missing_only None e = tt
 missing_only (Some c) e = cc
 
+-- the records that were read decide it
+is_decided : (records : List (ℕ × Reading)) (cause : GenesisCause) → cause ≢ causes.Missing → ((more : List (ℕ × Reading)) → start_fault (records ++ more) ≡ Some cause)
+    → (came rest : List ℕ) → IsPartRead records came rest → IsDecided cause came rest
+is_decided records cause there bad came rest (inl part) = inl (there, ap (λ (rs : List (ℕ × Reading)). start_fault rs) part.1 ∙ bad part.0)
+is_decided records cause there bad came rest (inr part) = inr (part.0, ap (λ (rs : List (ℕ × Reading)). start_fault rs) part.1.1 ∙ bad part.1.0)
+
 module _ (bytes : List ℕ) (r : Reader) (left : Option (List ℕ)) (records : List (ℕ × Reading)) (heard : HasHeard bytes r left records) where
   -- what was written is the text of the whole lines, and no bad first record stands in them
   at_fault : (w : World) (written : Text) → Writes records w written → r.ended ≡ false → r.ahead ≡ []
@@ -174,16 +180,21 @@ module _ (bytes : List ℕ) (r : Reader) (left : Option (List ℕ)) (records : L
       }
 
   -- the first record is no genesis to begin with
-  pub ends_bad : (cause : GenesisCause) → r.taken ≤ stream_limit → ((more : List (ℕ × Reading)) → start_fault (records ++ more) ≡ Some cause) → HasEnded (statuses.BadGenesis cause) bytes left []
-  ends_bad cause within bad =
+  pub ends_bad : (cause : GenesisCause) → cause ≢ causes.Missing → r.taken ≤ stream_limit → ((more : List (ℕ × Reading)) → start_fault (records ++ more) ≡ Some cause) → HasEnded (statuses.BadGenesis cause) bytes left []
+  ends_bad cause there within bad =
+      let had = heard_now bytes r left records heard within in
       let stream = front_of_stream bytes r left records heard within in
       record {
-        came = heard.came;
-        rest = heard.rest;
-        cut = heard.cut;
-        told = heard.told;
-        ending = (ap (λ (rs : List (ℕ × Reading)). start_fault rs) stream.1 ∙ bad stream.0, refl);
-        too_much = not_too_much (statuses.BadGenesis cause) heard.came (λ is. cc) (came_within bytes r left records heard within);
+        came = had.heard.came ++ had.more;
+        rest = had.rest;
+        cut = had_cut bytes left records had;
+        told = had.told;
+        ending = (
+          ap (λ (rs : List (ℕ × Reading)). start_fault rs) stream.1 ∙ bad stream.0,
+          is_decided records cause there bad (had.heard.came ++ had.more) had.rest (part_read bytes left records had),
+          refl,
+        );
+        too_much = not_too_much (statuses.BadGenesis cause) (had.heard.came ++ had.more) (λ is. cc) (had_within bytes left records had);
       }
 
 module _ (bytes : List ℕ) (r : Reader) (left : Option (List ℕ)) (heard : HasHeard bytes r left []) where
@@ -230,6 +241,10 @@ module _ (bytes : List ℕ) (r : Reader) (left : Option (List ℕ)) (heard : Has
         rest = heard.rest;
         cut = heard.cut;
         told = heard.told;
-        ending = (ap (λ (rs : List (ℕ × Reading)). start_fault rs) (sym none), refl);
+        ending = (
+          ap (λ (rs : List (ℕ × Reading)). start_fault rs) (sym none),
+          inr (heard.drained ended, ap (λ (l : List ℕ). start_fault (records_of l)) all ∙ ap (λ (rs : List (ℕ × Reading)). start_fault rs) (sym none)),
+          refl,
+        );
         too_much = not_too_much (statuses.BadGenesis causes.Missing) heard.came (λ is. cc) (came_within bytes r left [] heard within);
       }

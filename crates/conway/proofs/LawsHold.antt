@@ -1,6 +1,7 @@
 -- Runs of what is built are runs of the whole ledger.
-use Rattle.std.proofs.Common.{◌≡◌, ℕ, Bool, true, false, ◌&&◌, List, [], ◌∷◌, ◌++◌, Option, Some, None, if◌then◌else◌, refl, sym, ap, ◌∙◌}
-use Rattle.std.specs.Prelude.{filter_map, option_map}
+use Rattle.std.proofs.Common.{◌≡◌, ℕ, ◌+◌, true, false, ◌&&◌, List, [], ◌∷◌, ◌++◌, Option, Some, None, Result, Ok, Err, if◌then◌else◌, refl, sym, ap, ◌∙◌}
+use Rattle.std.proofs.lemmas.Bool.{and_parts}
+use Rattle.std.specs.Prelude.{IfOk, filter_map, option_map}
 use Rattle.std.specs.List.{cons_option, list_all}
 use Rattle.ledger_model.specs.World.{World}
 use Rattle.run_model.specs.Genesis.{genesis_fault, world_of_genesis}
@@ -8,6 +9,7 @@ use Rattle.run_model.specs.Laws as laws
 use Rattle.run_model.specs.Limits.{is_readable}
 use Rattle.run_model.specs.Runs as whole
 use Rattle.run_model.specs.Step.{acceptance_of, accepted_as, refusal_of, step, step_by}
+use Rattle.text_model.specs.Replies.{reply_words}
 use Rattle.text_model.specs.Runs as text
 use Rattle.text_model.specs.Runs.{text_of_lines}
 use Rattle.text_model.specs.Words.{Text}
@@ -22,9 +24,15 @@ use Rattle.tx_records.specs.declared.reply.Rule.{Rule}
 use Rattle.tx_records.specs.declared.tx.Scripts.{Scripts}
 use Rattle.tx_records.specs.declared.tx.Scripts.TheVariants as scripts
 use Rattle.conway.specs.declared.status.GenesisCause.TheVariants as causes
+use Rattle.byte_lines.specs.Pieces.{lines_of}
+use Rattle.record_read.specs.Lines.{record_of_line}
+use Rattle.record_read.specs.declared.fault.RecordFault.{RecordFault}
+use Rattle.record_read.specs.declared.fault.RecordFault.TheVariants as faults
 use Rattle.conway.specs.Built.{is_built, is_built_reading}
-use Rattle.conway.specs.Laws.{RunsAreOfTheWhole, TextIsOfTheWhole, SupplyStays, RefusedChangesNothing, built_record, is_within, world_after_all}
-use Rattle.conway.specs.Runs.{genesis_text, not_built_words, text_by_cause, text_from}
+use Rattle.conway.specs.Laws.{LinesAreWithin, LinesReach, RunsAreOfTheWhole, TextIsOfTheWhole, SupplyStays, RefusedChangesNothing, built_record, is_within, world_after_all}
+use Rattle.conway.specs.Limits.{line_limit}
+use Rattle.conway.specs.Records.{is_blank, reading_by, records_from}
+use Rattle.conway.specs.Runs.{genesis_text, not_built, text_by_cause, text_from}
 
 -- ---- the ledger
 
@@ -62,11 +70,27 @@ refused w r rule e =
       | false ↦ refl
     ]
 
--- ---- the supply
+-- ---- what records reach
 
-both : (a b : Bool) → (a && b) ≡ true → (a ≡ true) × (b ≡ true)
-both true b e = (refl, e)
-both false b e = cc
+module _ (law : (line : List ℕ) → IfOk (record_of_line line) (λ r. is_readable r ≡ true)) where
+  line_within : (n : ℕ) (found : Result Record RecordFault) → IfOk found (λ r. is_readable r ≡ true) → is_within (n, reading_by found) ≡ true
+  line_within n (Ok r) e = e
+  line_within n (Err faults.BadJson) e = refl
+  line_within n (Err faults.UnknownKind) e = refl
+  line_within n (Err (faults.BadField name place)) e = refl
+  line_within n (Err faults.NoMemory) e = refl
+
+  lines_within : (n : ℕ) (lines : List (Option (List ℕ))) → list_all is_within (records_from n lines) ≡ true
+  lines_within n [] = refl
+  lines_within n (None ∷ lines) = lines_within (n + 1) lines
+  lines_within n (Some line ∷ lines) =
+      elim (is_blank line) as (λ b. list_all is_within (cons_option (option_map (λ r. (n, r)) (if b then None else Some (reading_by (record_of_line line)))) (records_from (n + 1) lines)) ≡ true) [
+        | true ↦ lines_within (n + 1) lines
+        | false ↦ ap (λ b. b && list_all is_within (records_from (n + 1) lines)) (line_within n (record_of_line line) (law line)) ∙ lines_within (n + 1) lines
+      ]
+
+  pub within : LinesAreWithin
+  within bytes = lines_within 1 (lines_of line_limit bytes)
 
 -- the records that are built are within the limits, where all that was read is
 built_within : (rs : List (ℕ × Reading)) → list_all is_within rs ≡ true → list_all is_readable (filter_map built_record rs) ≡ true
@@ -74,29 +98,33 @@ built_within [] e = refl
 built_within ((n, Malformed field place) ∷ rs) e = built_within rs e
 built_within ((n, TooLong) ∷ rs) e = built_within rs e
 built_within ((n, Read r) ∷ rs) e =
-    let h = both (is_readable r) (list_all is_within rs) e in
+    let h = and_parts (is_readable r) (list_all is_within rs) e in
     elim (is_built r) as (λ b. list_all is_readable (cons_option (if b then Some r else None) (filter_map built_record rs)) ≡ true) [
       | true ↦ ap (λ b. b && list_all is_readable (filter_map built_record rs)) h.0 ∙ built_within rs h.1
       | false ↦ built_within rs h.1
     ]
 
-pub supply : laws.SupplyStays → SupplyStays
-supply law g rs readable sound within = law (world_after_all (world_of_genesis g) rs) (record {
+pub reached : LinesReach
+reached g rs readable sound all = record {
   genesis = g;
   records = filter_map built_record rs;
   readable = readable;
-  all_readable = built_within rs within;
+  all_readable = built_within rs all;
   sound = sound;
   reached = sym (runs (world_of_genesis g) rs);
-})
+}
+
+pub supply : laws.SupplyStays → SupplyStays
+unfolding reached
+supply law g rs readable sound all = law (world_after_all (world_of_genesis g) rs) (reached g rs readable sound all)
 
 -- ---- the text
 
 all_text : (w : World) (rs : List (ℕ × Reading)) → list_all (λ (r : ℕ × Reading). is_built_reading r.1) rs ≡ true → text_from w rs ≡ text.text_from w rs
 all_text w [] e = refl
 all_text w (r ∷ rs) e =
-    let h = both (is_built_reading r.1) (list_all (λ (q : ℕ × Reading). is_built_reading q.1) rs) e in
-    ap (λ b. text_of_lines r.0 (if b then text.lines_of w r.1 else not_built_words ∷ []) ++ text_from (if b then text.world_after_reading w r.1 else w) rs) h.0
+    let h = and_parts (is_built_reading r.1) (list_all (λ (q : ℕ × Reading). is_built_reading q.1) rs) e in
+    ap (λ b. text_of_lines r.0 (if b then text.lines_of w r.1 else reply_words not_built ∷ []) ++ text_from (if b then text.world_after_reading w r.1 else w) rs) h.0
     ∙ ap (λ (t : Text). text_of_lines r.0 (text.lines_of w r.1) ++ t) (all_text (text.world_after_reading w r.1) rs h.1)
 
 by_rule : (n : ℕ) (g : Genesis) (rs : List (ℕ × Reading)) (found : Option GenesisRule) → list_all (λ (r : ℕ × Reading). is_built_reading r.1) rs ≡ true

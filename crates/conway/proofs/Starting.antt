@@ -1,5 +1,5 @@
 -- The start of a run, from what was heard.
-use Rattle.std.proofs.Common.{◌≡◌, ℕ, List, [], ◌∷◌, ◌++◌, Option, Some, None, Result, Ok, Err, take, refl, sym, ap, subst, ◌∙◌}
+use Rattle.std.proofs.Common.{◌≡◌, ◌≢◌, ℕ, Bool, true, false, if◌then◌else◌, option_map, List, [], ◌∷◌, ◌++◌, Option, Some, None, Result, Ok, Err, take, refl, sym, ap, subst, ◌∙◌}
 use Rattle.std.specs.Prelude.{⊤}
 use Rattle.byte_lines.specs.Faults.{with_bytes}
 use Rattle.byte_lines.specs.declared.sink.SinkFault.{SinkFault}
@@ -11,7 +11,7 @@ use Rattle.conway.specs.declared.status.GenesisCause.{GenesisCause}
 use Rattle.conway.specs.declared.status.GenesisCause.TheVariants as causes
 use Rattle.conway.specs.declared.status.Status.{Status}
 use Rattle.conway.specs.declared.status.Status.TheVariants as statuses
-use Rattle.conway.specs.Endings.{HasEnded, IsReplayed, start_fault}
+use Rattle.conway.specs.Endings.{HasEnded, IsReplayed, reading_fault, start_fault}
 use Rattle.conway.specs.Heard.{HasHeard, HearsNext}
 use Rattle.conway.specs.Runs.{text_from, text_by_cause, genesis_text, genesis_cause}
 use Rattle.conway.specs.Statuses.{status_of_sink_fault, status_by}
@@ -19,11 +19,28 @@ use Rattle.text_model.specs.Words.{Text}
 use Rattle.conway.specs.Turns.{BeginsWith, HasStarted, Starts, Writes, Stands, Stops, AnswersAll}
 use Rattle.ledger_model.specs.World.{World}
 use Rattle.ledger_state.specs.Held.{Held, world_of}
-use Rattle.run_model.specs.Genesis.{world_of_genesis}
+use Rattle.ledger_state.specs.Built.{is_built_genesis}
+use Rattle.run_model.specs.Genesis.{genesis_fault, world_of_genesis}
+use Rattle.tx_records.specs.declared.genesis.GenesisRule.{GenesisRule}
 use Rattle.tx_records.specs.declared.record.Record.TheVariants as kinds
 use Rattle.conway.proofs.Answering.{took_nothing, took_both, front_part}
 use Rattle.conway.proofs.Ends.{ends_early, ends_early_at_read, ends_early_over, ends_missing, ends_bad, ends_at_write, ends_without_memory}
 use Rattle.conway.proofs.Heard.{heard_now}
+
+not_missing_by : (b : Bool) (fault : Option GenesisRule) → (if b then option_map causes.Broken fault else Some causes.NotBuilt) ≡ Some causes.Missing → ⊥
+not_missing_by true None e = cc
+not_missing_by true (Some rule) e = cc
+not_missing_by false fault e = cc
+
+-- what was read is there
+not_missing : (r : Reading) → reading_fault r ≡ Some causes.Missing → ⊥
+not_missing readings.TooLong e = cc
+not_missing (readings.Malformed field place) e = cc
+not_missing (readings.Read (kinds.Genesis g)) e = not_missing_by (is_built_genesis g) (genesis_fault g) e
+not_missing (readings.Read (kinds.Block slot pulse)) e = cc
+not_missing (readings.Read (kinds.Rewards u)) e = cc
+not_missing (readings.Read (kinds.Tx tx)) e = cc
+not_missing (readings.Read (kinds.Print _)) e = cc
 
 module _ (bytes : List ℕ) (new : Reader) (left : Option (List ℕ)) where
   -- there is no first record, for this fault
@@ -41,9 +58,9 @@ module _ (bytes : List ℕ) (new : Reader) (left : Option (List ℕ)) where
   no_record heard = ends_missing bytes new left heard.0 heard.1 heard.2 heard.3 heard.4
 
   -- it is no genesis to begin with
-  pub bad_start : (r : Reading) (cause : GenesisCause) → ((more : List (ℕ × Reading)) → start_fault ((new.number, r) ∷ more) ≡ Some cause)
+  pub bad_start : (r : Reading) (cause : GenesisCause) → cause ≢ causes.Missing → ((more : List (ℕ × Reading)) → start_fault ((new.number, r) ∷ more) ≡ Some cause)
       → HearsNext bytes new left [] (Ok (Some r)) → HasEnded (statuses.BadGenesis cause) bytes left []
-  bad_start r cause bad heard = ends_bad bytes new left ((new.number, r) ∷ []) heard.0 cause heard.1 bad
+  bad_start r cause there bad heard = ends_bad bytes new left ((new.number, r) ∷ []) heard.0 cause there heard.1 bad
 
   -- what was read first gives a ledger, or none
   pub starts_with : (r : Reading) (result : Result Held Status) → BeginsWith result r → HearsNext bytes new left [] (Ok (Some r)) → Starts bytes new left result
@@ -54,7 +71,7 @@ module _ (bytes : List ℕ) (new : Reader) (left : Option (List ℕ)) where
     sound = is.2;
     ledger = is.3;
   }
-  starts_with r (Err (statuses.BadGenesis cause)) is heard = bad_start r cause (λ more. is) heard
+  starts_with r (Err (statuses.BadGenesis cause)) is heard = bad_start r cause (λ none. not_missing r (is ∙ ap Some none)) (λ more. is) heard
   starts_with r (Err statuses.NoMemory) is heard = ends_early bytes left ((new.number, r) ∷ []) (heard_now bytes new left _ heard.0 heard.1)
   starts_with r (Err statuses.Done) is heard = absurd is
   starts_with r (Err statuses.Usage) is heard = absurd is

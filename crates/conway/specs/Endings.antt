@@ -1,5 +1,5 @@
 -- How a run of `replay` may end, and what it has written then. (Own)
-use Rattle.std.specs.Prelude.{◌≡◌, ◌⊎◌, ℕ, ◌<◌, ◌↔◌, List, [], ◌∷◌, ◌++◌, Option, Some, None, take, unwrap_or, length}
+use Rattle.std.specs.Prelude.{◌≡◌, ◌≢◌, ◌⊎◌, ℕ, ◌<◌, ◌↔◌, List, [], ◌∷◌, ◌++◌, Option, Some, None, take, unwrap_or, length}
 use Rattle.byte_lines.specs.Faults.{with_bytes}
 use Rattle.byte_lines.specs.Pieces.{whole_of}
 use Rattle.tx_records.specs.declared.record.Reading.{Reading}
@@ -47,17 +47,24 @@ IsMissingOnly (Some cause) = ⊥
 abbrev pub IsFront : Text → Text → Type 0
 IsFront front text = (rest : Text) × (text ≡ front ++ rest)
 
--- a front of the text of the whole lines that came or, once the end came, of all that came
+-- a front of the text of the whole lines that came or, where no byte is left, of all that came
 abbrev pub IsPartOfText : List ℕ → List ℕ → Text → Type 0
 IsPartOfText came rest written =
     IsFront written (text_or_nothing (whole_of (counted came))) ⊎ ((rest ≡ []) × IsFront written (text_or_nothing (counted came)))
 
+-- what came decides that there is no genesis to begin with, for this cause: a first line that is whole or, where no byte is left, all that came
+abbrev pub IsDecided : GenesisCause → List ℕ → List ℕ → Type 0
+IsDecided cause came rest =
+    ((cause ≢ causes.Missing) × (start_fault (records_of (whole_of (counted came))) ≡ Some cause))
+    ⊎ ((rest ≡ []) × (start_fault (records_of (counted came)) ≡ Some cause))
+
 -- what each status says: the source held `bytes`, of which `came` came and `rest` is left, and the run wrote `written`
 abbrev pub Ends : Status → List ℕ → List ℕ → List ℕ → Text → Type 0
--- the end came, and the text of the whole run was written
+-- no byte is left, and the text of the whole run was written
 Ends statuses.Done bytes came rest written = (rest ≡ []) × (text_of_run bytes ≡ Some written)
--- the first record is no genesis to begin with, for this cause, and nothing was written
-Ends (statuses.BadGenesis cause) bytes came rest written = (start_fault (records_of bytes) ≡ Some cause) × (written ≡ [])
+-- the first record is no genesis to begin with, for this cause, and what came decides it; nothing was written
+Ends (statuses.BadGenesis cause) bytes came rest written =
+    (start_fault (records_of bytes) ≡ Some cause) × IsDecided cause came rest × (written ≡ [])
 -- the text of the lines that came whole was written; no bad first record stands in them
 Ends statuses.ReadFault bytes came rest written =
     (written ≡ text_or_nothing (whole_of (counted came))) × IsMissingOnly (start_fault (records_of (whole_of (counted came))))

@@ -17,6 +17,7 @@ use Rattle.tx_records.specs.declared.record.Record.TheVariants as records
 use Rattle.tx_records.specs.declared.reply.Reply.TheVariants.{Refused}
 use Rattle.tx_records.specs.declared.reply.Rule.{Rule}
 use Rattle.conway.specs.Built.{is_built, is_built_reading}
+use Rattle.conway.specs.Records.{records_of}
 use Rattle.conway.specs.Runs.{text_of_records, world_after}
 
 -- the record that was read, where it is built
@@ -49,7 +50,16 @@ is_within (n, Read r) = is_readable r
 is_within (n, Malformed field place) = true
 is_within (n, TooLong) = true
 
--- whatever is read, the pots sum to the supply of the genesis
+-- whatever the bytes are, what is read of them is so
+abbrev pub LinesAreWithin : Type 0
+LinesAreWithin = (bytes : List ℕ) → list_all is_within (records_of bytes) ≡ true
+
+-- whatever is read, the ledger is one that records reach from the genesis, by the rules of the whole ledger; so each law of runs holds of it
+abbrev pub LinesReach : Type 0
+LinesReach = (g : Genesis) (rs : List (ℕ × Reading)) → is_genesis g ≡ true → genesis_fault g ≡ None → list_all is_within rs ≡ true
+    → whole.IsReached (world_after_all (world_of_genesis g) rs)
+
+-- the pots sum to the supply of the genesis
 abbrev pub SupplyStays : Type 0
 SupplyStays = (g : Genesis) (rs : List (ℕ × Reading)) → is_genesis g ≡ true → genesis_fault g ≡ None → list_all is_within rs ≡ true
     → supply_of (world_after_all (world_of_genesis g) rs) ≡ g.supply

@@ -5,7 +5,6 @@ pub mod Runs
 pub mod Laws
 pub mod Commands
 pub mod Statuses
-pub mod Answers
 pub mod Endings
 pub mod Heard
 pub mod Turns

@@ -45,7 +45,7 @@ records_from n lines = filter_map record_of (enumerate_from n lines)
 abbrev pub records_of : List ℕ → List (ℕ × Reading)
 records_of bytes = records_from 1 (lines_of line_limit bytes)
 
--- a record has its numbers, lists and names within their limits
+-- a record is within the limits of records
 abbrev pub IsWithin : Reading → Type 0
 IsWithin (Read r) = is_readable r ≡ true
 IsWithin (Malformed field place) = Unit {0}

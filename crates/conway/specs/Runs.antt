@@ -4,7 +4,7 @@ use Rattle.ledger_model.specs.World.{World}
 use Rattle.ledger_model.specs.Supply.{pots_of}
 use Rattle.ledger_state.specs.Built.{is_built_genesis}
 use Rattle.run_model.specs.Genesis.{genesis_fault, world_of_genesis}
-use Rattle.text_model.specs.Replies.{pots_words}
+use Rattle.text_model.specs.Replies.{pots_words, reply_words}
 use Rattle.text_model.specs.Runs as whole
 use Rattle.text_model.specs.Runs.{text_of_lines}
 use Rattle.text_model.specs.Words.{Text}
@@ -12,6 +12,10 @@ use Rattle.tx_records.specs.declared.genesis.Genesis.{Genesis}
 use Rattle.tx_records.specs.declared.record.Reading.{Reading}
 use Rattle.tx_records.specs.declared.record.Reading.TheVariants.{Read, Malformed, TooLong}
 use Rattle.tx_records.specs.declared.record.Record.TheVariants as records
+use Rattle.tx_records.specs.declared.reply.Reply.{Reply}
+use Rattle.tx_records.specs.declared.reply.Reply.TheVariants.{Refused}
+use Rattle.tx_records.specs.declared.rules.TheConstants.{NOT_BUILT}
+use Rattle.tx_records.specs.Rules.{plain_rule}
 use Rattle.conway.specs.declared.status.GenesisCause.{GenesisCause}
 use Rattle.conway.specs.declared.status.GenesisCause.TheVariants as causes
 use Rattle.conway.specs.Built.{is_built_reading}
@@ -19,13 +23,13 @@ use Rattle.conway.specs.Records.{records_of}
 
 -- ---- records
 
--- the line of a record that is not built
-abbrev pub not_built_words : List Text
-not_built_words = codes "refused" ∷ codes "9" ∷ codes "NotBuilt" ∷ []
+-- the reply to a record that is not built
+abbrev pub not_built : Reply
+not_built = Refused (plain_rule NOT_BUILT)
 
 -- the lines of what was read
 abbrev pub lines_of : World → Reading → List (List Text)
-lines_of w r = if is_built_reading r then whole.lines_of w r else not_built_words ∷ []
+lines_of w r = if is_built_reading r then whole.lines_of w r else reply_words not_built ∷ []
 
 -- the ledger that it leaves
 abbrev pub world_after : World → Reading → World

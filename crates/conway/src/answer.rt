@@ -1,5 +1,4 @@
-ghost use Rattle.std.specs.Prelude.{◌≡◌, ◌∷◌, [], true, IfOk, OnOk};
-ghost use Rattle.conway.specs.Answers.{answer_words};
+ghost use Rattle.std.specs.Prelude.{◌≡◌, ◌∷◌, [], true, IfOk};
 ghost use Rattle.conway.specs.Built.{is_built};
 ghost use Rattle.conway.specs.Records.{IsWithin};
 ghost use Rattle.conway.specs.Runs.{lines_of, world_after};
@@ -7,27 +6,17 @@ ghost use Rattle.ledger_model.specs.World.{World};
 ghost use Rattle.ledger_state.specs.Built.{is_built_tx, is_built_genesis};
 ghost use Rattle.ledger_state.specs.Held.{world_of};
 ghost use Rattle.run_model.specs.Limits.{is_readable, is_tx};
+ghost use Rattle.text_model.specs.Replies.{reply_words};
 ghost use Rattle.text_model.specs.Runs.{line_rule};
-ghost use Rattle.text_model.specs.Words.{line_of};
 ghost use Rattle.tx_records.specs.declared.record.Reading.TheVariants.{Read};
 ghost use Rattle.tx_records.specs.declared.record.Record.TheVariants as records;
 ghost use Rattle.tx_records.specs.Rules.{plain_rule};
 
 use coin_frac::NoMemory;
 use ledger_state::LedgerState;
-use report::{reply_line, words_line};
-use tx_records::rules::{GENESIS_AGAIN, MALFORMED, TOO_LONG};
+use tx_records::rules::{GENESIS_AGAIN, MALFORMED, NOT_BUILT, TOO_LONG};
 use tx_records::{FieldName, Genesis, Reading, Record, Reply, Rule, Tx};
 use tx_rule::apply_tx;
-
-/// What a record is answered. (Own)
-#[derive(Drop)]
-pub enum Answer {
-    /// It is accepted, or refused by a rule.
-    Reply(Reply),
-    /// It is not built yet.
-    NotBuilt,
-}
 
 /// Whether a genesis has no account, no pool and no DRep.
 pub fn is_plain_genesis(genesis: &Genesis) -> bool
@@ -47,60 +36,47 @@ fn is_plain(tx: &Tx) -> bool
 }
 
 /// The refusal by a rule that keeps nothing.
-fn refused(number: u16) -> Answer
-    ensures { result ≡ Answer.Reply (Reply.Refused (plain_rule number)) }
+fn refused(number: u16) -> Reply
+    ensures { result ≡ Reply.Refused (plain_rule number) }
 {
-    Answer::Reply(Reply::Refused(Rule::new(number)))
+    Reply::Refused(Rule::new(number))
 }
 
-/// The ledger after a record, and the answer.
-fn judge_record(ledger: LedgerState, found: &Record) -> Result<(LedgerState, Answer), NoMemory>
+/// The ledger after a record, and the reply.
+fn judge_record(ledger: LedgerState, found: &Record) -> Result<(LedgerState, Reply), NoMemory>
     requires { is_readable found.now ≡ true }
     ensures ledger { (start : World) → IfOk result (λ r. world_of r.0 start ≡ world_after (world_of ledger start) (Read found.now)) }
-    ensures lines { (start : World) → IfOk result (λ r. lines_of (world_of ledger start) (Read found.now) ≡ answer_words r.1 ∷ []) }
+    ensures lines { (start : World) → IfOk result (λ r. lines_of (world_of ledger start) (Read found.now) ≡ reply_words r.1 ∷ []) }
 {
     match found {
         Record::Genesis(_) => Ok((ledger, refused(GENESIS_AGAIN))),
-        Record::Tx(tx) if is_plain(tx) => {
-            let (after, reply) = apply_tx(ledger, tx)?;
-            Ok((after, Answer::Reply(reply)))
-        }
+        Record::Tx(tx) if is_plain(tx) => apply_tx(ledger, tx),
         Record::Tx(_) | Record::Block { .. } | Record::Rewards(_) | Record::Print(_) => {
-            Ok((ledger, Answer::NotBuilt))
+            Ok((ledger, refused(NOT_BUILT)))
         }
     }
 }
 
 /// The refusal of a line that gave no record.
-fn malformed(what: FieldName, place: Option<u32>) -> Answer
-    ensures { result ≡ Answer.Reply (Reply.Refused (line_rule MALFORMED (Some what) place)) }
+fn malformed(what: FieldName, place: Option<u32>) -> Reply
+    ensures { result ≡ Reply.Refused (line_rule MALFORMED (Some what) place) }
 {
-    Answer::Reply(Reply::Refused(Rule {
+    Reply::Refused(Rule {
         what: Some(what),
         place,
         ..Rule::new(MALFORMED)
-    }))
+    })
 }
 
-/// The ledger after what was read of a line, and the answer.
-pub fn judge(ledger: LedgerState, reading: &Reading) -> Result<(LedgerState, Answer), NoMemory>
+/// The ledger after what was read of a line, and the reply.
+pub fn judge(ledger: LedgerState, reading: &Reading) -> Result<(LedgerState, Reply), NoMemory>
     requires { IsWithin reading.now }
     ensures ledger { (start : World) → IfOk result (λ r. world_of r.0 start ≡ world_after (world_of ledger start) reading.now) }
-    ensures lines { (start : World) → IfOk result (λ r. lines_of (world_of ledger start) reading.now ≡ answer_words r.1 ∷ []) }
+    ensures lines { (start : World) → IfOk result (λ r. lines_of (world_of ledger start) reading.now ≡ reply_words r.1 ∷ []) }
 {
     match reading {
         Reading::Read(record) => judge_record(ledger, record),
         Reading::Malformed { what, place } => Ok((ledger, malformed(*what, *place))),
         Reading::TooLong => Ok((ledger, refused(TOO_LONG))),
-    }
-}
-
-/// The line of an answer, in place of what the buffer held.
-pub fn answer_line(line: &mut Vec<u8>, number: u64, answer: &Answer) -> Result<(), NoMemory>
-    ensures { OnOk result (line.new.items ≡ line_of number (answer_words answer.now)) }
-{
-    match answer {
-        Answer::Reply(reply) => reply_line(line, number, reply),
-        Answer::NotBuilt => words_line(line, number, &["refused", "9", "NotBuilt"]),
     }
 }

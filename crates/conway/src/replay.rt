@@ -11,13 +11,13 @@ ghost use Rattle.conway.specs.Statuses.{status_by};
 ghost use Rattle.text_model.specs.Words.{Text};
 ghost use Rattle.conway.specs.Turns.{Answers, AnswersAll, Begins, BeginsWith, Stands, Starts};
 
-use crate::answer::{answer_line, is_plain_genesis, judge};
+use crate::answer::{is_plain_genesis, judge};
 use crate::limits::{LINE_LIMIT, STREAM_LIMIT};
 use crate::reading::read_line;
 use crate::status::{GenesisCause, Status};
 use byte_lines::{Line, LineFault, Lines, Sink, Source, put_all};
 use ledger_state::LedgerState;
-use report::{PotsWord, pots_line};
+use report::{PotsWord, pots_line, reply_line};
 use std::alloc::Global;
 use tx_records::{Genesis, Reading, Record};
 
@@ -157,8 +157,8 @@ fn answer_next<S: Source, K: Sink>(
     let Some(reading) = next_record(alloc, lines, source)? else {
         return Ok(None);
     };
-    let (after, answer) = judge(ledger, &reading)?;
-    answer_line(text, lines.number(), &answer)?;
+    let (after, reply) = judge(ledger, &reading)?;
+    reply_line(text, lines.number(), &reply)?;
     put_all(sink, text.as_slice())?;
     Ok(Some(after))
 }
