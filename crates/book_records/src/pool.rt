@@ -30,7 +30,9 @@ pub struct Pool {
 /// How a pool that did not vote counts, but for hard forks. (CIP-1694, Ratification: the default vote of pools)
 #[derive(Clone, Copy, Debug, PartialEq, Eq)]
 pub enum DefaultVote {
+    /// It says No, to a motion of no confidence too.
     No,
+    /// It abstains.
     Abstain,
     /// Yes to a motion of no confidence, and No else.
     NoConfidence,

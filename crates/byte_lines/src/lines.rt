@@ -116,7 +116,7 @@ impl Model for Lines {
 }
 
 impl Lines {
-    /// A reader before its first line. It takes no memory until the first `next`.
+    /// A reader before its first line. It takes no memory until the first `next`. (Own)
     pub fn new(alloc: Global, line_max: u32, stream_max: u64) -> Lines
         ensures reader { result ≡ record {
           line_max = line_max;
@@ -144,7 +144,7 @@ impl Lines {
         }
     }
 
-    /// Reads on to the next line. After an error, `text` and `number` are those of the line before.
+    /// Reads on to the next line. After an error, `text` and `number` are those of the line before. (Own)
     pub fn next<S: Source>(&mut self, source: &mut S) -> Result<Line, LineFault>
         ensures gave { S.left source.old ≡ before_bytes (given (S.left source.old) (S.left source.new)) (S.left source.new) }
         ensures counted { S.faults source.old ≤ S.faults source.new }
@@ -189,7 +189,7 @@ impl Lines {
         answer
     }
 
-    /// The line of the last `Whole`, without its line feed; empty before the first.
+    /// The line of the last `Whole`, without its line feed; empty before the first. (Own)
     pub fn text(&self) -> &[u8]
         ensures line { result.now ≡ self.now.text }
         ensures fits { length result.now ≤ self.now.line_max }
@@ -197,7 +197,7 @@ impl Lines {
         &self.text
     }
 
-    /// The number, from 1, of the line of the last `Whole` or `TooLong`; 0 before the first.
+    /// The number, from 1, of the line of the last `Whole` or `TooLong`; 0 before the first. (Own)
     pub fn number(&self) -> u64
         ensures { result ≡ self.now.number }
     {

@@ -9,7 +9,7 @@ use super::source::{ReadFault, Source};
 use std::alloc::Global;
 use std::marker::Model;
 
-/// A source of the bytes of a slice, which never fails.
+/// A source of the bytes of a slice, which never fails. (Own)
 #[derive(Debug, Drop)]
 pub struct MemorySource<'a> {
     rest: &'a [u8],
@@ -28,7 +28,7 @@ impl<'a> Model for MemorySource<'a> {
 }
 
 impl<'a> MemorySource<'a> {
-    /// One read gives at most `part` bytes.
+    /// One read gives at most `part` bytes. (Own)
     pub fn new(bytes: &'a [u8], part: usize) -> Self
         requires { 0 < part }
         ensures { result ≡ record { left = bytes.now; part = part } }
@@ -56,7 +56,7 @@ impl Source for MemorySource<'_> {
     }
 }
 
-/// A source of the bytes of a slice, which fails at the calls whose numbers, from 0, it lists.
+/// A source of the bytes of a slice, which fails at the calls whose numbers, from 0, it lists. (Own)
 #[derive(Debug, Drop)]
 pub struct FaultySource<'a> {
     inner: MemorySource<'a>,
@@ -80,7 +80,7 @@ impl<'a> Model for FaultySource<'a> {
 }
 
 impl<'a> FaultySource<'a> {
-    /// One read gives at most `part` bytes.
+    /// One read gives at most `part` bytes. (Own)
     pub fn new(bytes: &'a [u8], part: usize, failing: &'a [u64]) -> Self
         requires { 0 < part }
         ensures { result ≡ record { left = bytes.now; part = part; failing = failing.now; calls = 0; faults = 0 } }
@@ -120,7 +120,7 @@ impl Source for FaultySource<'_> {
     }
 }
 
-/// A sink that keeps the bytes, and never fails but for want of memory.
+/// A sink that keeps the bytes, and never fails but for want of memory. (Own)
 #[derive(Debug, Drop)]
 pub struct MemorySink {
     bytes: Vec<u8>,
@@ -135,6 +135,7 @@ impl Model for MemorySink {
 }
 
 impl MemorySink {
+    /// An empty sink. (Own)
     pub fn new(alloc: Global) -> Self
         ensures { result ≡ [] }
     {
@@ -143,7 +144,7 @@ impl MemorySink {
         }
     }
 
-    /// The bytes taken.
+    /// The bytes taken. (Own)
     pub fn as_slice(&self) -> &[u8]
         ensures { result.now ≡ self.now }
     {
@@ -166,7 +167,7 @@ impl Sink for MemorySink {
     }
 }
 
-/// A sink that keeps the bytes, and fails at the calls whose numbers, from 0, it lists.
+/// A sink that keeps the bytes, and fails at the calls whose numbers, from 0, it lists. (Own)
 #[derive(Debug, Drop)]
 pub struct FaultySink<'a> {
     inner: MemorySink,
@@ -194,7 +195,7 @@ impl<'a> Model for FaultySink<'a> {
 }
 
 impl<'a> FaultySink<'a> {
-    /// One write takes at most `part` bytes.
+    /// One write takes at most `part` bytes. (Own)
     pub fn new(alloc: Global, part: usize, failing: &'a [u64]) -> Self
         requires { 0 < part }
         ensures { result ≡ record { bytes = []; part = part; failing = failing.now; calls = 0; faults = 0 } }
@@ -208,7 +209,7 @@ impl<'a> FaultySink<'a> {
         }
     }
 
-    /// The bytes taken.
+    /// The bytes taken. (Own)
     pub fn as_slice(&self) -> &[u8]
         ensures { result.now ≡ self.now.bytes }
     {

@@ -26,6 +26,7 @@ impl<R> Model for ReaderSource<R> {
 }
 
 impl<R> ReaderSource<R> {
+    /// A source over a reader, with no fault counted. (Own)
     pub fn new(reader: R) -> Self
         ensures { result ≡ 0 }
     {
@@ -69,6 +70,7 @@ impl<W> Model for WriterSink<W> {
 }
 
 impl<W> WriterSink<W> {
+    /// A sink over a writer, with no fault counted. (Own)
     pub fn new(writer: W) -> Self
         ensures { result ≡ 0 }
     {

@@ -1,6 +1,6 @@
 ghost use Rattle.epoch_balance.specs.StepLaws.{DonationsBalance, DormancyBalances, EnactmentBalances, FreezeBalances, MembersBalance, PaymentsBalance, PoolsBalance, RemovalsBalance, RewardsBalance, SnapshotsBalance, TermsBalance};
 
-/// The pending reward update moves each pot by its flows. (The preservation of value of EPOCH in the formal specification)
+/// The pending reward update moves each pot by its flows, where accounts stand in order and it is balanced and covered. (The preservation of value of EPOCH in the formal specification)
 pub fn rewards_balance()
     ensures { RewardsBalance }
 {}
@@ -15,7 +15,7 @@ pub fn terms_balance()
     ensures { TermsBalance }
 {}
 
-/// The reaping of pools moves each pot by its flows: no refund is lost. (The preservation of value of EPOCH in the formal specification)
+/// The reaping of pools moves each pot by its flows, where accounts stand in order: no refund is lost. (The preservation of value of EPOCH in the formal specification)
 pub fn pools_balance()
     ensures { PoolsBalance }
 {}
@@ -25,12 +25,12 @@ pub fn enactment_balances()
     ensures { EnactmentBalances }
 {}
 
-/// Enacted withdrawals move each pot by their flows; what nobody claims stays in the treasury. (The preservation of value of EPOCH in the formal specification)
+/// Enacted withdrawals move each pot by their flows, where accounts stand in order and the treasury covers what is claimed; what nobody claims stays there. (The preservation of value of EPOCH in the formal specification)
 pub fn payments_balance()
     ensures { PaymentsBalance }
 {}
 
-/// The removal of proposals moves each pot by its flows: no refund is lost. (The preservation of value of EPOCH in the formal specification)
+/// The removal of proposals moves each pot by its flows, where accounts stand in order and proposals have ids of their own: no refund is lost. (The preservation of value of EPOCH in the formal specification)
 pub fn removals_balance()
     ensures { RemovalsBalance }
 {}

@@ -6,7 +6,7 @@ use crate::{Account, ActionId, Address, CredKind, Credential, Drep, OutRef, Pool
 use coin_frac::NoMemory;
 use itoa::Buffer;
 
-/// Appends a hash of at most 32 bytes, in lower case hex digits. (Own)
+/// Appends a hash of at most 32 bytes, in lower case hex digits. After want of memory what stood there stands, with perhaps a part of the text behind it. (Own)
 pub fn push_hash(out: &mut Vec<u8>, hash: &[u8]) -> Result<(), NoMemory>
     requires { length hash.now ≤ 32 }
     ensures ok { OnOk result (out.new.items ≡ out.old.items ++ hash_text hash.now) }
@@ -19,7 +19,7 @@ pub fn push_hash(out: &mut Vec<u8>, hash: &[u8]) -> Result<(), NoMemory>
     Ok(())
 }
 
-/// Appends a credential. (Own)
+/// Appends a credential. After want of memory what stood there stands, with perhaps a part of the text behind it. (Own)
 pub fn push_credential(out: &mut Vec<u8>, c: &Credential) -> Result<(), NoMemory>
     ensures ok { OnOk result (out.new.items ≡ out.old.items ++ credential_text c.now) }
     ensures err { OnErr result (take (vec_len out.old) out.new.items ≡ out.old.items) }
@@ -32,7 +32,7 @@ pub fn push_credential(out: &mut Vec<u8>, c: &Credential) -> Result<(), NoMemory
     push_hash(out, &c.hash)
 }
 
-/// Appends an account. (Own)
+/// Appends an account. After want of memory what stood there stands, with perhaps a part of the text behind it. (Own)
 pub fn push_account(out: &mut Vec<u8>, a: &Account) -> Result<(), NoMemory>
     ensures ok { OnOk result (out.new.items ≡ out.old.items ++ account_text a.now) }
     ensures err { OnErr result (take (vec_len out.old) out.new.items ≡ out.old.items) }
@@ -40,7 +40,7 @@ pub fn push_account(out: &mut Vec<u8>, a: &Account) -> Result<(), NoMemory>
     push_place(out, a.network, &a.cred)
 }
 
-/// Appends an address. (Own)
+/// Appends an address. After want of memory what stood there stands, with perhaps a part of the text behind it. (Own)
 pub fn push_address(out: &mut Vec<u8>, a: &Address) -> Result<(), NoMemory>
     ensures ok { OnOk result (out.new.items ≡ out.old.items ++ address_text a.now) }
     ensures err { OnErr result (take (vec_len out.old) out.new.items ≡ out.old.items) }
@@ -49,7 +49,7 @@ pub fn push_address(out: &mut Vec<u8>, a: &Address) -> Result<(), NoMemory>
     push_stake(out, &a.stake)
 }
 
-/// Appends an output reference. (Own)
+/// Appends an output reference. After want of memory what stood there stands, with perhaps a part of the text behind it. (Own)
 pub fn push_ref(out: &mut Vec<u8>, r: &OutRef) -> Result<(), NoMemory>
     ensures ok { OnOk result (out.new.items ≡ out.old.items ++ ref_text r.now) }
     ensures err { OnErr result (take (vec_len out.old) out.new.items ≡ out.old.items) }
@@ -59,7 +59,7 @@ pub fn push_ref(out: &mut Vec<u8>, r: &OutRef) -> Result<(), NoMemory>
     push_number(out, r.index)
 }
 
-/// Appends a governance action's id. (Own)
+/// Appends a governance action's id. After want of memory what stood there stands, with perhaps a part of the text behind it. (Own)
 pub fn push_action_id(out: &mut Vec<u8>, a: &ActionId) -> Result<(), NoMemory>
     ensures ok { OnOk result (out.new.items ≡ out.old.items ++ action_id_text a.now) }
     ensures err { OnErr result (take (vec_len out.old) out.new.items ≡ out.old.items) }
@@ -69,7 +69,7 @@ pub fn push_action_id(out: &mut Vec<u8>, a: &ActionId) -> Result<(), NoMemory>
     push_number(out, a.index)
 }
 
-/// Appends a pool. (Own)
+/// Appends a pool. After want of memory what stood there stands, with perhaps a part of the text behind it. (Own)
 pub fn push_pool(out: &mut Vec<u8>, p: &PoolId) -> Result<(), NoMemory>
     ensures ok { OnOk result (out.new.items ≡ out.old.items ++ pool_text p.now) }
     ensures err { OnErr result (take (vec_len out.old) out.new.items ≡ out.old.items) }
@@ -77,7 +77,7 @@ pub fn push_pool(out: &mut Vec<u8>, p: &PoolId) -> Result<(), NoMemory>
     push_hash(out, &p.0)
 }
 
-/// Appends a vote's delegate. (Own)
+/// Appends a vote's delegate. After want of memory what stood there stands, with perhaps a part of the text behind it. (Own)
 pub fn push_drep(out: &mut Vec<u8>, d: &Drep) -> Result<(), NoMemory>
     ensures ok { OnOk result (out.new.items ≡ out.old.items ++ drep_text d.now) }
     ensures err { OnErr result (take (vec_len out.old) out.new.items ≡ out.old.items) }
@@ -89,7 +89,7 @@ pub fn push_drep(out: &mut Vec<u8>, d: &Drep) -> Result<(), NoMemory>
     }
 }
 
-/// Appends a voter. (Own)
+/// Appends a voter. After want of memory what stood there stands, with perhaps a part of the text behind it. (Own)
 pub fn push_voter(out: &mut Vec<u8>, v: &Voter) -> Result<(), NoMemory>
     ensures ok { OnOk result (out.new.items ≡ out.old.items ++ voter_text v.now) }
     ensures err { OnErr result (take (vec_len out.old) out.new.items ≡ out.old.items) }

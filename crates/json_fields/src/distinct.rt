@@ -51,7 +51,7 @@ pub trait Named: Kind {
         ensures { result ≡ name entry.now };
 }
 
-/// A list of at most `limit` entries, each with a name of its own.
+/// A list of at most `limit` entries, each with a name of its own. (Own)
 pub fn read_distinct_list<K: Named>(
     alloc: Global,
     limit: u32,

@@ -15,14 +15,14 @@ use gov_ids::{Account, ActionId, Address, Credential, Drep, OutRef, PoolId, TxId
 use serde_json::Value;
 use std::alloc::Global;
 
-/// A field that has to be there.
+/// A field that has to be there. (Own)
 pub fn needed<K: Kind>(alloc: Global, object: &Value, name: &str) -> Result<K::Entry, FieldFault>
     ensures { Reads result (needed_in name.now K.reading (view object.now)) }
 {
     K::read(alloc, field(object, name)?)
 }
 
-/// A field that may be absent or null.
+/// A field that may be absent or null. (Own)
 pub fn maybe<K: Kind>(
     alloc: Global,
     object: &Value,

@@ -35,14 +35,14 @@ pub trait Kind {
 }
 
 impl ListFault {
-    /// A fault of the list itself.
+    /// A fault of the list itself. (Own)
     pub fn whole(fault: FieldFault) -> ListFault
         ensures { result ≡ whole_fault fault }
     {
         ListFault { place: None, fault }
     }
 
-    /// A fault of the entry at the place, from 0.
+    /// A fault of the entry at the place, from 0. (Own)
     pub fn at(place: u32, fault: FieldFault) -> ListFault
         ensures { result ≡ fault_at place fault }
     {
@@ -75,7 +75,7 @@ impl<T: Drop> From<AllocFailed<T>> for ListFault {
     }
 }
 
-/// A list of at most `limit` entries.
+/// A list of at most `limit` entries. (Own)
 pub fn read_list<K: Kind>(
     alloc: Global,
     limit: u32,

@@ -10,7 +10,7 @@ use gov_ids::{
 };
 use serde_json::Value;
 
-/// The value of an object's field; a null one counts as absent.
+/// The value of an object's field; a null one counts as absent. (Own)
 pub fn field<'a>(object: &'a Value, name: &str) -> Result<&'a Value, FieldFault>
     ensures { result_map_both (λ v. view v.now) (λ e. e) result ≡ field_in name.now (view object.now) }
 {
@@ -23,7 +23,7 @@ pub fn field<'a>(object: &'a Value, name: &str) -> Result<&'a Value, FieldFault>
     }
 }
 
-/// The value of an object's field, if it has one; a null one counts as absent.
+/// The value of an object's field, if it has one; a null one counts as absent. (Own)
 pub fn optional_field<'a>(object: &'a Value, name: &str) -> Result<Option<&'a Value>, FieldFault>
     ensures { result_map_both (option_map (λ v. view v.now)) (λ e. e) result ≡ optional_in name.now (view object.now) }
 {
@@ -34,14 +34,14 @@ pub fn optional_field<'a>(object: &'a Value, name: &str) -> Result<Option<&'a Va
     }
 }
 
-/// True or false.
+/// True or false. (Own)
 pub fn read_bool(v: &Value) -> Result<bool, FieldFault>
     ensures { result ≡ bool_in (view v.now) }
 {
     v.as_bool().ok_or(FieldFault::WrongKind)
 }
 
-/// A number of 64 bits.
+/// A number of 64 bits. (Own)
 pub fn read_u64(v: &Value) -> Result<u64, FieldFault>
     ensures { result ≡ u64_in (view v.now) }
 {
@@ -51,7 +51,7 @@ pub fn read_u64(v: &Value) -> Result<u64, FieldFault>
     v.as_u64().ok_or(FieldFault::OutOfRange)
 }
 
-/// A number of 64 bits below a bound.
+/// A number of 64 bits below a bound. (Own)
 pub fn read_number_below(bound: u64, v: &Value) -> Result<u64, FieldFault>
     ensures { result ≡ number_below bound (view v.now) }
 {
@@ -63,7 +63,7 @@ pub fn read_number_below(bound: u64, v: &Value) -> Result<u64, FieldFault>
     }
 }
 
-/// A number of 32 bits.
+/// A number of 32 bits. (Own)
 pub fn read_u32(v: &Value) -> Result<u32, FieldFault>
     ensures { result ≡ u32_in (view v.now) }
 {
@@ -71,7 +71,7 @@ pub fn read_u32(v: &Value) -> Result<u32, FieldFault>
     Ok(n as u32)
 }
 
-/// A number of 16 bits.
+/// A number of 16 bits. (Own)
 pub fn read_u16(v: &Value) -> Result<u16, FieldFault>
     ensures { result ≡ u16_in (view v.now) }
 {
@@ -79,91 +79,91 @@ pub fn read_u16(v: &Value) -> Result<u16, FieldFault>
     Ok(n as u16)
 }
 
-/// A text.
+/// A text. (Own)
 pub fn read_text(v: &Value) -> Result<&str, FieldFault>
     ensures { result_map_both (λ t. t.now) (λ e. e) result ≡ text_in (view v.now) }
 {
     v.as_str().ok_or(FieldFault::WrongKind)
 }
 
-/// 28 bytes, as 56 hex digits.
+/// 28 bytes, as 56 hex digits. (Own)
 pub fn read_hash28(v: &Value) -> Result<[u8; 28], FieldFault>
     ensures { result ≡ hash28_in (view v.now) }
 {
     hash28(read_text(v)?).ok().ok_or(FieldFault::OutOfRange)
 }
 
-/// 32 bytes, as 64 hex digits.
+/// 32 bytes, as 64 hex digits. (Own)
 pub fn read_hash32(v: &Value) -> Result<[u8; 32], FieldFault>
     ensures { result ≡ hash32_in (view v.now) }
 {
     hash32(read_text(v)?).ok().ok_or(FieldFault::OutOfRange)
 }
 
-/// A transaction, as 64 hex digits.
+/// A transaction, as 64 hex digits. (Own)
 pub fn read_tx_id(v: &Value) -> Result<TxId, FieldFault>
     ensures { result ≡ tx_id_in (view v.now) }
 {
     Ok(TxId(read_hash32(v)?))
 }
 
-/// A pool, as 56 hex digits.
+/// A pool, as 56 hex digits. (Own)
 pub fn read_pool_id(v: &Value) -> Result<PoolId, FieldFault>
     ensures { result ≡ pool_id_in (view v.now) }
 {
     gov_ids::read_pool(read_text(v)?).ok_or(FieldFault::OutOfRange)
 }
 
-/// A credential: `k` (key) or `s` (script), then 56 hex digits.
+/// A credential: `k` (key) or `s` (script), then 56 hex digits. (Own)
 pub fn read_credential(v: &Value) -> Result<Credential, FieldFault>
     ensures { result ≡ credential_in (view v.now) }
 {
     gov_ids::read_credential(read_text(v)?).ok_or(FieldFault::OutOfRange)
 }
 
-/// An account: the network's digit, then a credential.
+/// An account: the network's digit, then a credential. (Own)
 pub fn read_account(v: &Value) -> Result<Account, FieldFault>
     ensures { result ≡ account_in (view v.now) }
 {
     gov_ids::read_account(read_text(v)?).ok_or(FieldFault::OutOfRange)
 }
 
-/// An address: the network's digit, a payment credential, then nothing or `+` and a stake credential.
+/// An address: the network's digit, a payment credential, then nothing or `+` and a stake credential. (Own)
 pub fn read_address(v: &Value) -> Result<Address, FieldFault>
     ensures { result ≡ address_in (view v.now) }
 {
     gov_ids::read_address(read_text(v)?).ok_or(FieldFault::OutOfRange)
 }
 
-/// A reference to an output: a transaction, `#`, an index below 65536.
+/// A reference to an output: a transaction, `#`, an index below 65536. (Own)
 pub fn read_ref(v: &Value) -> Result<OutRef, FieldFault>
     ensures { result ≡ ref_in (view v.now) }
 {
     gov_ids::read_ref(read_text(v)?).ok_or(FieldFault::OutOfRange)
 }
 
-/// A governance action's id, in the form of an output reference.
+/// A governance action's id, in the form of an output reference. (Own)
 pub fn read_action_id(v: &Value) -> Result<ActionId, FieldFault>
     ensures { result ≡ action_id_in (view v.now) }
 {
     gov_ids::read_action_id(read_text(v)?).ok_or(FieldFault::OutOfRange)
 }
 
-/// What a vote is delegated to: a credential, `abstain` or `no-confidence`.
+/// What a vote is delegated to: a credential, `abstain` or `no-confidence`. (Own)
 pub fn read_drep(v: &Value) -> Result<Drep, FieldFault>
     ensures { result ≡ drep_in (view v.now) }
 {
     gov_ids::read_drep(read_text(v)?).ok_or(FieldFault::OutOfRange)
 }
 
-/// A voter: `committee:` or `drep:` and a credential, or `pool:` and 56 hex digits.
+/// A voter: `committee:` or `drep:` and a credential, or `pool:` and 56 hex digits. (Own)
 pub fn read_voter(v: &Value) -> Result<Voter, FieldFault>
     ensures { result ≡ voter_in (view v.now) }
 {
     gov_ids::read_voter(read_text(v)?).ok_or(FieldFault::OutOfRange)
 }
 
-/// The entries of an array.
+/// The entries of an array. (Own)
 pub fn read_items(v: &Value) -> Result<&[Value], FieldFault>
     ensures { result_map_both (λ s. items_view s.now) (λ e. e) result ≡ items_in (view v.now) }
 {
@@ -173,7 +173,7 @@ pub fn read_items(v: &Value) -> Result<&[Value], FieldFault>
     }
 }
 
-/// An array of two entries.
+/// An array of two entries. (Own)
 #[tactic(auto, using(crate::proofs::Items::not_two))]
 pub fn read_pair(v: &Value) -> Result<(&Value, &Value), FieldFault>
     ensures { result_map_both (λ t. (view t.0.now, view t.1.now)) (λ e. e) result ≡ pair_in (view v.now) }
@@ -184,7 +184,7 @@ pub fn read_pair(v: &Value) -> Result<(&Value, &Value), FieldFault>
     }
 }
 
-/// An array of three entries.
+/// An array of three entries. (Own)
 #[tactic(auto, using(crate::proofs::Items::not_three))]
 pub fn read_three(v: &Value) -> Result<(&Value, &Value, &Value), FieldFault>
     ensures { result_map_both (λ t. (view t.0.now, view t.1.now, view t.2.now)) (λ e. e) result ≡ three_in (view v.now) }
@@ -195,7 +195,7 @@ pub fn read_three(v: &Value) -> Result<(&Value, &Value, &Value), FieldFault>
     }
 }
 
-/// An array of four entries.
+/// An array of four entries. (Own)
 #[tactic(auto, using(crate::proofs::Items::not_four))]
 pub fn read_four(v: &Value) -> Result<(&Value, &Value, &Value, &Value), FieldFault>
     ensures { result_map_both (λ t. (view t.0.now, view t.1.now, view t.2.now, view t.3.now)) (λ e. e) result ≡ four_in (view v.now) }
@@ -206,7 +206,7 @@ pub fn read_four(v: &Value) -> Result<(&Value, &Value, &Value, &Value), FieldFau
     }
 }
 
-/// An array of five entries.
+/// An array of five entries. (Own)
 #[tactic(auto, using(crate::proofs::Items::not_five))]
 pub fn read_five(v: &Value) -> Result<(&Value, &Value, &Value, &Value, &Value), FieldFault>
     ensures { result_map_both (λ t. (view t.0.now, view t.1.now, view t.2.now, view t.3.now, view t.4.now)) (λ e. e) result ≡ five_in (view v.now) }
@@ -217,7 +217,7 @@ pub fn read_five(v: &Value) -> Result<(&Value, &Value, &Value, &Value, &Value), 
     }
 }
 
-/// An array of six entries.
+/// An array of six entries. (Own)
 #[tactic(auto, using(crate::proofs::Items::not_six))]
 pub fn read_six(v: &Value) -> Result<(&Value, &Value, &Value, &Value, &Value, &Value), FieldFault>
     ensures { result_map_both (λ t. (view t.0.now, view t.1.now, view t.2.now, view t.3.now, view t.4.now, view t.5.now)) (λ e. e) result ≡ six_in (view v.now) }

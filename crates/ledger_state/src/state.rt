@@ -62,63 +62,63 @@ impl Model for LedgerState {
 }
 
 impl LedgerState {
-    /// 0 for the test networks, 1 for mainnet.
+    /// The network: 0 for the test networks, 1 for mainnet. (Own)
     pub fn network(&self) -> u8
         ensures { result ≡ self.now.network }
     {
         self.network
     }
 
-    /// The last slot.
+    /// The last slot. (Own)
     pub fn slot(&self) -> u64
         ensures { result ≡ self.now.slot }
     {
         self.slot
     }
 
-    /// All lovelace.
+    /// The supply, in lovelace. (Own)
     pub fn supply(&self) -> u64
         ensures { result ≡ self.now.supply }
     {
         self.supply
     }
 
-    /// In lovelace.
+    /// The reserves, in lovelace. (Acnt of the formal specification)
     pub fn reserves(&self) -> u64
         ensures { result ≡ self.now.reserves }
     {
         self.reserves
     }
 
-    /// In lovelace.
+    /// The treasury, in lovelace. (Acnt of the formal specification)
     pub fn treasury(&self) -> u64
         ensures { result ≡ self.now.treasury }
     {
         self.treasury
     }
 
-    /// The fee pot, in lovelace.
+    /// The fee pot, in lovelace. (UTxOState of the formal specification)
     pub fn fees(&self) -> u64
         ensures { result ≡ self.now.fees }
     {
         self.fees
     }
 
-    /// The donation pot, in lovelace.
+    /// The donation pot, in lovelace. (UTxOState of the formal specification)
     pub fn donations(&self) -> u64
         ensures { result ≡ self.now.donations }
     {
         self.donations
     }
 
-    /// The protocol parameters.
+    /// The protocol parameters. (PParams of the formal specification)
     pub fn params(&self) -> &Params
         ensures { result.now ≡ self.now.params }
     {
         &self.params
     }
 
-    /// The unspent outputs and the used transaction ids.
+    /// The unspent outputs and the used transaction ids. (UTxOState of the formal specification; that used ids are kept is own)
     pub fn outputs(&self) -> &UtxoSet
         ensures outputs { result.now.outputs ≡ self.now.outputs }
         ensures used { result.now.used ≡ self.now.used }
@@ -126,7 +126,7 @@ impl LedgerState {
         &self.utxo
     }
 
-    /// The seven pots.
+    /// The seven pots, in lovelace. (The preservation of value of the formal specification)
     pub fn pots(&self) -> Pots
         ensures { (start : World) → result ≡ pots_of (world_of self.now start) }
     {

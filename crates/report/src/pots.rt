@@ -68,7 +68,7 @@ fn push_pots(line: &mut Vec<u8>, word: &str, pots: &Pots) -> Result<(), NoMemory
     Ok(())
 }
 
-/// The line of the pots, in place of what the buffer held.
+/// The line of the pots, in place of what the buffer held. After want of memory the buffer may hold anything. (Own)
 pub fn pots_line(
     line: &mut Vec<u8>,
     number: u64,

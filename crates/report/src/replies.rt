@@ -98,7 +98,7 @@ fn push_reply(line: &mut Vec<u8>, reply: &Reply) -> Result<(), NoMemory>
     }
 }
 
-/// The line of a reply, in place of what the buffer held.
+/// The line of a reply, in place of what the buffer held. After want of memory the buffer may hold anything. (Own)
 pub fn reply_line(line: &mut Vec<u8>, number: u64, reply: &Reply) -> Result<(), NoMemory>
     ensures { OnOk result (line.new.items ≡ line_of number (reply_words reply.now)) }
 {

@@ -68,7 +68,7 @@ pub(crate) fn end(line: &mut Vec<u8>) -> Result<(), NoMemory>
     Ok(())
 }
 
-/// The line of these words, in place of what the buffer held.
+/// The line of these words, in place of what the buffer held. After want of memory the buffer may hold anything. (Own)
 pub fn words_line(line: &mut Vec<u8>, number: u64, words: &[&str]) -> Result<(), NoMemory>
     ensures { OnOk result (line.new.items ≡ line_of number (map (λ w. w.now) words.now)) }
 {

@@ -20,12 +20,12 @@ pub fn epochs_ratify_one_list()
     ensures { EpochsRatifyOneList }
 {}
 
-/// Between boundaries all that can be enacted is as it was frozen, the treasury has not lost, a pending update is balanced and covered, and each frozen proposal is live, for every ledger that records reach. (CIP-1694, Enactment)
+/// Between boundaries all that can be enacted is as it was frozen, but for the treasury, which has not lost; a pending update is balanced and covered, and each frozen proposal is live with at most its votes changed, for every ledger that records reach. (CIP-1694, Enactment)
 pub fn stands_between_boundaries()
     ensures { StandsBetweenBoundaries }
 {}
 
-/// What was counted is the sum of the pulses of the epoch's accepted blocks, and no more than there is to count, after every run of records. (Own)
+/// What was counted is the lesser of the number of frozen entries and the sum of the pulses of the epoch's accepted blocks, after every run of records. (Own)
 pub fn counted_is_the_pulses()
     ensures { CountedIsThePulses }
 {}

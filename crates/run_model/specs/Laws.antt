@@ -49,7 +49,7 @@ PulsesDoNotShow = (g : Genesis) → is_genesis g ≡ true → genesis_fault g �
     let w : World = world_of_genesis g in
     (replies_of w rs ≡ replies_of w ss) × (world_after_all w rs ≡ record (world_after_all w ss) { counted = (world_after_all w rs).counted })
 
--- what was counted is the sum of the pulses of the epoch
+-- what was counted is what the pulses of the epoch's accepted blocks count
 abbrev pub CountedIsThePulses : Type 0
 CountedIsThePulses = (g : Genesis) → is_genesis g ≡ true → genesis_fault g ≡ None → (rs : List Record) → list_all is_readable rs ≡ true →
     (world_after_all (world_of_genesis g) rs).counted ≡ counted_of (world_of_genesis g) rs

@@ -1,11 +1,11 @@
 ghost use Rattle.tx_balance.specs.Laws.{FailedBalances, MovesKeepSupply, PassedBalances};
 
-/// An allowed transaction whose scripts did not fail moves each pot by its flows, and nothing stays in hand. (The preservation of value of the formal specification)
+/// An allowed transaction whose scripts did not fail and that withdraws from no account twice moves each pot of a sound ledger by its flows, and all that it takes in hand it gives on. (The preservation of value of the formal specification)
 pub fn passed_balances()
     ensures { PassedBalances }
 {}
 
-/// And so does one whose scripts failed. (The preservation of value of the formal specification)
+/// And so does an allowed one whose scripts failed. (The preservation of value of the formal specification)
 pub fn failed_balances()
     ensures { FailedBalances }
 {}

@@ -1,7 +1,7 @@
 use coin_frac::Unit;
 use gov_ids::{Account, Credential, Drep, PoolId};
 
-/// A certificate. A deposit or refund that is not stated is the one that is due (own). (DELEG, POOL and GOVCERT of the formal specification)
+/// A certificate. Deposits and refunds are in lovelace; one that is not stated is the one that is due (own). (DELEG, POOL and GOVCERT of the formal specification)
 #[derive(Clone, Copy)]
 pub enum Cert {
     /// An account is registered and may delegate at once.

@@ -26,7 +26,7 @@ use ledger_state::LedgerState;
 use tx_records::rules::NOT_BALANCED;
 use tx_records::{Rule, Tx};
 
-/// The first of the rules on id, inputs, size, time, fee, outputs, collateral and treasury value that the transaction breaks. (UTXO and UTXOW of the formal specification)
+/// The first of the rules on id, inputs, size, time, fee, outputs, collateral and treasury value that the transaction breaks, if there is one. (UTXO and UTXOW of the formal specification)
 pub fn check(s: &LedgerState, tx: &Tx) -> Result<(), Rule>
     requires { is_tx tx.now ≡ true }
     ensures { (start : World) → result ≡ answer_of (utxo_checks (world_of s.now start) tx.now) }
@@ -41,7 +41,7 @@ pub fn check(s: &LedgerState, tx: &Tx) -> Result<(), Rule>
     check_treasury(s, tx)
 }
 
-/// The rule on the balance.
+/// Whether what a transaction takes is what it gives, in lovelace; else NotBalanced with both sums. A transaction whose scripts failed need not keep it. (UTXO of the formal specification, the preservation of value)
 pub fn balance(s: &LedgerState, tx: &Tx) -> Result<(), Rule>
     requires built { is_built_tx tx.now ≡ true }
     requires readable { is_tx tx.now ≡ true }

@@ -11,7 +11,7 @@ use ledger_state::LedgerState;
 use tx_records::rules::{OUTPUT_TOO_SMALL, OUTPUT_WRONG_NETWORK};
 use tx_records::{Rule, Tx, TxOutput};
 
-/// Bytes that each output counts besides its own. (utxoEntrySizeWithoutVal of the formal specification)
+/// Bytes that each output counts besides its own. (The constant overhead of cardano-ledger's least lovelace of an output, since Babbage)
 const OVERHEAD: u128 = 160;
 
 /// The rules on each output and on the collateral return, whose place is after the last output.

@@ -6,7 +6,7 @@ use Rattle.gov_ids.specs.Orders.{outref_cmp, txid_cmp}
 use Rattle.book_records.specs.declared.Output.{Output}
 use Rattle.maps.specs.Maps.{IsMap, IsSet}
 
--- the unspent outputs by reference, and the ids of the transactions that were applied, each in order
+-- the unspent outputs by reference, and the used ids, each in order
 pub record Utxos : Type 0 where
   pub outputs : List (OutRef × Output)
   pub used : List TxId

@@ -1,4 +1,4 @@
-//! The book of unspent outputs, with the ids of the transactions that were applied.
+//! The book of unspent outputs, with the used ids.
 #![tactic(auto)]
 
 ghost use Rattle.std.specs.Prelude.{◌≡◌, ◌+◌, ◌^◌, ◌<◌, [], None, option_map, OnOk, OnErr};
@@ -15,8 +15,7 @@ use std::alloc::Global;
 use std::collections::{BTreeMap, BTreeSet};
 use std::marker::Model;
 
-/// The unspent outputs and the ids of the transactions that were applied, with a running total. (UTxO of the formal
-/// specification; that used ids are kept is own.)
+/// The unspent outputs and the used ids, with a running total. (UTxO of the formal specification; that used ids are kept is own)
 #[derive(Debug, Drop)]
 pub struct UtxoSet {
     outputs: BTreeMap<OutRef, Output>,
@@ -37,7 +36,7 @@ impl Model for UtxoSet {
 }
 
 impl UtxoSet {
-    /// A book with no outputs and no used ids.
+    /// A book with no outputs and no used ids. (UTxO of the formal specification)
     pub fn new(alloc: Global) -> UtxoSet
         ensures { result ≡ record { outputs = []; used = [] } }
     {
@@ -48,7 +47,7 @@ impl UtxoSet {
         }
     }
 
-    /// The output at a reference.
+    /// The output at a reference, none where there is none. (UTxO of the formal specification)
     pub fn get(&self, r: &OutRef) -> Option<Output>
         ensures value { result ≡ value_at outref_cmp self.now.outputs r.now }
         ensures in_order { IsInOrder self.now }
@@ -56,7 +55,7 @@ impl UtxoSet {
         self.outputs.get(r).copied()
     }
 
-    /// Adds an output at a new reference. Want of memory changes nothing.
+    /// Adds an output at a new reference. Want of memory changes nothing. (UTxO of the formal specification)
     pub fn put(&mut self, r: OutRef, o: Output) -> Result<(), NoMemory>
         requires absent { value_at outref_cmp self.old.outputs r ≡ None }
         requires fits { lovelace_in self.old.outputs + o.lovelace < 2 ^ 64 }
@@ -68,7 +67,7 @@ impl UtxoSet {
         Ok(())
     }
 
-    /// Removes the output at a reference and gives it.
+    /// Removes the output at a reference and gives it, none where there is none. (UTxO of the formal specification)
     pub fn take(&mut self, r: &OutRef) -> Option<Output>
         ensures value { result ≡ value_at outref_cmp self.old.outputs r.now }
         ensures rest { self.new ≡ record self.old { outputs = without_key outref_cmp r.now self.old.outputs } }
@@ -78,7 +77,7 @@ impl UtxoSet {
         Some(output)
     }
 
-    /// What all outputs hold, in lovelace.
+    /// What all outputs hold, in lovelace. (UTxO of the formal specification)
     pub fn total(&self) -> u64
         ensures sum { result ≡ lovelace_in self.now.outputs }
         ensures in_order { IsInOrder self.now }
@@ -86,7 +85,7 @@ impl UtxoSet {
         self.total
     }
 
-    /// Whether a transaction with this id was applied.
+    /// Whether an id is a used one: of a transaction that was applied, or of one that made an output of the genesis. (Own)
     pub fn used(&self, id: &TxId) -> bool
         ensures member { result ≡ has_member txid_cmp self.now.used id.now }
         ensures in_order { IsInOrder self.now }
@@ -94,7 +93,7 @@ impl UtxoSet {
         self.used.contains(id)
     }
 
-    /// Puts an id among the used ones. Want of memory changes nothing.
+    /// Puts an id among the used ones. Want of memory changes nothing. (Own)
     pub fn mark_used(&mut self, id: TxId) -> Result<(), NoMemory>
         ensures ok { OnOk result (self.new ≡ record self.old { used = with_key txid_cmp id self.old.used }) }
         ensures err { OnErr result (self.new ≡ self.old) }
@@ -103,14 +102,14 @@ impl UtxoSet {
         Ok(())
     }
 
-    /// Takes an id from the used ones.
+    /// Takes an id from the used ones. (Own)
     pub fn unmark(&mut self, id: &TxId)
         ensures { self.new ≡ record self.old { used = without_member txid_cmp id.now self.old.used } }
     {
         self.used.remove(id);
     }
 
-    /// The first output past a reference, or the first of all, in the order of references.
+    /// The first output past a reference, or the first of all, in the order of references; none at the end. (UTxO of the formal specification)
     pub fn next(&self, after: Option<&OutRef>) -> Option<(OutRef, Output)>
         ensures { result ≡ entry_after outref_cmp (option_map (λ r. r.now) after.entry) self.now.outputs }
     {
@@ -118,7 +117,7 @@ impl UtxoSet {
         Some((*r, *o))
     }
 
-    /// The first used id past an id, or the first of all, in the order of ids.
+    /// The first used id past an id, or the first of all, in the order of ids; none at the end. (Own)
     pub fn next_used(&self, after: Option<&TxId>) -> Option<TxId>
         ensures { result ≡ key_after txid_cmp (option_map (λ id. id.now) after.entry) self.now.used }
     {

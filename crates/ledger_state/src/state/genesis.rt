@@ -10,7 +10,7 @@ use std::alloc::Global;
 use tx_records::Genesis;
 
 impl LedgerState {
-    /// The ledger of a genesis that breaks no genesis rule; otherwise the first rule that it breaks. (Own)
+    /// The ledger of a genesis that is built and breaks no genesis rule; otherwise the first rule that it breaks, or `NoMemory`, which may come at any time. (Own)
     pub fn from_genesis(alloc: Global, genesis: &Genesis) -> Result<LedgerState, GenesisFault>
         requires { is_built_genesis genesis.now ≡ true }
         ensures { StartsAs result genesis.now }
