@@ -1,5 +1,5 @@
 -- What a JSON value reads as, where it is a governance action. (Own)
-use Rattle.std.specs.Prelude.{ℕ, ◌^◌, List, Option, Result, Ok, Err, bytes_eq, codes, if◌then◌else◌}
+use Rattle.std.specs.Prelude.{ℕ, List, Option, Result, Ok, Err, bytes_eq, codes, if◌then◌else◌}
 use Rattle.serde_json.specs.Data.{Data}
 use Rattle.gov_ids.specs.declared.Account.{Account}
 use Rattle.gov_ids.specs.declared.ActionId.{ActionId}
@@ -7,6 +7,7 @@ use Rattle.gov_ids.specs.declared.Credential.{Credential}
 use Rattle.gov_ids.specs.Orders.{account_cmp, credential_cmp}
 use Rattle.gov_actions.specs.declared.action.Action.{Action}
 use Rattle.gov_actions.specs.declared.action.Action.TheVariants as actions
+use Rattle.tx_records.specs.declared.limits.TheConstants.{LIST_LIMIT, SLOT_LIMIT}
 use Rattle.json_fields.specs.declared.fault.FieldFault.{FieldFault}
 use Rattle.json_fields.specs.declared.fault.FieldFault.TheVariants.{OutOfRange}
 use Rattle.json_fields.specs.Entries.{needed_in, maybe_in, both_in, without_place}
@@ -15,25 +16,21 @@ use Rattle.json_fields.specs.Lists.{distinct_list_in}
 use Rattle.json_fields.specs.Steps.{◌>>=◌}
 use Rattle.action_read.specs.Params.{update_in}
 
--- the most entries of a list in an action
-abbrev pub list_limit : ℕ
-list_limit = 16777216
-
 -- the last epoch of a term
 abbrev pub term_in : Data → Result ℕ FieldFault
-term_in d = number_below (2 ^ 62) d
+term_in d = number_below SLOT_LIMIT d
 
 -- credentials, each once
 abbrev pub credentials_in : Data → Result (List Credential) FieldFault
-credentials_in d = without_place (distinct_list_in credential_cmp (λ c. c) list_limit credential_in d)
+credentials_in d = without_place (distinct_list_in credential_cmp (λ c. c) LIST_LIMIT credential_in d)
 
 -- new members with their terms, each once
 abbrev pub members_in : Data → Result (List (Credential × ℕ)) FieldFault
-members_in d = without_place (distinct_list_in credential_cmp (λ m. m.0) list_limit (both_in credential_in term_in) d)
+members_in d = without_place (distinct_list_in credential_cmp (λ m. m.0) LIST_LIMIT (both_in credential_in term_in) d)
 
 -- accounts with their amounts, each once
 abbrev pub targets_in : Data → Result (List (Account × ℕ)) FieldFault
-targets_in d = without_place (distinct_list_in account_cmp (λ t. t.0) list_limit (both_in account_in u64_in) d)
+targets_in d = without_place (distinct_list_in account_cmp (λ t. t.0) LIST_LIMIT (both_in account_in u64_in) d)
 
 -- the action before it, if there is one
 abbrev pub previous_in : Data → Result (Option ActionId) FieldFault

@@ -2,11 +2,11 @@ ghost use Rattle.serde_json.specs.View.{view};
 ghost use Rattle.json_fields.specs.Reads.{Reads};
 ghost use Rattle.action_read.specs.Actions.{action_in, action_of_type, hard_fork_in, new_constitution_in, no_confidence_in, parameter_change_in, treasury_withdrawals_in, update_committee_in};
 
-use crate::entries::{Distinct, LeavingMember, NewMember, Target};
+use crate::entries::{Distinct, Term};
 use crate::kinds::UpdateField;
 use coin_frac::Unit;
 use gov_actions::Action;
-use gov_ids::ActionId;
+use gov_ids::{Account, ActionId, Credential};
 use json_fields::{FieldFault, field, maybe, needed, read_text};
 use serde_json::Value;
 use std::alloc::Global;
@@ -26,8 +26,8 @@ fn read_update_committee(alloc: Global, object: &Value) -> Result<Action, FieldF
 {
     Ok(Action::UpdateCommittee {
         previous: maybe::<ActionId>(alloc, object, "previous")?,
-        remove: needed::<Distinct<LeavingMember>>(alloc, object, "remove")?,
-        add: needed::<Distinct<NewMember>>(alloc, object, "add")?,
+        remove: needed::<Distinct<Credential>>(alloc, object, "remove")?,
+        add: needed::<Distinct<(Credential, Term)>>(alloc, object, "add")?,
         threshold: needed::<Unit>(alloc, object, "threshold")?,
     })
 }
@@ -69,7 +69,7 @@ fn read_treasury_withdrawals(alloc: Global, object: &Value) -> Result<Action, Fi
     ensures { Reads result (treasury_withdrawals_in (view object.now)) }
 {
     Ok(Action::TreasuryWithdrawals {
-        targets: needed::<Distinct<Target>>(alloc, object, "targets")?,
+        targets: needed::<Distinct<(Account, u64)>>(alloc, object, "targets")?,
         policy: maybe::<[u8; 28]>(alloc, object, "policy")?,
     })
 }

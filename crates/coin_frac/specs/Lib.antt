@@ -1,3 +1,4 @@
 pub mod Fraction
 pub mod Memory
 pub mod Reaches
+pub mod Totals

@@ -1,10 +1,14 @@
-//! Fractions of lovelace and of votes, and the one free answer: memory ran out.
+//! Fractions of lovelace and of votes, amounts with their total, a count of steps, and the one free answer: memory ran out.
 #![tactic(auto)]
 
 mod fraction;
+mod steps;
+mod total_map;
 
 pub use fraction::{FracFault, Ratio, Unit, reaches};
 use std::alloc::{AllocError, AllocFailed};
+pub use steps::Steps;
+pub use total_map::TotalMap;
 
 /// Memory ran out. No clause says when it may come. (Own)
 #[derive(Clone, Copy, Debug, PartialEq, Eq)]

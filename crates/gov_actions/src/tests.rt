@@ -16,6 +16,14 @@ fn tells_what_an_action_is(rt: HostRuntime) -> Result<(), Fail> {
     assert_eq!(rt; (fork.priority(), fork.delaying()), (3, true));
     assert_eq!(rt; fork.purpose(), Some(Purpose::HardFork));
     assert_eq!(rt; fork.previous(), Some(first));
+    let last = LastIds {
+        committee: None,
+        constitution: None,
+        hardfork: Some(first),
+        parameters: None,
+    };
+    assert_eq!(rt; last.of(Purpose::HardFork), Some(first));
+    assert_eq!(rt; last.of(Purpose::Committee), None);
     Ok(())
 }
 

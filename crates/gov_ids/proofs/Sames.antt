@@ -19,7 +19,7 @@ use Rattle.gov_ids.specs.contracts.TxIdPartialEq.TheImpl as txid_eq
 use Rattle.gov_ids.specs.contracts.VoterOrd.TheImpl.Laws as voter_laws
 use Rattle.gov_ids.specs.contracts.VoterPartialEq.TheImpl as voter_eq
 use Rattle.gov_ids.specs.Same.{same_credential, same_pool, same_txid, same_action, same_outref, same_account, same_drep, same_voter}
-use Rattle.gov_ids.proofs.Derived.{account_is, credential_is, drep_is, voter_is}
+use Rattle.gov_ids.specs.Derived.{account_is, credential_is, drep_is, voter_is}
 
 pub credential_same : credential_eq.eq-value.it ≡ same_credential
 credential_same = (λ i a b. credential_laws.matches_eq-law a b i) ∙ (λ i. eq_by_cmp (credential_is i))

@@ -19,29 +19,37 @@ use Rattle.gov_ids.specs.Spelling.{hash_text, credential_text, account_text, add
 abbrev pub IsHash : ℕ → List ℕ → Type 0
 IsHash n h = (length h ≡ n) × IsBytes h
 
+-- a hash of 28 bytes
 abbrev pub IsCredential : Credential → Type 0
 IsCredential c = IsHash 28 c.hash
 
+-- a network, and a credential
 abbrev pub IsAccount : Account → Type 0
 IsAccount a = (a.network < 2) × IsCredential a.cred
 
+-- a network, a credential and, where there is one, another
 abbrev pub IsAddress : Address → Type 0
 IsAddress a = (a.network < 2) × IsCredential a.payment × IfSome a.stake IsCredential
 
+-- a hash of 32 bytes, and an index of 16 bits
 abbrev pub IsOutRef : OutRef → Type 0
 IsOutRef r = IsHash 32 r.tx.0 × (r.index < 65536)
 
+-- likewise
 abbrev pub IsActionId : ActionId → Type 0
 IsActionId a = IsHash 32 a.tx.0 × (a.index < 65536)
 
+-- a hash of 28 bytes
 abbrev pub IsPoolId : PoolId → Type 0
 IsPoolId p = IsHash 28 p.0
 
+-- a credential, where it is a registered one
 abbrev pub IsDrep : Drep → Type 0
 IsDrep (drep.Registered c) = IsCredential c
 IsDrep drep.Abstain = ⊤
 IsDrep drep.NoConfidence = ⊤
 
+-- a credential, or a pool
 abbrev pub IsVoter : Voter → Type 0
 IsVoter (voter.Committee c) = IsCredential c
 IsVoter (voter.Drep c) = IsCredential c
@@ -53,27 +61,35 @@ IsVoter (voter.Pool p) = IsPoolId p
 abbrev pub digit_lowered : ℕ → ℕ
 digit_lowered c = if nat_le 65 c && nat_le c 70 then c + 32 else c
 
+-- each hex digit in lower case
 abbrev pub lowered : List ℕ → List ℕ
 lowered text = map digit_lowered text
 
+-- the text is that of n bytes
 abbrev pub SpellsHash : ℕ → List ℕ → List ℕ → Type 0
 SpellsHash n text h = IsHash n h × (lowered text ≡ hash_text h)
 
+-- that of a credential
 abbrev pub SpellsCredential : List ℕ → Credential → Type 0
 SpellsCredential text c = IsCredential c × (lowered text ≡ credential_text c)
 
+-- that of an account
 abbrev pub SpellsAccount : List ℕ → Account → Type 0
 SpellsAccount text a = IsAccount a × (lowered text ≡ account_text a)
 
+-- that of an address
 abbrev pub SpellsAddress : List ℕ → Address → Type 0
 SpellsAddress text a = IsAddress a × (lowered text ≡ address_text a)
 
+-- that of a reference
 abbrev pub SpellsOutRef : List ℕ → OutRef → Type 0
 SpellsOutRef text r = IsOutRef r × (lowered text ≡ ref_text r)
 
+-- that of an action
 abbrev pub SpellsActionId : List ℕ → ActionId → Type 0
 SpellsActionId text a = IsActionId a × (lowered text ≡ action_id_text a)
 
+-- that of a pool
 abbrev pub SpellsPoolId : List ℕ → PoolId → Type 0
 SpellsPoolId text p = IsPoolId p × (lowered text ≡ pool_text p)
 

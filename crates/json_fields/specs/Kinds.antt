@@ -50,13 +50,13 @@ optional_in name d = or_none (field_in name d)
 abbrev pub bool_in : Data → Result Bool FieldFault
 bool_in d = or_fault WrongKind (as_bool d)
 
--- a number of 64 bits
-abbrev pub u64_in : Data → Result ℕ FieldFault
-u64_in d = or_fault WrongKind (as_number d) >>= λ n. or_fault OutOfRange (as_u64 n)
-
 -- a number below a bound
 abbrev pub number_below : ℕ → Data → Result ℕ FieldFault
-number_below bound d = u64_in d >>= λ n. if nat_lt n bound then Ok n else Err OutOfRange
+number_below bound d = or_fault WrongKind (as_number d) >>= λ n. or_fault OutOfRange (as_u64 n) >>= λ k. if nat_lt k bound then Ok k else Err OutOfRange
+
+-- a number of 64 bits
+abbrev pub u64_in : Data → Result ℕ FieldFault
+u64_in d = number_below (2 ^ 64) d
 
 -- a number of 32 bits
 abbrev pub u32_in : Data → Result ℕ FieldFault

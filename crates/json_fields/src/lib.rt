@@ -7,7 +7,7 @@ mod kinds;
 mod lists;
 mod readers;
 
-pub use distinct::{Name, Named, read_distinct_list};
+pub use distinct::read_distinct_list;
 pub use fault::FieldFault;
 pub use kinds::{maybe, needed};
 pub use lists::{Kind, ListFault, read_list};

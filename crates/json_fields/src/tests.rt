@@ -1,7 +1,8 @@
 // Values as they stand in a stream, and what they read as.
-ghost use Rattle.gov_ids.specs.Orders.{account_cmp, credential_cmp};
+ghost use Rattle.gov_ids.specs.Orders.{account_cmp};
 ghost use Rattle.serde_json.specs.View.{view};
-ghost use Rattle.json_fields.specs.Kinds.{account_in};
+ghost use Rattle.json_fields.specs.Entries.{both_in};
+ghost use Rattle.json_fields.specs.Kinds.{account_in, u64_in};
 ghost use Rattle.json_fields.specs.Lists.{distinct_list_in, list_in};
 ghost use Rattle.json_fields.specs.Reads.{ReadsList};
 
@@ -194,87 +195,35 @@ fn fractions(rt: HostRuntime) -> Result<(), Fail> {
     Ok(())
 }
 
-// An account that is its own name.
-struct ByAccount;
-
-impl Kind for ByAccount {
-    type Entry = Account;
-
-    ghost reading = { account_in };
-
-    fn read(_alloc: Global, value: &Value) -> Result<Account, FieldFault> {
-        read_account(value)
-    }
-}
-
-impl Named for ByAccount {
-    type Name = Account;
-
-    ghost name = { λ a. a };
-
-    fn name_of(entry: &Account) -> Account {
-        *entry
-    }
-}
-
-// An account that is named by its credential.
-struct ByCredential;
-
-impl Kind for ByCredential {
-    type Entry = Account;
-
-    ghost reading = { account_in };
-
-    fn read(_alloc: Global, value: &Value) -> Result<Account, FieldFault> {
-        read_account(value)
-    }
-}
-
-impl Named for ByCredential {
-    type Name = Credential;
-
-    ghost name = { λ a. a.cred };
-
-    fn name_of(entry: &Account) -> Credential {
-        entry.cred
-    }
-}
-
-fn accounts(alloc: Global, limit: u32, value: &Value) -> Result<Listed<Account>, ListFault>
-    ensures { ReadsList result (list_in limit account_in (view value.now)) }
+fn amounts(alloc: Global, limit: u32, value: &Value) -> Result<Listed<(Account, u64)>, ListFault>
+    ensures { ReadsList result (list_in limit (both_in account_in u64_in) (view value.now)) }
 {
-    read_list::<ByAccount>(alloc, limit, value)
+    read_list::<(Account, u64)>(alloc, limit, value)
 }
 
-fn distinct_accounts(alloc: Global, limit: u32, value: &Value) -> Result<Listed<Account>, ListFault>
-    ensures { ReadsList result (distinct_list_in account_cmp (λ a. a) limit account_in (view value.now)) }
-{
-    read_distinct_list::<ByAccount>(alloc, limit, value)
-}
-
-fn distinct_credentials(
+fn distinct_amounts(
     alloc: Global,
     limit: u32,
     value: &Value,
-) -> Result<Listed<Account>, ListFault>
-    ensures { ReadsList result (distinct_list_in credential_cmp (λ a. a.cred) limit account_in (view value.now)) }
+) -> Result<Listed<(Account, u64)>, ListFault>
+    ensures { ReadsList result (distinct_list_in account_cmp (λ a. a.0) limit (both_in account_in u64_in) (view value.now)) }
 {
-    read_distinct_list::<ByCredential>(alloc, limit, value)
+    read_distinct_list::<(Account, u64)>(alloc, limit, value)
 }
 
 const TWO: &str =
-    r#"["1k0000000000000000000000000000000000000000000000000000001f","1s0000000000000000000000000000000000000000000000000000001f"]"#;
+    r#"[["1k0000000000000000000000000000000000000000000000000000001f",1],["1s0000000000000000000000000000000000000000000000000000001f",1]]"#;
 
-const SAME_CREDENTIAL: &str =
-    r#"["1k0000000000000000000000000000000000000000000000000000001f","0k0000000000000000000000000000000000000000000000000000001f"]"#;
+const TWO_NETWORKS: &str =
+    r#"[["1k0000000000000000000000000000000000000000000000000000001f",1],["0k0000000000000000000000000000000000000000000000000000001f",1]]"#;
 
 const SAME_ACCOUNT: &str =
-    r#"["1k0000000000000000000000000000000000000000000000000000001f","1k0000000000000000000000000000000000000000000000000000001f"]"#;
+    r#"[["1k0000000000000000000000000000000000000000000000000000001f",1],["1k0000000000000000000000000000000000000000000000000000001f",2]]"#;
 
 const THREE: &str =
-    r#"["1k0000000000000000000000000000000000000000000000000000001f","1s0000000000000000000000000000000000000000000000000000001f","0k0000000000000000000000000000000000000000000000000000001f"]"#;
+    r#"[["1k0000000000000000000000000000000000000000000000000000001f",1],["1s0000000000000000000000000000000000000000000000000000001f",1],["0k0000000000000000000000000000000000000000000000000000001f",1]]"#;
 
-const A_NUMBER: &str = r#"["1k0000000000000000000000000000000000000000000000000000001f",7]"#;
+const A_NUMBER: &str = r#"[["1k0000000000000000000000000000000000000000000000000000001f",1],7]"#;
 
 fn at(place: u32, fault: FieldFault) -> Option<ListFault> {
     Some(ListFault::at(place, fault))
@@ -286,25 +235,20 @@ fn lists(rt: HostRuntime) -> Result<(), Fail> {
     let past = at(2, OUT_OF_RANGE);
     let kind = at(1, WRONG_KIND);
     let whole = Some(ListFault::whole(WRONG_KIND));
-    for (text, any, by_account, by_credential) in [
-        ("[]", None, None, None),
-        (TWO, None, None, None),
-        (SAME_CREDENTIAL, None, None, known),
-        (SAME_ACCOUNT, None, known, known),
-        (THREE, past, past, past),
-        (A_NUMBER, kind, kind, kind),
-        ("7", whole, whole, whole),
+    for (text, any, distinct) in [
+        ("[]", None, None),
+        (TWO, None, None),
+        (TWO_NETWORKS, None, None),
+        (SAME_ACCOUNT, None, known),
+        (THREE, past, past),
+        (A_NUMBER, kind, kind),
+        ("7", whole, whole),
     ] {
         let value = Value::from_str(rt.alloc(), text)?;
-        assert_eq!(rt; accounts(rt.alloc(), 2, &value).err(), any, "at {text}");
+        assert_eq!(rt; amounts(rt.alloc(), 2, &value).err(), any, "at {text}");
         assert_eq!(rt;
-            distinct_accounts(rt.alloc(), 2, &value).err(),
-            by_account,
-            "at {text}"
-        );
-        assert_eq!(rt;
-            distinct_credentials(rt.alloc(), 2, &value).err(),
-            by_credential,
+            distinct_amounts(rt.alloc(), 2, &value).err(),
+            distinct,
             "at {text}"
         );
     }

@@ -1,146 +1,218 @@
--- What a reading gives passes a test: how a test of the parts becomes one of the whole.
-use Rattle.std.proofs.Common.{◌≡◌, ℕ, Bool, true, false, ◌&&◌, cond, List, Option, Some, None, Result, Ok, Err, refl}
-use Rattle.std.specs.Prelude.{IfOk}
-use Rattle.serde_json.specs.Data.{Data, null, boolean, number, string, array, object, Items, no_items, item}
-use Rattle.serde_json.specs.Find.{get, as_array}
-use Rattle.maps.specs.Words.{none_or}
+-- What a reading gives has a property: how a property of the parts becomes one of the whole, of a list and of a field.
+use Rattle.std.proofs.Common.{◌≡◌, ℕ, Bool, true, false, cond, List, Option, Some, None, Result, Ok, Err, refl, not, ◌||◌, [], ◌∷◌, ◌++◌, length, map, ap, ◌∙◌, arith, length-append}
+use Rattle.std.specs.Prelude.{IfOk, nat_le, unwrap_or}
+use Rattle.serde_json.specs.Data.{Data, Items, no_items, item}
+use Rattle.maps.specs.Words.{none_or, repeats}
 use Rattle.json_fields.specs.declared.fault.FieldFault.{FieldFault}
-use Rattle.json_fields.specs.declared.fault.FieldFault.TheVariants.{Missing, WrongKind, OutOfRange, NoMemory}
-use Rattle.json_fields.specs.Entries.{needed_in, maybe_by, maybe_in, both_in}
-use Rattle.json_fields.specs.Kinds.{field_in, optional_in, present, or_none, items_in, pair_in, two_of, three_in, three_of}
+use Rattle.json_fields.specs.Entries.{needed_in, maybe_by, maybe_in, both_in, without_place}
+use Rattle.json_fields.specs.Kinds.{field_in, optional_in, pair_in, items_in}
 use Rattle.json_fields.specs.Steps.{◌>>=◌, or_fault}
-use Rattle.record_read.proofs.Sized.{IsSized, AreSized, OfSome, sized-get}
+use Rattle.std.specs.Cmp.{IsTotalOrder}
+use Rattle.std.specs.List.{list_all, list_any}
+use Rattle.std.specs.Ordering.{eq_by_cmp}
+use Rattle.std.specs.declared.cmp.Ordering.{Ordering}
+use Rattle.std.proofs.lemmas.Bool.{le-leb}
+use Rattle.std.proofs.lemmas.Bool.Decides.{nat_tests}
+use Rattle.std.proofs.lemmas.Cmp.{eq_by_cmp_equiv}
+use Rattle.std.proofs.lemmas.List.{map-append}
+use Rattle.std.proofs.lemmas.List.Folds.{list_all-append, list_any-append}
+use Rattle.maps.specs.Maps.{has_member}
+use Rattle.json_fields.specs.declared.fault.FieldFault.TheVariants.{OutOfRange}
+use Rattle.json_fields.specs.declared.lists.ListFault.{ListFault}
+use Rattle.json_fields.specs.Lists.{entry_at, fault_at, entries_after, entries_of, is_full, list_in, is_known_or_full, distinct_list_in}
+use Rattle.tx_records.specs.declared.field.FieldName.{FieldName}
+use Rattle.tx_records.specs.FieldTexts.{text_of_field}
+use Rattle.record_read.specs.Fields.{named, needed, optional, defaulted, listed, list_by, optional_list_by}
 
--- where both parts pass
-pub both_pass : {a b : Bool} → a ≡ true → b ≡ true → (a && b) ≡ true
-both_pass p q = λ i. p i && q i
+-- the value, where there is one, has the property
+pub record Gives {A E : Type 0} (P : A → Type 0) (r : Result A E) : Type 0 where
+  pub holds : IfOk r P
 
-pub left_passes : (a b : Bool) → (a && b) ≡ true → a ≡ true
-left_passes true b h = refl
-left_passes false b h = h
+-- so has whatever is read
+abbrev pub Within : {A E : Type 0} → (A → Type 0) → (Data → Result A E) → Type 0
+Within P reading = (d : Data) → Gives P (reading d)
 
-pub right_passes : (a b : Bool) → (a && b) ≡ true → b ≡ true
-right_passes true b h = h
-right_passes false b h = cc
+-- the value
+pub given : {A E : Type 0} {P : A → Type 0} {x : A} → P x → Gives {E = E} P (Ok x)
+given h = record { holds = h }
 
 -- the next step, from what the first one gives
-pub next : {A B E : Type 0} (P : A → Type 0) (Q : B → Type 0) (r : Result A E) (f : A → Result B E) → IfOk r P → ((x : A) → P x → IfOk (f x) Q) → IfOk (r >>= f) Q
-next P Q (Ok x) f h k = k x h
-next P Q (Err e) f h k = tt
+pub next : {A B E : Type 0} {P : A → Type 0} {Q : B → Type 0} {r : Result A E} {f : A → Result B E} → Gives P r → ((x : A) → P x → Gives Q (f x)) → Gives Q (r >>= f)
+next {r = Ok x} g k = k x g.holds
+next {r = Err e} g k = record { holds = tt }
 
 -- the same, whatever it is
-pub skip : {A B E : Type 0} (Q : B → Type 0) (r : Result A E) (f : A → Result B E) → ((x : A) → IfOk (f x) Q) → IfOk (r >>= f) Q
-skip Q (Ok x) f k = k x
-skip Q (Err e) f k = tt
+pub skip : {A B E : Type 0} {Q : B → Type 0} (r : Result A E) {f : A → Result B E} → ((x : A) → Gives Q (f x)) → Gives Q (r >>= f)
+skip (Ok x) k = k x
+skip (Err e) k = record { holds = tt }
 
-always : {A E : Type 0} (r : Result A E) → IfOk r (λ _. true ≡ true)
-always (Ok x) = refl
-always (Err e) = tt
-
-pub if_some : {A E : Type 0} (P : A → Type 0) (e : E) (o : Option A) → OfSome P o → IfOk (or_fault e o) P
-if_some P e None h = tt
-if_some P e (Some x) h = h
-
--- what is given only where a test holds
-pub if_test : {A E : Type 0} (P : A → Type 0) (b : Bool) (x : A) (e : E) → (b ≡ true → P x) → IfOk (cond b (Ok x) (Err e)) P
-if_test P true x e h = h refl
-if_test P false x e h = tt
-
--- one reading or another
-pub or_else : {A E : Type 0} (P : A → Type 0) (b : Bool) (r s : Result A E) → IfOk r P → IfOk s P → IfOk (cond b r s) P
-or_else P true r s h k = h
-or_else P false r s h k = k
-
--- whatever it reads in a sized value passes
-abbrev pub Passes : {A E : Type 0} → (A → Bool) → (Data → Result A E) → Type 0
-Passes p reading = (d : Data) → IsSized d → IfOk (reading d) (λ x. p x ≡ true)
-
--- ---- fields
-
-sized-present : (o : Option Data) → OfSome IsSized o → IfOk (present o) IsSized
-sized-present None h = tt
-sized-present (Some null) h = tt
-sized-present (Some (boolean b)) h = h
-sized-present (Some (number n)) h = h
-sized-present (Some (string s)) h = h
-sized-present (Some (array ds)) h = h
-sized-present (Some (object ms)) h = h
-
-if_object : (b : Bool) (r : Result Data FieldFault) → IfOk r IsSized → IfOk (cond b (Err WrongKind) r) IsSized
-if_object true r h = tt
-if_object false r h = h
-
--- a field of a sized value is sized
-pub sized-field_in : (name : List ℕ) (d : Data) → IsSized d → IfOk (field_in name d) IsSized
-sized-field_in name d h = if_object _ (present (get name d)) (sized-present (get name d) (sized-get name d h))
-
-sized-or_none : (r : Result Data FieldFault) → IfOk r IsSized → IfOk (or_none r) (OfSome IsSized)
-sized-or_none (Ok d) h = h
-sized-or_none (Err Missing) h = tt
-sized-or_none (Err WrongKind) h = tt
-sized-or_none (Err OutOfRange) h = tt
-sized-or_none (Err NoMemory) h = tt
-
-pub sized-optional_in : (name : List ℕ) (d : Data) → IsSized d → IfOk (optional_in name d) (OfSome IsSized)
-sized-optional_in name d h = sized-or_none (field_in name d) (sized-field_in name d h)
-
-module _ {A : Type 0} (p : A → Bool) (reading : Data → Result A FieldFault) (h : Passes p reading) where
-  pub needed_in-passes : (name : List ℕ) → Passes p (needed_in name reading)
-  needed_in-passes name d k = next IsSized (λ x. p x ≡ true) (field_in name d) reading (sized-field_in name d k) h
-
-  maybe_by-passes : (o : Option Data) → OfSome IsSized o → IfOk (maybe_by reading o) (λ x. none_or p x ≡ true)
-  maybe_by-passes None k = refl
-  maybe_by-passes (Some d) k = next (λ x. p x ≡ true) (λ x. none_or p x ≡ true) (reading d) (λ x. Ok (Some x)) (h d k) (λ x e. e)
-
-  pub maybe_in-passes : (name : List ℕ) → Passes (none_or p) (maybe_in name reading)
-  maybe_in-passes name d k = next (OfSome IsSized) (λ x. none_or p x ≡ true) (optional_in name d) (maybe_by reading) (sized-optional_in name d k) maybe_by-passes
+always : {A E : Type 0} (r : Result A E) → Gives (λ _. true ≡ true) r
+always (Ok x) = record { holds = refl }
+always (Err e) = record { holds = tt }
 
 -- a reading of which nothing is asked
-pub anything : {A E : Type 0} (reading : Data → Result A E) → Passes (λ _. true) reading
-anything reading d h = always (reading d)
+pub anything : {A E : Type 0} (reading : Data → Result A E) → Within (λ _. true ≡ true) reading
+anything reading d = always (reading d)
 
--- ---- arrays
+-- what is there, where it has the property
+pub if_some : {A E : Type 0} {P : A → Type 0} (e : E) (o : Option A) → ((x : A) → o ≡ Some x → P x) → Gives P (or_fault e o)
+if_some e None h = record { holds = tt }
+if_some e (Some x) h = record { holds = h x refl }
 
-sized-two_of : (ds : Items) → AreSized ds → OfSome (λ t. IsSized t.0 × IsSized t.1) (two_of ds)
-sized-two_of no_items h = tt
-sized-two_of (item a no_items) h = tt
-sized-two_of (item a (item b no_items)) h = (h.0, h.1.0)
-sized-two_of (item a (item b (item c ds))) h = tt
+-- what is given only where a test holds
+pub if_test : {A E : Type 0} {P : A → Type 0} (b : Bool) (x : A) (e : E) → (b ≡ true → P x) → Gives P (cond b (Ok x) (Err e))
+if_test true x e h = record { holds = h refl }
+if_test false x e h = record { holds = tt }
 
-sized-three_of : (ds : Items) → AreSized ds → OfSome (λ t. IsSized t.0 × IsSized t.1 × IsSized t.2) (three_of ds)
-sized-three_of no_items h = tt
-sized-three_of (item a no_items) h = tt
-sized-three_of (item a (item b no_items)) h = tt
-sized-three_of (item a (item b (item c no_items))) h = (h.0, h.1.0, h.1.1.0)
-sized-three_of (item a (item b (item c (item d ds)))) h = tt
+-- one reading or another
+pub or_else : {A E : Type 0} {P : A → Type 0} (b : Bool) {r s : Result A E} → Gives P r → Gives P s → Gives P (cond b r s)
+or_else true g h = g
+or_else false g h = h
 
-sized-as_array : (d : Data) → IsSized d → OfSome AreSized (as_array d)
-sized-as_array null h = tt
-sized-as_array (boolean b) h = tt
-sized-as_array (number n) h = tt
-sized-as_array (string s) h = tt
-sized-as_array (array ds) h = h
-sized-as_array (object ms) h = tt
+-- a field that has to be there
+pub needed_in-within : {A : Type 0} {P : A → Type 0} {reading : Data → Result A FieldFault} → Within P reading → (name : List ℕ) → Within P (needed_in name reading)
+needed_in-within h name d = skip (field_in name d) h
 
-pub sized-items_in : (d : Data) → IsSized d → IfOk (items_in d) AreSized
-sized-items_in d h = if_some AreSized WrongKind (as_array d) (sized-as_array d h)
+-- one that may be absent or null
+module _ {A : Type 0} {p : A → Bool} {reading : Data → Result A FieldFault} (h : Within (λ x. p x ≡ true) reading) where
+  by_option : (o : Option Data) → Gives (λ x. none_or p x ≡ true) (maybe_by reading o)
+  by_option None = given refl
+  by_option (Some d) = next (h d) (λ x e. given e)
 
-abbrev pub AreTwo : Data × Data → Type 0
-AreTwo t = IsSized t.0 × IsSized t.1
+  pub maybe_in-within : (name : List ℕ) → Within (λ x. none_or p x ≡ true) (maybe_in name reading)
+  maybe_in-within name d = skip (optional_in name d) by_option
 
-abbrev pub AreThree : Data × Data × Data → Type 0
-AreThree t = IsSized t.0 × IsSized t.1 × IsSized t.2
-
-pub sized-pair_in : (d : Data) → IsSized d → IfOk (pair_in d) AreTwo
-sized-pair_in d h = next AreSized AreTwo (items_in d) (λ ds. or_fault OutOfRange (two_of ds)) (sized-items_in d h) (λ ds k. if_some AreTwo OutOfRange (two_of ds) (sized-two_of ds k))
-
-pub sized-three_in : (d : Data) → IsSized d → IfOk (three_in d) AreThree
-sized-three_in d h = next AreSized AreThree (items_in d) (λ ds. or_fault OutOfRange (three_of ds)) (sized-items_in d h) (λ ds k. if_some AreThree OutOfRange (three_of ds) (sized-three_of ds k))
-
-pub both_in-passes : {A B : Type 0} (p : A → Bool) (q : B → Bool) (first : Data → Result A FieldFault) (second : Data → Result B FieldFault)
-    → Passes p first → Passes q second → Passes (λ x. p x.0 && q x.1) (both_in first second)
+-- an array of two entries
+pub both_in-within : {A B : Type 0} {P : A → Type 0} {Q : B → Type 0} {R : A × B → Type 0} {first : Data → Result A FieldFault} {second : Data → Result B FieldFault}
+    → Within P first → Within Q second → ((a : A) (b : B) → P a → Q b → R (a, b)) → Within R (both_in first second)
 unfolding both_in
-both_in-passes p q first second h k d s =
-    next AreTwo (λ x. (p x.0 && q x.1) ≡ true) (pair_in d) _ (sized-pair_in d s) (λ parts t.
-    next (λ a. p a ≡ true) (λ x. (p x.0 && q x.1) ≡ true) (first parts.0) _ (h parts.0 t.0) (λ a u.
-    next (λ b. q b ≡ true) (λ x. (p x.0 && q x.1) ≡ true) (second parts.1) _ (k parts.1 t.1) (λ b v. both_pass u v)))
+both_in-within g h both d = skip (pair_in d) (λ parts. next (g parts.0) (λ a u. next (h parts.1) (λ b v. given (both a b u v))))
+
+-- ---- entries
+
+if_in_place : {A : Type 0} {P : A → Type 0} (out : A → Bool) (x : A) (e : ListFault) (b : Bool) → out x ≡ b → P x → Gives (λ y. P y × (out y ≡ false)) (cond b (Err e) (Ok x))
+if_in_place out x e true is h = record { holds = tt }
+if_in_place out x e false is h = record { holds = (h, is) }
+
+in_place : {A : Type 0} {P : A → Type 0} (i : ℕ) (out : A → Bool) {r : Result A FieldFault} → Gives P r → Gives (λ y. P y × (out y ≡ false)) (entry_at i out r)
+in_place i out {r = Ok x} g = if_in_place out x (fault_at i OutOfRange) (out x) refl g.holds
+in_place i out {r = Err e} g = record { holds = tt }
+
+-- what holds of none, and of one more that passes and is in place, holds of the list
+module _ {A : Type 0} {P : A → Type 0} {reading : Data → Result A FieldFault} (h : Within P reading) (out : List A → A → Bool) (I : List A → Type 0) (more : (xs : List A) (x : A) → I xs → P x → out xs x ≡ false → I (xs ++ x ∷ [])) where
+  after : (before : List A) (ds : Items) → I before → Gives I (entries_after reading out before ds)
+  after before no_items k = given k
+  after before (item d ds) k = next (in_place (length before) (out before) (h d)) (λ x t. after (before ++ x ∷ []) ds (more before x k t.0 t.1))
+
+  of_items : (r : Result Items FieldFault) → I [] → Gives I (entries_of reading out r)
+  of_items (Ok ds) k = after [] ds k
+  of_items (Err e) k = record { holds = tt }
+
+-- ---- lists
+
+-- at most so many entries, and each passes
+pub record IsListOf {A : Type 0} (limit : ℕ) (p : A → Bool) (xs : List A) : Type 0 where
+  pub few : nat_le (length xs) limit ≡ true
+  pub each : list_all p xs ≡ true
+
+pub none_fit : {A : Type 0} {p : A → Bool} (limit : ℕ) → IsListOf limit p []
+none_fit limit = record { few = le-leb 0 limit (omega arith); each = refl }
+
+one_more : {A : Type 0} {limit : ℕ} {p : A → Bool} (xs : List A) (x : A) → IsListOf limit p xs → p x ≡ true → is_full limit xs ≡ false → IsListOf limit p (xs ++ x ∷ [])
+one_more {limit = limit} {p = p} xs x l q r = record {
+  few = let e = length-append xs (x ∷ []) in grind (arith, nat_tests, e);
+  each = list_all-append p xs (x ∷ []) ∙ rw (l.each, q) refl;
+}
+
+pub list_in-within : {A : Type 0} {p : A → Bool} {reading : Data → Result A FieldFault} → Within (λ x. p x ≡ true) reading → (limit : ℕ) → Within (IsListOf limit p) (list_in limit reading)
+list_in-within {p = p} h limit d = of_items h (λ before x. is_full limit before) (IsListOf limit p) one_more (items_in d) (none_fit limit)
+
+-- ---- names
+
+no_left : (a b : Bool) → (a || b) ≡ false → a ≡ false
+no_left true b h = cc
+no_left false b h = refl
+
+no_right : (a b : Bool) → (a || b) ≡ false → b ≡ false
+no_right true b h = cc
+no_right false b h = h
+
+neither : {a b : Bool} → a ≡ false → b ≡ false → (a || b) ≡ false
+neither p q = λ i. p i || q i
+
+-- a new name behind names that do not repeat
+repeats-push : {K : Type 0} {cmp : K → K → Ordering} → IsTotalOrder cmp → (ks : List K) (k : K) → repeats cmp ks ≡ false → has_member cmp ks k ≡ false → repeats cmp (ks ++ k ∷ []) ≡ false
+repeats-push o [] k h new = refl
+repeats-push {K} {cmp} o (q ∷ qs) k h new =
+    let apart : eq_by_cmp cmp q k ≡ false = (eq_by_cmp_equiv o).symm q k ∙ no_left _ _ new in
+    neither
+    (list_any-append (eq_by_cmp cmp q) qs (k ∷ []) ∙ neither (no_left _ _ h) (neither apart refl))
+    (repeats-push o qs k (no_right (list_any (eq_by_cmp cmp q) qs) _ h) (no_right (eq_by_cmp cmp k q) _ new))
+
+-- such a list, in which no name stands twice
+pub record IsDistinctListOf {A K : Type 0} (cmp : K → K → Ordering) (name : A → K) (limit : ℕ) (p : A → Bool) (xs : List A) : Type 0 where
+  pub few : nat_le (length xs) limit ≡ true
+  pub each : list_all p xs ≡ true
+  pub once : repeats cmp (map name xs) ≡ false
+
+pub none_twice : {A K : Type 0} {cmp : K → K → Ordering} {name : A → K} {p : A → Bool} (limit : ℕ) → IsDistinctListOf cmp name limit p []
+none_twice limit = record { few = le-leb 0 limit (omega arith); each = refl; once = refl }
+
+one_more_name : {A K : Type 0} {cmp : K → K → Ordering} {name : A → K} {limit : ℕ} {p : A → Bool} → IsTotalOrder cmp → (xs : List A) (x : A) → IsDistinctListOf cmp name limit p xs → p x ≡ true
+    → is_known_or_full cmp name limit xs x ≡ false → IsDistinctListOf cmp name limit p (xs ++ x ∷ [])
+one_more_name {cmp = cmp} {name = name} {limit = limit} {p = p} o xs x l q r =
+    let more : IsListOf limit p (xs ++ x ∷ []) = one_more xs x (record { few = l.few; each = l.each }) q (no_right (has_member cmp (map name xs) (name x)) _ r) in
+    record { few = more.few; each = more.each; once = ap (repeats cmp) (map-append name xs (x ∷ [])) ∙ repeats-push o (map name xs) (name x) l.once (no_left _ _ r) }
+
+pub distinct_list_in-within : {A K : Type 0} {cmp : K → K → Ordering} {p : A → Bool} {reading : Data → Result A FieldFault} → Within (λ x. p x ≡ true) reading → IsTotalOrder cmp → (name : A → K) (limit : ℕ)
+    → Within (IsDistinctListOf cmp name limit p) (distinct_list_in cmp name limit reading)
+distinct_list_in-within {cmp = cmp} {p = p} h o name limit d =
+    of_items h (is_known_or_full cmp name limit) (IsDistinctListOf cmp name limit p) (one_more_name o) (items_in d) (none_twice limit)
+
+-- ---- a list in an entry
+
+inside : {A : Type 0} {P : List A → Type 0} {r : Result (List A) ListFault} → Gives P r → Gives P (without_place r)
+inside {r = Ok xs} g = record { holds = g.holds }
+inside {r = Err e} g = record { holds = tt }
+
+pub without_place-within : {A : Type 0} {P : List A → Type 0} {reading : Data → Result (List A) ListFault} → Within P reading → Within P (λ d. without_place (reading d))
+without_place-within h d = inside (h d)
+
+by_name : {A : Type 0} {P : A → Type 0} (name : FieldName) {r : Result A FieldFault} → Gives P r → Gives P (named name r)
+by_name name {r = Ok x} g = record { holds = g.holds }
+by_name name {r = Err e} g = record { holds = tt }
+
+by_place : {A : Type 0} {P : List A → Type 0} (name : FieldName) {r : Result (List A) ListFault} → Gives P r → Gives P (listed name r)
+by_place name {r = Ok x} g = record { holds = g.holds }
+by_place name {r = Err e} g = record { holds = tt }
+
+in_default : {A : Type 0} (p : A → Bool) (x : A) (o : Option A) → p x ≡ true → none_or p o ≡ true → p (unwrap_or o x) ≡ true
+in_default p x None h k = h
+in_default p x (Some y) h k = k
+
+module _ {A : Type 0} {p : A → Bool} {reading : Data → Result A FieldFault} (h : Within (λ x. p x ≡ true) reading) (name : FieldName) where
+  pub needed-within : Within (λ x. p x ≡ true) (needed name reading)
+  needed-within d = by_name name (needed_in-within h (text_of_field name) d)
+
+  pub optional-within : Within (λ x. none_or p x ≡ true) (optional name reading)
+  optional-within d = by_name name (maybe_in-within h (text_of_field name) d)
+
+  pub defaulted-within : (x : A) → p x ≡ true → Within (λ y. p y ≡ true) (defaulted x name reading)
+  defaulted-within x k d = next (optional-within d) (λ o e. given (in_default p x o k e))
+
+-- lists, with names or without
+module _ {A : Type 0} {P : List A → Type 0} {reading : Data → Result (List A) ListFault} (h : Within P reading) where
+  in_needed : (r : Result Data FieldFault) → Gives P (list_by reading r)
+  in_needed (Ok d) = h d
+  in_needed (Err e) = record { holds = tt }
+
+  in_optional : P [] → (r : Result (Option Data) FieldFault) → Gives P (optional_list_by reading r)
+  in_optional none (Ok None) = given none
+  in_optional none (Ok (Some d)) = h d
+  in_optional none (Err e) = record { holds = tt }
+
+  pub needed_list-within : (name : FieldName) → Within P (λ d. listed name (list_by reading (field_in (text_of_field name) d)))
+  needed_list-within name d = by_place name (in_needed (field_in (text_of_field name) d))
+
+  pub optional_list-within : P [] → (name : FieldName) → Within P (λ d. listed name (optional_list_by reading (optional_in (text_of_field name) d)))
+  optional_list-within none name d = by_place name (in_optional none (optional_in (text_of_field name) d))

@@ -1,9 +1,4 @@
 pub mod Json
-pub mod Sized
 pub mod Gives
-pub mod Lists
-pub mod FieldsGive
-pub mod Ranges
-pub mod ActionsGive
-pub mod ParamsGive
-pub mod Readable
+pub mod KindsGive
+pub mod RecordsGive

@@ -1,5 +1,5 @@
 -- What the entries of lists and the other parts of a record read as. (Own)
-use Rattle.std.specs.Prelude.{ℕ, ◌^◌, List, Option, Some, None, Result, Ok, Err, bytes_eq, codes, nat_le, if◌then◌else◌}
+use Rattle.std.specs.Prelude.{ℕ, List, Option, Some, None, Result, Ok, Err, bytes_eq, codes, nat_le, if◌then◌else◌}
 use Rattle.serde_json.specs.Data.{Data, null, boolean, number, string, array, object}
 use Rattle.gov_ids.specs.declared.Address.{Address}
 use Rattle.gov_ids.specs.declared.Credential.{Credential}
@@ -10,6 +10,7 @@ use Rattle.gov_actions.specs.declared.action.Vote.{Vote}
 use Rattle.gov_actions.specs.declared.action.Vote.TheVariants.{Yes, No, Abstain}
 use Rattle.tx_records.specs.declared.genesis.GenesisCommittee.{GenesisCommittee}
 use Rattle.tx_records.specs.declared.genesis.GenesisPool.{GenesisPool}
+use Rattle.tx_records.specs.declared.limits.TheConstants.{LEAST_MAJOR, LIST_LIMIT, NETWORK_LIMIT, SLOT_LIMIT}
 use Rattle.tx_records.specs.declared.tx.ProposalRecord.{ProposalRecord}
 use Rattle.tx_records.specs.declared.tx.Scripts.{Scripts}
 use Rattle.tx_records.specs.declared.tx.Scripts.TheVariants.{Absent, Passed, Failed}
@@ -27,11 +28,11 @@ use Rattle.action_read.specs.Actions.{action_in}
 
 -- a slot, a term or an expiry
 abbrev pub slot_in : Data → Result ℕ FieldFault
-slot_in d = number_below (2 ^ 62) d
+slot_in d = number_below SLOT_LIMIT d
 
 -- 0 or 1
 abbrev pub network_in : Data → Result ℕ FieldFault
-network_in d = number_below 2 d
+network_in d = number_below NETWORK_LIMIT d
 
 -- how many slots an epoch has, at least 1
 abbrev pub epoch_length_in : Data → Result ℕ FieldFault
@@ -39,7 +40,7 @@ epoch_length_in d = u32_in d >>= λ n. if nat_le 1 n then Ok n else Err OutOfRan
 
 -- a protocol version of the Conway era
 abbrev pub genesis_version_in : Data → Result (ℕ × ℕ) FieldFault
-genesis_version_in d = both_in u32_in u32_in d >>= λ v. if nat_le 10 v.0 then Ok v else Err OutOfRange
+genesis_version_in d = both_in u32_in u32_in d >>= λ v. if nat_le LEAST_MAJOR v.0 then Ok v else Err OutOfRange
 
 -- how the scripts ended
 abbrev pub scripts_of : List ℕ → Result Scripts FieldFault
@@ -89,7 +90,7 @@ member_in d = do
 unfoldable pub committee_in : Data → Result GenesisCommittee FieldFault
 committee_in d = do
   threshold ← needed_in (codes "threshold") unit_in d
-  members ← needed_in (codes "members") (λ v. without_place (list_in 16777216 member_in v)) d
+  members ← needed_in (codes "members") (λ v. without_place (list_in LIST_LIMIT member_in v)) d
   Ok (record { threshold = threshold; members = members })
 
 -- an output: its reference, its address, its lovelace

@@ -4,6 +4,7 @@ use Rattle.serde_json.specs.Data.{Data}
 use Rattle.gov_ids.specs.Orders.{account_cmp, credential_cmp}
 use Rattle.tx_records.specs.declared.field.FieldName.TheVariants as fields
 use Rattle.tx_records.specs.declared.genesis.Genesis.{Genesis}
+use Rattle.tx_records.specs.declared.limits.TheConstants.{LIST_LIMIT, OUTPUT_LIMIT, TX_LIST_LIMIT}
 use Rattle.tx_records.specs.declared.record.Record.{Record}
 use Rattle.tx_records.specs.declared.record.Record.TheVariants as records
 use Rattle.tx_records.specs.declared.record.Rewards.{Rewards}
@@ -23,18 +24,6 @@ use Rattle.record_read.specs.Certs.{cert_in}
 use Rattle.record_read.specs.Entries.{slot_in, network_in, epoch_length_in, genesis_version_in, scripts_in, committee_in, genesis_output_in, genesis_account_in, genesis_pool_in, genesis_drep_in, output_in, proposal_in, vote_record_in}
 use Rattle.record_read.specs.Fields.{needed, optional, defaulted, needed_list, needed_distinct_list, optional_list, optional_distinct_list}
 
--- the most entries of most lists of a transaction
-abbrev pub few : ℕ
-few = 65536
-
--- the most outputs of a transaction
-abbrev pub output_limit : ℕ
-output_limit = 65535
-
--- the most entries of every other list
-abbrev pub many : ℕ
-many = 16777216
-
 -- the ledger at the start
 unfoldable pub genesis_in : Data → Result Genesis RecordFault
 genesis_in d = do
@@ -49,10 +38,10 @@ genesis_in d = do
   document ← needed fields.Document hash32_in d
   script ← optional fields.Script hash28_in d
   committee ← optional fields.Committee committee_in d
-  outputs ← needed_list fields.Outputs many genesis_output_in d
-  accounts ← needed_list fields.Accounts many genesis_account_in d
-  pools ← needed_list fields.Pools many genesis_pool_in d
-  dreps ← needed_list fields.Dreps many genesis_drep_in d
+  outputs ← needed_list fields.Outputs LIST_LIMIT genesis_output_in d
+  accounts ← needed_list fields.Accounts LIST_LIMIT genesis_account_in d
+  pools ← needed_list fields.Pools LIST_LIMIT genesis_pool_in d
+  dreps ← needed_list fields.Dreps LIST_LIMIT genesis_drep_in d
   Ok (record {
     network = network;
     slot = slot;
@@ -85,15 +74,15 @@ rewards_in d = do
   from_reserves ← needed fields.FromReserves u64_in d
   from_fees ← needed fields.FromFees u64_in d
   to_treasury ← needed fields.ToTreasury u64_in d
-  rewards ← needed_distinct_list fields.Rewards credential_cmp (λ r. r.0) many (both_in credential_in u64_in) d
+  rewards ← needed_distinct_list fields.Rewards credential_cmp (λ r. r.0) LIST_LIMIT (both_in credential_in u64_in) d
   Ok (record { epoch = epoch; from_reserves = from_reserves; from_fees = from_fees; to_treasury = to_treasury; rewards = rewards })
 
 -- a transaction
 unfoldable pub tx_in : Data → Result Tx RecordFault
 tx_in d = do
   id ← needed fields.Id tx_id_in d
-  inputs ← needed_list fields.Inputs few ref_in d
-  outputs ← needed_list fields.Outputs output_limit output_in d
+  inputs ← needed_list fields.Inputs TX_LIST_LIMIT ref_in d
+  outputs ← needed_list fields.Outputs OUTPUT_LIMIT output_in d
   fee ← needed fields.Fee u64_in d
   size ← needed fields.Size u32_in d
   script_fee ← defaulted 0 fields.ScriptFee u64_in d
@@ -101,14 +90,14 @@ tx_in d = do
   scripts ← defaulted Absent fields.Scripts scripts_in d
   from ← optional fields.From slot_in d
   until ← optional fields.Until slot_in d
-  collateral ← optional_list fields.Collateral few ref_in d
+  collateral ← optional_list fields.Collateral TX_LIST_LIMIT ref_in d
   collateral_return ← optional fields.CollateralReturn output_in d
   treasury ← optional fields.Treasury u64_in d
   donation ← defaulted 0 fields.Donation u64_in d
-  withdrawals ← optional_distinct_list fields.Withdrawals account_cmp (λ x. x.0) few (both_in account_in u64_in) d
-  certs ← optional_list fields.Certs few cert_in d
-  proposals ← optional_list fields.Proposals few proposal_in d
-  votes ← optional_list fields.Votes few vote_record_in d
+  withdrawals ← optional_distinct_list fields.Withdrawals account_cmp (λ x. x.0) TX_LIST_LIMIT (both_in account_in u64_in) d
+  certs ← optional_list fields.Certs TX_LIST_LIMIT cert_in d
+  proposals ← optional_list fields.Proposals TX_LIST_LIMIT proposal_in d
+  votes ← optional_list fields.Votes TX_LIST_LIMIT vote_record_in d
   Ok (record {
     id = id;
     inputs = inputs;

@@ -7,17 +7,15 @@ use action_read::ActionField;
 use gov_actions::Vote;
 use gov_ids::{Account, ActionId, Address, Credential, Drep, OutRef, PoolId, Voter};
 use json_fields::{
-    FieldFault, Kind, Named, needed, read_account, read_address, read_credential, read_five,
-    read_list, read_number_below, read_pool_id, read_ref, read_six, read_text, read_three,
-    read_u32, read_u64, read_unit,
+    FieldFault, Kind, needed, read_account, read_address, read_credential, read_five, read_list,
+    read_number_below, read_pool_id, read_ref, read_six, read_text, read_three, read_u32, read_u64,
+    read_unit,
 };
 use listed::Listed;
 use serde_json::Value;
 use std::alloc::Global;
+use tx_records::limits::{LEAST_MAJOR, LIST_LIMIT, NETWORK_LIMIT, SLOT_LIMIT};
 use tx_records::{GenesisCommittee, GenesisPool, ProposalRecord, Scripts, TxOutput, VoteRecord};
-
-/// The most members of a committee.
-const MEMBER_LIMIT: u32 = 16_777_216;
 
 /// A slot, a term or an expiry.
 pub struct Slot;
@@ -30,7 +28,7 @@ impl Kind for Slot {
     ghost reading = { slot_in };
 
     fn read(_alloc: Global, value: &Value) -> Result<u64, FieldFault> {
-        read_number_below(1 << 62, value)
+        read_number_below(SLOT_LIMIT, value)
     }
 }
 
@@ -45,7 +43,7 @@ impl Kind for Network {
     ghost reading = { network_in };
 
     fn read(_alloc: Global, value: &Value) -> Result<u8, FieldFault> {
-        let network = read_number_below(2, value)?;
+        let network = read_number_below(u64::from(NETWORK_LIMIT), value)?;
         Ok(network as u8)
     }
 }
@@ -82,7 +80,7 @@ impl Kind for GenesisVersion {
 
     fn read(alloc: Global, value: &Value) -> Result<(u32, u32), FieldFault> {
         let version = <(u32, u32)>::read(alloc, value)?;
-        if version.0 >= 10 {
+        if version.0 >= LEAST_MAJOR {
             Ok(version)
         } else {
             Err(FieldFault::OutOfRange)
@@ -171,15 +169,16 @@ impl Kind for Members {
 
     ghost use Rattle.json_fields.specs.Entries.{without_place};
     ghost use Rattle.json_fields.specs.Lists.{list_in};
+    ghost use Rattle.tx_records.specs.declared.limits.TheConstants.{LIST_LIMIT};
     ghost use Rattle.record_read.specs.Entries.{member_in};
 
-    ghost reading = { λ v. without_place (list_in 16777216 member_in v) };
+    ghost reading = { λ v. without_place (list_in LIST_LIMIT member_in v) };
 
     fn read(
         alloc: Global,
         value: &Value,
     ) -> Result<Listed<(Credential, u64, Option<Credential>)>, FieldFault> {
-        read_list::<Member>(alloc, MEMBER_LIMIT, value).map_err(|error| error.fault)
+        read_list::<Member>(alloc, LIST_LIMIT, value).map_err(|error| error.fault)
     }
 }
 
@@ -363,57 +362,5 @@ impl Kind for VoteEntry {
             action,
             vote,
         })
-    }
-}
-
-/// An account's reward: its credential, its lovelace.
-pub struct Reward;
-
-impl Kind for Reward {
-    type Entry = (Credential, u64);
-
-    ghost use Rattle.json_fields.specs.Entries.{both_in};
-    ghost use Rattle.json_fields.specs.Kinds.{credential_in, u64_in};
-
-    ghost reading = { both_in credential_in u64_in };
-
-    fn read(alloc: Global, value: &Value) -> Result<(Credential, u64), FieldFault> {
-        <(Credential, u64)>::read(alloc, value)
-    }
-}
-
-impl Named for Reward {
-    type Name = Credential;
-
-    ghost name = { λ r. r.0 };
-
-    fn name_of(entry: &(Credential, u64)) -> Credential {
-        entry.0
-    }
-}
-
-/// A withdrawal: its account, its lovelace.
-pub struct Withdrawal;
-
-impl Kind for Withdrawal {
-    type Entry = (Account, u64);
-
-    ghost use Rattle.json_fields.specs.Entries.{both_in};
-    ghost use Rattle.json_fields.specs.Kinds.{account_in, u64_in};
-
-    ghost reading = { both_in account_in u64_in };
-
-    fn read(alloc: Global, value: &Value) -> Result<(Account, u64), FieldFault> {
-        <(Account, u64)>::read(alloc, value)
-    }
-}
-
-impl Named for Withdrawal {
-    type Name = Account;
-
-    ghost name = { λ x. x.0 };
-
-    fn name_of(entry: &(Account, u64)) -> Account {
-        entry.0
     }
 }

@@ -5,7 +5,8 @@ ghost use Rattle.record_read.specs.Fields.{needed, optional, defaulted, needed_l
 ghost use Rattle.record_read.specs.Reads.{ReadsRecord};
 
 use crate::fault::RecordFault;
-use json_fields::{FieldFault, Kind, Named, field, maybe, needed, read_distinct_list, read_list};
+use gov_ids::Named;
+use json_fields::{FieldFault, Kind, field, maybe, needed, read_distinct_list, read_list};
 use listed::Listed;
 use serde_json::Value;
 use std::alloc::Global;
@@ -70,13 +71,15 @@ pub fn needed_list<K: Kind>(
 }
 
 /// The same, each entry with a name of its own.
-pub fn needed_distinct_list<K: Named>(
+pub fn needed_distinct_list<K: Kind>(
     alloc: Global,
     object: &Value,
     name: FieldName,
     limit: u32,
 ) -> Result<Listed<K::Entry>, RecordFault>
-    ensures { ReadsRecord result (needed_distinct_list name K.Name.order K.name limit K.reading (view object.now)) }
+where
+    K::Entry: Named,
+    ensures { ReadsRecord result (needed_distinct_list name K.Entry.Name.order K.Entry.name limit K.reading (view object.now)) }
 {
     let value = field(object, name.text()).map_err(|fault| fault_in(name, None, fault))?;
     read_distinct_list::<K>(alloc, limit, value).map_err(|error| fault_in(
@@ -111,13 +114,15 @@ pub fn optional_list<K: Kind>(
 }
 
 /// The same, each entry with a name of its own.
-pub fn optional_distinct_list<K: Named>(
+pub fn optional_distinct_list<K: Kind>(
     alloc: Global,
     object: &Value,
     name: FieldName,
     limit: u32,
 ) -> Result<Listed<K::Entry>, RecordFault>
-    ensures { ReadsRecord result (optional_distinct_list name K.Name.order K.name limit K.reading (view object.now)) }
+where
+    K::Entry: Named,
+    ensures { ReadsRecord result (optional_distinct_list name K.Entry.Name.order K.Entry.name limit K.reading (view object.now)) }
 {
     let found = json_fields::optional_field(object, name.text()).map_err(|fault| fault_in(
         name, None, fault,

@@ -1,6 +1,6 @@
 ghost use Rattle.std.specs.Prelude.{◌≡◌, IfOk, option_map, true};
 ghost use Rattle.serde_json.specs.View.{view};
-ghost use Rattle.run_model.specs.Limits.{is_readable};
+ghost use Rattle.tx_records.specs.RecordLimits.{is_within_limits};
 ghost use Rattle.record_read.specs.Lines.{json_of, record_of_line};
 ghost use Rattle.record_read.specs.Reads.{ReadsRecord};
 
@@ -26,7 +26,7 @@ fn json(alloc: Global, bytes: &[u8]) -> Result<Option<Value>, NoMemory>
 /// The record of a line, or the first thing of it that is wrong. `NoMemory` may come at any time. (Own)
 pub fn read_record(alloc: Global, line: &[u8]) -> Result<Record, RecordFault>
     ensures reads { ReadsRecord result (record_of_line line.now) }
-    ensures readable { IfOk result (λ r. is_readable r ≡ true) }
+    ensures within { IfOk result (λ r. is_within_limits r ≡ true) }
 {
     let value = json(alloc, line)?.ok_or(RecordFault::BadJson)?;
     record(alloc, &value)

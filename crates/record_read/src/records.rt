@@ -9,8 +9,7 @@ ghost use Rattle.record_read.specs.Records.{genesis_in, block_in, rewards_in, tx
 use crate::certs::CertEntry;
 use crate::entries::{
     Committee, EpochLength, GenesisAccount, GenesisDrep, GenesisOutput, GenesisPoolEntry,
-    GenesisVersion, Network, Output, ProposalEntry, Reward, ScriptsField, Slot, VoteEntry,
-    Withdrawal,
+    GenesisVersion, Network, Output, ProposalEntry, ScriptsField, Slot, VoteEntry,
 };
 use crate::fault::RecordFault;
 use crate::fields::{
@@ -18,18 +17,12 @@ use crate::fields::{
     optional_field, optional_list,
 };
 use action_read::ParamsField;
-use gov_ids::{OutRef, TxId};
+use gov_ids::{Account, Credential, OutRef, TxId};
 use json_fields::{FieldFault, Kind, field, read_text};
 use serde_json::Value;
 use std::alloc::Global;
+use tx_records::limits::{LIST_LIMIT, OUTPUT_LIMIT, TX_LIST_LIMIT};
 use tx_records::{FieldName, Genesis, Record, Rewards, Scripts, Tx, What};
-
-/// The most entries of most lists of a transaction. (Own)
-const FEW: u32 = 65_536;
-/// The most outputs of a transaction. (Own)
-const OUTPUT_LIMIT: u32 = 65_535;
-/// The most entries of every other list. (Own)
-const MANY: u32 = 16_777_216;
 
 /// The ledger at the start.
 #[tactic(auto, unfolding(crate::specs::Records::genesis_in))]
@@ -47,10 +40,10 @@ fn genesis(alloc: Global, object: &Value) -> Result<Genesis, RecordFault>
     let document = needed_field::<[u8; 32]>(alloc, object, FieldName::Document)?;
     let script = optional_field::<[u8; 28]>(alloc, object, FieldName::Script)?;
     let committee = optional_field::<Committee>(alloc, object, FieldName::Committee)?;
-    let outputs = needed_list::<GenesisOutput>(alloc, object, FieldName::Outputs, MANY)?;
-    let accounts = needed_list::<GenesisAccount>(alloc, object, FieldName::Accounts, MANY)?;
-    let pools = needed_list::<GenesisPoolEntry>(alloc, object, FieldName::Pools, MANY)?;
-    let dreps = needed_list::<GenesisDrep>(alloc, object, FieldName::Dreps, MANY)?;
+    let outputs = needed_list::<GenesisOutput>(alloc, object, FieldName::Outputs, LIST_LIMIT)?;
+    let accounts = needed_list::<GenesisAccount>(alloc, object, FieldName::Accounts, LIST_LIMIT)?;
+    let pools = needed_list::<GenesisPoolEntry>(alloc, object, FieldName::Pools, LIST_LIMIT)?;
+    let dreps = needed_list::<GenesisDrep>(alloc, object, FieldName::Dreps, LIST_LIMIT)?;
     Ok(Genesis {
         network,
         slot,
@@ -89,7 +82,12 @@ fn rewards(alloc: Global, object: &Value) -> Result<Rewards, RecordFault>
     let from_reserves = needed_field::<u64>(alloc, object, FieldName::FromReserves)?;
     let from_fees = needed_field::<u64>(alloc, object, FieldName::FromFees)?;
     let to_treasury = needed_field::<u64>(alloc, object, FieldName::ToTreasury)?;
-    let rewards = needed_distinct_list::<Reward>(alloc, object, FieldName::Rewards, MANY)?;
+    let rewards = needed_distinct_list::<(Credential, u64)>(
+        alloc,
+        object,
+        FieldName::Rewards,
+        LIST_LIMIT,
+    )?;
     Ok(Rewards {
         epoch,
         from_reserves,
@@ -105,7 +103,7 @@ fn tx(alloc: Global, object: &Value) -> Result<Tx, RecordFault>
     ensures { ReadsRecord result (tx_in (view object.now)) }
 {
     let id = needed_field::<TxId>(alloc, object, FieldName::Id)?;
-    let inputs = needed_list::<OutRef>(alloc, object, FieldName::Inputs, FEW)?;
+    let inputs = needed_list::<OutRef>(alloc, object, FieldName::Inputs, TX_LIST_LIMIT)?;
     let outputs = needed_list::<Output>(alloc, object, FieldName::Outputs, OUTPUT_LIMIT)?;
     let fee = needed_field::<u64>(alloc, object, FieldName::Fee)?;
     let size = needed_field::<u32>(alloc, object, FieldName::Size)?;
@@ -119,19 +117,24 @@ fn tx(alloc: Global, object: &Value) -> Result<Tx, RecordFault>
     )?;
     let from = optional_field::<Slot>(alloc, object, FieldName::From)?;
     let until = optional_field::<Slot>(alloc, object, FieldName::Until)?;
-    let collateral = optional_list::<OutRef>(alloc, object, FieldName::Collateral, FEW)?;
+    let collateral = optional_list::<OutRef>(alloc, object, FieldName::Collateral, TX_LIST_LIMIT)?;
     let collateral_return = optional_field::<Output>(alloc, object, FieldName::CollateralReturn)?;
     let treasury = optional_field::<u64>(alloc, object, FieldName::Treasury)?;
     let donation = defaulted_field::<u64>(alloc, object, FieldName::Donation, 0)?;
-    let withdrawals = optional_distinct_list::<Withdrawal>(
+    let withdrawals = optional_distinct_list::<(Account, u64)>(
         alloc,
         object,
         FieldName::Withdrawals,
-        FEW,
+        TX_LIST_LIMIT,
     )?;
-    let certs = optional_list::<CertEntry>(alloc, object, FieldName::Certs, FEW)?;
-    let proposals = optional_list::<ProposalEntry>(alloc, object, FieldName::Proposals, FEW)?;
-    let votes = optional_list::<VoteEntry>(alloc, object, FieldName::Votes, FEW)?;
+    let certs = optional_list::<CertEntry>(alloc, object, FieldName::Certs, TX_LIST_LIMIT)?;
+    let proposals = optional_list::<ProposalEntry>(
+        alloc,
+        object,
+        FieldName::Proposals,
+        TX_LIST_LIMIT,
+    )?;
+    let votes = optional_list::<VoteEntry>(alloc, object, FieldName::Votes, TX_LIST_LIMIT)?;
     Ok(Tx {
         id,
         inputs,

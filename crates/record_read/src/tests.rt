@@ -3,6 +3,9 @@ use super::*;
 use std::test::Fail;
 use tx_records::{FieldName, Record, What};
 
+const GENESIS: &[u8] =
+    br#"{"kind":"genesis","network":1,"slot":0,"epochLength":10,"version":[10,0],"supply":9,"reserves":9,"treasury":0,"params":{"maxBlockBodySize":90112,"maxTxSize":16384,"maxBlockHeaderSize":1100,"maxValueSize":5000,"maxTxExUnits":[1000,1000],"maxBlockExUnits":[1000,1000],"maxCollateralInputs":3,"minFeeA":1,"minFeeB":70,"keyDeposit":2,"poolDeposit":5,"rho":[0,1],"tau":[0,1],"minPoolCost":0,"coinsPerUTxOByte":1,"prices":[[0,1],[0,1]],"minFeeRefScriptCostPerByte":[15,1],"a0":[0,1],"eMax":18,"nOpt":500,"costModels":"0000000000000000000000000000000000000000000000000000000000000000","collateralPercentage":150,"poolVotingThresholds":[[0,1],[0,1],[0,1],[0,1],[0,1]],"drepVotingThresholds":[[67,100],[67,100],[67,100],[67,100],[67,100],[67,100],[67,100],[67,100],[67,100],[67,100]],"govActionLifetime":2,"govActionDeposit":10,"drepDeposit":5,"drepActivity":20,"committeeMinSize":0,"committeeMaxTermLength":100},"document":"dddddddddddddddddddddddddddddddddddddddddddddddddddddddddddddddd","committee":{"threshold":[2,3],"members":[["keeeeeeeeeeeeeeeeeeeeeeeeeeeeeeeeeeeeeeeeeeeeeeeeeeeeeeee",100,null]]},"outputs":[],"accounts":[],"pools":[],"dreps":[]}"#;
+
 #[test]
 fn reads_a_record(rt: HostRuntime) -> Result<(), Fail> {
     let block = read_record(rt.alloc(), br#"{"kind":"block","slot":5,"pulse":3}"#).ok();
@@ -13,12 +16,34 @@ fn reads_a_record(rt: HostRuntime) -> Result<(), Fail> {
 }
 
 #[test]
+fn reads_a_genesis(rt: HostRuntime) {
+    match read_record(rt.alloc(), GENESIS) {
+        Ok(Record::Genesis(mut genesis)) => {
+            assert!(rt; genesis.is_within_limits());
+            genesis.version = (9, 0);
+            assert!(rt; !genesis.is_within_limits());
+        }
+        _ => panic!(rt; "no genesis"),
+    }
+}
+
+#[test]
 fn names_the_fault(rt: HostRuntime) {
     let bad = |name| RecordFault::BadField { name, place: None };
     let table = [
         ("[1", RecordFault::BadJson),
         ("7", RecordFault::UnknownKind),
         (r#"{"kind":"xx"}"#, RecordFault::UnknownKind),
+        // the greatest number that rounds to a float, and one more in its last digit
+        (
+            r#"{"kind":"xx","n":1.7976931348623158e308}"#,
+            RecordFault::UnknownKind,
+        ),
+        (
+            r#"{"kind":"xx","n":1.7976931348623159e308}"#,
+            RecordFault::BadJson,
+        ),
+        (r#"{"kind":"xx","n":1e-400}"#, RecordFault::UnknownKind),
         (r#"{"kind":"tx"}"#, bad(FieldName::Id)),
         (
             r#"{"kind":"block","slot":4611686018427387904}"#,

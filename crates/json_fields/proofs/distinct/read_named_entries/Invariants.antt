@@ -9,7 +9,7 @@ abbrev pub invariant-loop-item : goal.invariant-loop-item
 invariant-loop-item g l = record {
   place : l.place ≡ length l.entries;
   within : l.place ≤ l.limit;
-  names : AreNames g.K.Name.Name.order g.K.Named.name l.names.keys l.entries;
-  rest : entries_after g.K.Kind.reading (is_known_or_full g.K.Name.Name.order g.K.Named.name l.limit) l.entries (items_view (drop l.item-index l.items))
-      ≡ entries_after g.K.Kind.reading (is_known_or_full g.K.Name.Name.order g.K.Named.name l.limit) [] (items_view l.items);
+  names : AreNames g.K.Entry.Name.Name.order g.K.Entry.Named.name l.names.keys l.entries;
+  rest : entries_after g.K.Kind.reading (is_known_or_full g.K.Entry.Name.Name.order g.K.Entry.Named.name l.limit) l.entries (items_view (drop l.item-index l.items))
+      ≡ entries_after g.K.Kind.reading (is_known_or_full g.K.Entry.Name.Name.order g.K.Entry.Named.name l.limit) [] (items_view l.items);
 }

@@ -1,0 +1,76 @@
+ghost use Rattle.std.specs.Prelude.{◌≡◌, ◌+◌, ◌-◌, ◌^◌, ◌<◌};
+
+use std::marker::Model;
+use std::sync::ledger::{Blank, Book, Ledger, Share};
+
+/// A count of steps that takes no bytes when the program runs. Contracts see it as the number of steps. (Own)
+#[derive(Drop)]
+pub struct Steps<L: Ledger> {
+    book: Book<L>,
+    whole: Share<L>,
+}
+
+impl<L: Ledger> Model for Steps<L> {
+    ghost use Rattle.std.specs.Prelude.{◌≡◌, ℕ, ◌<◌};
+
+    ghost Value = { ℕ };
+
+    ghost view = { λ a. a.book.total };
+
+    ghost invariant = { λ a. (a.whole.amount ≡ a.book.total) × (0 < a.whole.parts) };
+}
+
+impl<L: Ledger> Steps<L> {
+    /// No steps yet, on a ledger of the caller's own. (Own)
+    pub fn open(blank: Blank) -> Steps<L>
+        requires name { blank.name ≡ L.name }
+        requires parts { blank.parts ≡ L.parts }
+        requires some { 0 < L.parts }
+        ensures { result ≡ 0 }
+    {
+        let (book, whole) = blank.open::<L>();
+        Steps { book, whole }
+    }
+
+    /// One more step. (Own)
+    pub fn tick(&mut self)
+        requires { self.old < 2 ^ 64 - 1 }
+        ensures { self.new ≡ self.old + 1 }
+    {
+        let Steps { book, whole } = self;
+        book.add(whole, 1);
+    }
+}
+
+#[cfg(test)]
+mod tests {
+    use super::*;
+    use std::marker::Brand;
+    use std::test::Fail;
+
+    fn two<L: Ledger>(blank: Blank) -> Steps<L>
+        requires name { blank.name ≡ L.name }
+        requires parts { blank.parts ≡ L.parts }
+        requires some { 0 < L.parts }
+        ensures { result ≡ 2 }
+    {
+        let mut steps = Steps::<L>::open(blank);
+        steps.tick();
+        steps.tick();
+        steps
+    }
+
+    fn on_a_ledger_of_its_own<L: Ledger>(blank: Blank)
+        requires name { blank.name ≡ L.name }
+        requires parts { blank.parts ≡ L.parts }
+        requires some { 0 < L.parts }
+    {
+        let _steps = two::<L>(blank);
+    }
+
+    #[test]
+    fn counts(rt: HostRuntime) -> Result<(), Fail> {
+        on_a_ledger_of_its_own::<Brand>(Blank::new(1));
+        Ok(())
+    }
+}

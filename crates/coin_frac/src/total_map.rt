@@ -1,0 +1,95 @@
+ghost use Rattle.std.specs.Prelude.{◌≡◌, ◌^◌, ◌<◌, [], OnOk, OnErr, unwrap_or};
+ghost use Rattle.maps.specs.Maps.{IsMap, value_at, with_value, without_key};
+ghost use Rattle.coin_frac.specs.Totals.{total_of};
+
+use super::NoMemory;
+use std::alloc::Global;
+use std::collections::BTreeMap;
+use std::marker::Model;
+
+/// Amounts by key, with a running total. Contracts see it as the list of its entries in the order of keys. (Own)
+#[derive(Debug, Drop)]
+pub struct TotalMap<K: Ord> {
+    amounts: BTreeMap<K, u64>,
+    total: u64,
+}
+
+impl<K: Ord> Model for TotalMap<K> {
+    ghost use Rattle.std.specs.Prelude.{◌≡◌, ℕ, List};
+    ghost use Rattle.maps.specs.Maps.{IsMap};
+    ghost use Rattle.coin_frac.specs.Totals.{total_of};
+
+    ghost Value = { List (K × ℕ) };
+
+    ghost view = { λ a. a.amounts.entries };
+
+    ghost invariant = { λ a. (a.total ≡ total_of a.amounts.entries) × IsMap K.cmp a.amounts.entries };
+}
+
+impl<K: Copy + Ord> TotalMap<K> {
+    /// A map with no entries. (Own)
+    pub fn new(alloc: Global) -> TotalMap<K>
+        ensures { result ≡ [] }
+    {
+        TotalMap {
+            amounts: BTreeMap::new(alloc),
+            total: 0,
+        }
+    }
+
+    /// The amount at a key, 0 where there is none. (Own)
+    pub fn get(&self, k: &K) -> u64
+        ensures value { result ≡ unwrap_or (value_at K.cmp self.now k.now) 0 }
+        ensures in_order { IsMap K.cmp self.now }
+    {
+        self.amounts.get(k).copied().unwrap_or(0)
+    }
+
+    /// Puts an amount at a key, in place of what was there; a 0 is kept as any other amount. Want of memory changes nothing. (Own)
+    pub fn put(&mut self, k: K, v: u64) -> Result<(), NoMemory>
+        requires fits { total_of (with_value K.cmp k v self.old) < 2 ^ 64 }
+        ensures ok { OnOk result (self.new ≡ with_value K.cmp k v self.old) }
+        ensures err { OnErr result (self.new ≡ self.old) }
+    {
+        let before = self.amounts.insert(k, v)?.unwrap_or(0);
+        self.total = self.total - before + v;
+        Ok(())
+    }
+
+    /// Takes the entry at a key away and gives its amount, 0 where there is none. (Own)
+    pub fn take(&mut self, k: &K) -> u64
+        ensures value { result ≡ unwrap_or (value_at K.cmp self.old k.now) 0 }
+        ensures rest { self.new ≡ without_key K.cmp k.now self.old }
+    {
+        let taken = self.amounts.remove(k).unwrap_or(0);
+        self.total -= taken;
+        taken
+    }
+
+    /// The sum of the amounts. (Own)
+    pub fn total(&self) -> u64
+        ensures sum { result ≡ total_of self.now }
+        ensures in_order { IsMap K.cmp self.now }
+    {
+        self.total
+    }
+}
+
+#[cfg(test)]
+mod tests {
+    use super::*;
+    use std::process::Abort;
+    use std::test::Fail;
+
+    #[test]
+    fn keeps_amounts(rt: HostRuntime) -> Result<(), Fail> {
+        let mut map = TotalMap::new(rt.alloc());
+        map.put(7u8, 5)?;
+        map.put(2, 11)?;
+        map.put(7, 3)?;
+        assert_eq!(rt; (map.get(&2), map.get(&7), map.get(&9)), (11, 3, 0));
+        assert_eq!(rt; map.total(), 14);
+        assert_eq!(rt; (map.take(&2), map.take(&2), map.total()), (11, 0, 3));
+        Ok(())
+    }
+}
