@@ -1,11 +1,10 @@
 -- The treasury covers the enacted withdrawals.
-use Rattle.std.proofs.Common.{◌≡◌, ℕ, ◌+◌, ◌-◌, ◌≤◌, List, [], ◌∷◌, ◌++◌, Bool, true, false, cond, ◌&&◌, nat_le, Option, Some, None, map, filter, flat_map, sum_by, refl, ap, sym, subst, ◌∙◌, arith}
-use Rattle.std.proofs.lemmas.Bool.{leb-true}
+use Rattle.std.proofs.Common.{◌≡◌, ℕ, ◌+◌, ◌-◌, ◌≤◌, List, [], ◌∷◌, ◌++◌, true, false, cond, Option, Some, None, flat_map, sum_by, refl, ap, arith}
+use Rattle.std.proofs.lemmas.Bool.{leb-true, and_parts}
 use Rattle.std.proofs.lemmas.List.Sums.{sum_by-append, sum_by-cons}
 use Rattle.maps.specs.Words.{chosen_after}
 use Rattle.gov_ids.specs.declared.Account.{Account}
 use Rattle.gov_ids.specs.declared.ActionId.{ActionId}
-use Rattle.gov_ids.specs.declared.Credential.{Credential}
 use Rattle.gov_actions.specs.declared.action.Action.{Action}
 use Rattle.gov_actions.specs.declared.action.Action.TheVariants.{NoConfidence, UpdateCommittee, NewConstitution, HardForkInitiation, ParameterChange, TreasuryWithdrawals, Info}
 use Rattle.gov_actions.specs.declared.action.Proposal.{Proposal}
@@ -13,29 +12,20 @@ use Rattle.gov_model.specs.Snapshot.{Snapshot}
 use Rattle.gov_model.specs.Enacted.{enacted_after, withdrawn_by}
 use Rattle.gov_model.specs.Ready.{is_ready, is_covered}
 use Rattle.gov_model.specs.Ratified.{order_of}
-use Rattle.gov_model.specs.Laws.{HaveDistinctIds}
 use Rattle.gov_model.proofs.OneList.{ratified_are_chosen}
 use Rattle.tx_records.specs.declared.record.Rewards.{Rewards}
-use Rattle.ledger_model.specs.World.{World}
+use Rattle.ledger_model.specs.Ledger.{Ledger}
 use Rattle.ledger_model.proofs.SameSums.{sum_by-map}
-use Rattle.run_model.specs.Boundary.{claimed, payments_due, targets_of, enacted_targets, enacted_proposals, after_enactment, after_rewards, after_terms, update_applied}
-use Rattle.epoch_balance.specs.BoundaryLaws.{CoversPayments, PaymentsAreCovered}
-use Rattle.epoch_balance.proofs.PaymentSums.{amount_of, all_paid}
-
-left_of : (b c : Bool) → (b && c) ≡ true → b ≡ true
-left_of true c h = refl
-left_of false c h = h
-
-right_of : (b c : Bool) → (b && c) ≡ true → c ≡ true
-right_of true c h = h
-right_of false c h = cc
+use Rattle.run_model.specs.Boundary.{payments_due, targets_of, enacted_targets, enacted_proposals, after_enactment, after_rewards, update_applied}
+use Rattle.epoch_balance.specs.BoundaryLaws.{PaymentsAreCovered}
+use Rattle.epoch_balance.proofs.Payments.{amount_of, all_paid}
 
 abbrev taken_by : Proposal → ℕ
 taken_by p = withdrawn_by p.action
 
 -- what is ready is covered
 ready_is_covered : (f : Snapshot) (es : List Proposal) (a : Proposal) → is_ready f es a ≡ true → is_covered (enacted_after f es) a.action ≡ true
-ready_is_covered f es a h = right_of _ _ (left_of _ _ (left_of _ _ (left_of _ _ h)))
+ready_is_covered f es a h = (and_parts _ _ (and_parts _ _ (and_parts _ _ (and_parts _ _ h).0).0).0).1
 
 treasury_left : (f : Snapshot) (es : List Proposal) → (enacted_after f es).treasury ≡ f.start.treasury - sum_by taken_by es
 treasury_left f es = ap (λ (n : ℕ). f.start.treasury - n) (sum_by-map (λ (a : ActionId × Action). withdrawn_by a.1) (λ (a : Proposal). (a.id, a.action)) es)
@@ -79,16 +69,15 @@ all_targets_sum (p ∷ ps) =
     )
 
 -- the pending update does not take from the treasury
-gained_by : (o : Option Rewards) (w : World) → w.state.treasury ≤ (update_applied o w).state.treasury
-gained_by None w = omega arith
-gained_by (Some u) w = omega arith
+gained_by : (o : Option Rewards) (l : Ledger) → l.state.treasury ≤ (update_applied o l).state.treasury
+gained_by None l = omega arith
+gained_by (Some u) l = omega arith
 
 pub payments_are_covered : PaymentsAreCovered
 payments_are_covered w own h =
-    let v : World = after_enactment w in
     let enacted : enacted_proposals w ≡ chosen_after (is_ready w.frozen) [] (order_of w.frozen) = ratified_are_chosen w.frozen own in
     let bound : sum_by taken_by [] + sum_by taken_by (chosen_after (is_ready w.frozen) [] (order_of w.frozen)) ≤ w.frozen.start.treasury = chosen_by w.frozen [] (order_of w.frozen) (omega arith) in
     let due : sum_by amount_of (payments_due w) ≡ sum_by target_amount (enacted_targets w) = sum_by-map amount_of (λ (t : Account × ℕ). (t.0.cred, t.1)) (enacted_targets w) in
     let all : sum_by target_amount (enacted_targets w) ≡ sum_by taken_by (enacted_proposals w) = all_targets_sum (enacted_proposals w) in
-    let gained : w.state.treasury ≤ (after_rewards w).state.treasury = gained_by w.pending w in
-    omega (arith, all_paid v (payments_due w), due, all, ap (λ (ps : List Proposal). sum_by taken_by ps) enacted, bound, gained, h)
+    let gained : w.ledger.state.treasury ≤ (after_rewards w).ledger.state.treasury = gained_by w.pending w.ledger in
+    omega (arith, all_paid (after_enactment w).ledger (payments_due w), due, all, ap (λ (ps : List Proposal). sum_by taken_by ps) enacted, bound, gained, h)

@@ -1,6 +1,4 @@
-pub mod Payouts
-pub mod PaymentSums
-pub mod UpdateBalance
+pub mod Payments
 pub mod StepMoves
 pub mod Removals
 pub mod Whole

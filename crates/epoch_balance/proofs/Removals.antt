@@ -5,22 +5,21 @@ use Rattle.std.specs.Cmp.{IsEquivalence}
 use Rattle.std.proofs.lemmas.Cmp.{eq_by_cmp_equiv}
 use Rattle.maps.proofs.Credits.{sum-parted}
 use Rattle.gov_ids.specs.declared.ActionId.{ActionId}
-use Rattle.gov_ids.specs.declared.Credential.{Credential}
 use Rattle.gov_ids.specs.Same.{same_action}
 use Rattle.gov_ids.proofs.Totals.{action_id_total}
 use Rattle.gov_actions.specs.declared.action.Proposal.{Proposal}
 use Rattle.gov_model.specs.Laws.{HaveDistinctIds}
 use Rattle.gov_model.specs.Ratified.{ids_of, is_one_of}
 use Rattle.ledger_model.proofs.SameSums.{sum_by-map}
-use Rattle.ledger_model.specs.World.{World}
-use Rattle.ledger_model.specs.Supply.{pots_of, deposits_of}
-use Rattle.ledger_model.specs.Flows.{outputs, deposits, rewards, fees, donations, treasury, reserves, hand}
-use Rattle.ledger_model.specs.Moves.{IsMovedBy}
-use Rattle.run_model.specs.Boundary.{credited, kept_proposals, removed_proposals, proposal_refunds, removals_made}
+use Rattle.ledger_model.specs.Ledger.{Ledger}
+use Rattle.ledger_model.specs.Supply.{pots_of}
+use Rattle.ledger_model.specs.Flows.{Pot, outputs, deposits, rewards, fees, donations, treasury, reserves, hand, same_pot}
+use Rattle.ledger_model.specs.Moves.{IsMovedBy, held_in}
+use Rattle.run_model.specs.Boundary.{kept_proposals, removed_proposals, proposal_refunds, removals_made}
 use Rattle.run_model.specs.BoundaryFlows.{payment}
+use Rattle.run_model.specs.World.{World}
 use Rattle.epoch_balance.specs.StepLaws.{HasAccounts, RemovalsBalance}
-use Rattle.epoch_balance.proofs.Payouts.{rewards-credited}
-use Rattle.epoch_balance.proofs.PaymentSums.{amount_of, payments-into, payments-from, deposits-credited}
+use Rattle.epoch_balance.proofs.Payments.{amount_of, refunds_move}
 
 same_equiv : IsEquivalence same_action
 same_equiv = eq_by_cmp_equiv action_id_total
@@ -62,7 +61,7 @@ module _ (r : Proposal → Bool) where
 
   filter-told : (p : Proposal → Bool) (xs : List Proposal) → AllByRecursion (λ x. p x ≡ r x) xs → filter p xs ≡ filter r xs
   filter-told p [] h = refl
-  filter-told p (x ∷ xs) h = ap (λ (l : List Proposal). cond (p x) (x ∷ l) l) (filter-told p xs h.1) ∙ ap (λ b. cond b (x ∷ filter r xs) (filter r xs)) h.0
+  filter-told p (x ∷ xs) h = ap (λ (list : List Proposal). cond (p x) (x ∷ list) list) (filter-told p xs h.1) ∙ ap (λ b. cond b (x ∷ filter r xs) (filter r xs)) h.0
 
   -- those whose id is among those that pass are those that pass
   filter-self : (xs : List Proposal) → HaveDistinctIds xs → filter (is_one_of (ids_of (filter r xs))) xs ≡ filter r xs
@@ -71,7 +70,7 @@ module _ (r : Proposal → Bool) where
 filter-twice : (p q : Proposal → Bool) (xs : List Proposal) → filter q (filter p xs) ≡ filter (λ x. p x && q x) xs
 filter-twice p q [] = refl
 filter-twice p q (x ∷ xs) = elim (p x) as (λ b. filter q (cond b (x ∷ filter p xs) (filter p xs)) ≡ cond (b && q x) (x ∷ filter (λ y. p y && q y) xs) (filter (λ y. p y && q y) xs)) [
-  | true ↦ ap (λ (l : List Proposal). cond (q x) (x ∷ l) l) (filter-twice p q xs)
+  | true ↦ ap (λ (list : List Proposal). cond (q x) (x ∷ list) list) (filter-twice p q xs)
   | false ↦ filter-twice p q xs
 ]
 
@@ -86,35 +85,32 @@ parted p q xs d =
     sum-parted deposit_of (is_one_of (ids_of (filter q (filter p xs)))) xs in
     let twice : filter q (filter p xs) ≡ filter (λ x. p x && q x) xs = filter-twice p q xs in
     let self : filter (is_one_of (ids_of (filter q (filter p xs)))) xs ≡ filter q (filter p xs) =
-    ap (λ (l : List Proposal). filter (is_one_of (ids_of l)) xs) twice ∙ filter-self (λ x. p x && q x) xs d ∙ sym twice in
-    omega (arith, all, ap (λ (l : List Proposal). sum_by deposit_of l) self)
+    ap (λ (list : List Proposal). filter (is_one_of (ids_of list)) xs) twice ∙ filter-self (λ x. p x && q x) xs d ∙ sym twice in
+    omega (arith, all, ap (λ (list : List Proposal). sum_by deposit_of list) self)
 
-module _ (w : World) where
-  abbrev refunds : List (Credential × ℕ)
-  refunds = proposal_refunds w
-
+module _ (w : World) (m : HasAccounts w.ledger) (d : HaveDistinctIds w.ledger.proposals) where
   -- the ledger with the kept proposals alone
-  abbrev cut : World
-  cut = record w { proposals = kept_proposals w }
+  abbrev cut : Ledger
+  cut = record w.ledger { proposals = kept_proposals w }
 
-  proposals_parted : HaveDistinctIds w.proposals → sum_by deposit_of (kept_proposals w) + sum_by deposit_of (removed_proposals w) ≡ sum_by deposit_of w.proposals
-  proposals_parted d = parted _ _ w.proposals d
+  proposals_parted : sum_by deposit_of (kept_proposals w) + sum_by amount_of (proposal_refunds w) ≡ sum_by deposit_of w.ledger.proposals
+  proposals_parted =
+      let parts : sum_by deposit_of (kept_proposals w) + sum_by deposit_of (removed_proposals w) ≡ sum_by deposit_of w.ledger.proposals = parted _ _ w.ledger.proposals d in
+      omega (arith, parts, sum_by-map amount_of (λ (p : Proposal). (p.account.cred, p.deposit)) (removed_proposals w))
 
-  removals_move : HasAccounts w → HaveDistinctIds w.proposals → IsMovedBy (map (payment deposits w) refunds) (pots_of w) (pots_of (removals_made w))
-  removals_move m d =
-      let gains = rewards-credited cut refunds m in
-      let stay : deposits_of (credited refunds cut) ≡ deposits_of cut = deposits-credited cut refunds in
-      let refunds_sum : sum_by amount_of refunds ≡ sum_by deposit_of (removed_proposals w) = sum_by-map amount_of (λ (p : Proposal). (p.account.cred, p.deposit)) (removed_proposals w) in
-      record {
-        outputs_moved = omega (arith, payments-into deposits w refunds outputs, payments-from deposits w refunds outputs);
-        deposits_moved = omega (arith, payments-into deposits w refunds deposits, payments-from deposits w refunds deposits, stay, proposals_parted d, refunds_sum);
-        rewards_moved = omega (arith, payments-into deposits w refunds rewards, payments-from deposits w refunds rewards, gains);
-        fees_moved = omega (arith, payments-into deposits w refunds fees, payments-from deposits w refunds fees);
-        donations_moved = omega (arith, payments-into deposits w refunds donations, payments-from deposits w refunds donations);
-        treasury_moved = omega (arith, payments-into deposits w refunds treasury, payments-from deposits w refunds treasury);
-        reserves_moved = omega (arith, payments-into deposits w refunds reserves, payments-from deposits w refunds reserves);
-        none_in_hand = omega (arith, payments-into deposits w refunds hand, payments-from deposits w refunds hand);
-      }
+  -- it lacks the deposits of the others
+  cut_pots : (p : Pot) → held_in p (pots_of cut) + cond (same_pot deposits p) (sum_by amount_of (proposal_refunds w)) 0 ≡ held_in p (pots_of w.ledger)
+  cut_pots outputs = omega arith
+  cut_pots deposits = omega (arith, proposals_parted)
+  cut_pots rewards = omega arith
+  cut_pots fees = omega arith
+  cut_pots donations = omega arith
+  cut_pots treasury = omega arith
+  cut_pots reserves = omega arith
+  cut_pots hand = omega arith
+
+  removals_move : IsMovedBy (map (payment deposits w.ledger) (proposal_refunds w)) (pots_of w.ledger) (pots_of (removals_made w).ledger)
+  removals_move = refunds_move w.ledger cut (proposal_refunds w) m (λ c. refl) cut_pots
 
 pub removals_balance : RemovalsBalance
 removals_balance w m d = removals_move w m d

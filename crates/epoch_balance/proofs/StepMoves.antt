@@ -1,8 +1,7 @@
 -- Each step of a boundary moves the pots by its flows.
-use Rattle.std.proofs.Common.{◌≡◌, ℕ, ◌+◌, List, [], ◌∷◌, Bool, true, false, cond, not, Option, Some, None, is_some, map, filter, sum_by, refl, ap, ◌∙◌, arith}
-use Rattle.std.specs.Option.{option_map}
-use Rattle.std.proofs.lemmas.List.Sums.{sum_by-cons}
-use Rattle.maps.specs.Maps.{value_at, sum_values, changed_where, entries_where}
+use Rattle.std.proofs.Common.{◌≡◌, ℕ, ◌+◌, ◌-◌, List, [], ◌∷◌, Bool, true, false, cond, Option, Some, None, is_some, map, sum_by, refl, ap, ◌∙◌, arith}
+use Rattle.std.specs.Option.{option_map, unwrap_or}
+use Rattle.maps.specs.Maps.{value_at, sum_values, changed_where}
 use Rattle.maps.specs.Words.{some_and}
 use Rattle.maps.proofs.Credits.{sum_values-entries, sum-parted}
 use Rattle.maps.proofs.Kept.{IsMap-changed_where}
@@ -13,175 +12,174 @@ use Rattle.gov_ids.specs.Orders.{credential_cmp}
 use Rattle.gov_ids.proofs.Exacts.{credential_exact}
 use Rattle.gov_ids.proofs.Totals.{credential_total}
 use Rattle.book_records.specs.declared.Registered.{Registered}
+use Rattle.book_records.specs.Pools.{retires_at, staying_at}
 use Rattle.book_records.specs.declared.pool.Pool.{Pool}
 use Rattle.tx_records.specs.declared.record.Rewards.{Rewards}
-use Rattle.ledger_model.specs.World.{World, is_account}
-use Rattle.ledger_model.specs.Supply.{pots_of, deposits_of}
-use Rattle.ledger_model.specs.Flows.{Pot, outputs, deposits, rewards, fees, donations, treasury, reserves, hand, flow, same_pot, sum_into, sum_from}
-use Rattle.ledger_model.specs.Moves.{IsMovedBy}
+use Rattle.ledger_model.specs.Ledger.{Ledger, is_account}
+use Rattle.ledger_model.specs.Supply.{pots_of}
+use Rattle.ledger_model.specs.Flows.{Pot, outputs, deposits, rewards, fees, donations, treasury, reserves, hand, Flow, End, source, sink, flow, same_pot, sum_at}
+use Rattle.ledger_model.specs.Moves.{IsMovedBy, held_in}
 use Rattle.ledger_model.proofs.SameSums.{sum_by-map, sum_values-each_same, sum_values-changed_same}
-use Rattle.ledger_model.proofs.FlowSums.{into-cons, from-cons, into-append, from-append}
-use Rattle.run_model.specs.Boundary.{claimed, unclaimed, credited, retires_now, reaped_pools, is_reaped, pool_refunds, without_pool, terms_turned, reaped, update_applied}
+use Rattle.ledger_model.proofs.FlowSums.{is_end, sum-cons, sum-append}
+use Rattle.run_model.specs.Boundary.{claimed, reaped_pools, is_reaped, pool_refunds, without_pool, treasury_gains, update_applied, withdrawals_paid}
 use Rattle.run_model.specs.BoundaryFlows.{payment, flow_of_target, flows_of_targets, flows_of_update}
+use Rattle.run_model.specs.Laws.{IsCoveredUpdate}
 use Rattle.epoch_balance.specs.StepLaws.{HasAccounts, RewardsBalance, SnapshotsBalance, TermsBalance, PoolsBalance, EnactmentBalances, PaymentsBalance, DonationsBalance, MembersBalance, DormancyBalances, FreezeBalances}
-use Rattle.epoch_balance.proofs.Payouts.{rewards-credited}
-use Rattle.epoch_balance.proofs.PaymentSums.{amount_of, payments-into, payments-from, deposits-credited}
-use Rattle.epoch_balance.proofs.UpdateBalance.{update-moves}
+use Rattle.epoch_balance.proofs.Payments.{amount_of, parted-cons, payments-from, paid_into, rewards-credited, deposits-credited, refunds_move}
 
-pub rewards_by : (o : Option Rewards) (w : World) → HasAccounts w → ((u : Rewards) → o ≡ Some u → IsMovedBy (flows_of_update w (Some u)) (pots_of w) (pots_of (update_applied (Some u) w)))
-    → IsMovedBy (flows_of_update w o) (pots_of w) (pots_of (update_applied o w))
-rewards_by None w m h = record { outputs_moved = refl; deposits_moved = refl; rewards_moved = refl; fees_moved = refl; donations_moved = refl; treasury_moved = refl; reserves_moved = refl; none_in_hand = refl }
-rewards_by (Some u) w m h = h u refl
+-- 1: the update takes from the reserves and the fees, gives to the treasury, and pays the rest
+module _ (l : Ledger) (u : Rewards) (m : HasAccounts l) (c : IsCoveredUpdate l u) where
+  abbrev taken : Ledger
+  taken = treasury_gains u.to_treasury (record l { reserves = l.reserves - u.from_reserves; fees = l.fees - u.from_fees })
+
+  abbrev paid : List Flow
+  paid = map (payment hand l) u.rewards
+
+  update-sum : (end : End) (p : Pot) → sum_at end p (flows_of_update l (Some u))
+      ≡ cond (is_end end p reserves hand) u.from_reserves 0 + cond (is_end end p fees hand) u.from_fees 0
+      + cond (is_end end p hand treasury) u.to_treasury 0 + sum_at end p paid
+  update-sum end p = omega (
+    arith,
+    sum-cons end p (flow reserves hand u.from_reserves) (flow fees hand u.from_fees ∷ flow hand treasury u.to_treasury ∷ paid),
+    sum-cons end p (flow fees hand u.from_fees) (flow hand treasury u.to_treasury ∷ paid),
+    sum-cons end p (flow hand treasury u.to_treasury) paid,
+  )
+
+  update_moves : IsMovedBy (flows_of_update l (Some u)) (pots_of l) (pots_of (update_applied (Some u) l))
+  update_moves p = elim p as (λ p. held_in p (pots_of (update_applied (Some u) l)) + sum_at source p (flows_of_update l (Some u)) ≡ held_in p (pots_of l) + sum_at sink p (flows_of_update l (Some u))) [
+    | outputs ↦ omega (arith, update-sum source outputs, update-sum sink outputs, payments-from hand l u.rewards outputs, paid_into taken u.rewards hand m outputs)
+    | deposits ↦ omega (arith, update-sum source deposits, update-sum sink deposits, payments-from hand l u.rewards deposits, paid_into taken u.rewards hand m deposits)
+    | rewards ↦ omega (arith, update-sum source rewards, update-sum sink rewards, payments-from hand l u.rewards rewards, paid_into taken u.rewards hand m rewards)
+    | fees ↦ omega (arith, update-sum source fees, update-sum sink fees, payments-from hand l u.rewards fees, paid_into taken u.rewards hand m fees, c.fees_cover)
+    | donations ↦ omega (arith, update-sum source donations, update-sum sink donations, payments-from hand l u.rewards donations, paid_into taken u.rewards hand m donations)
+    | treasury ↦ omega (arith, update-sum source treasury, update-sum sink treasury, payments-from hand l u.rewards treasury, paid_into taken u.rewards hand m treasury)
+    | reserves ↦ omega (arith, update-sum source reserves, update-sum sink reserves, payments-from hand l u.rewards reserves, paid_into taken u.rewards hand m reserves, c.reserves_cover)
+    | hand ↦ omega (arith, update-sum source hand, update-sum sink hand, payments-from hand l u.rewards hand, paid_into taken u.rewards hand m hand, c.balanced)
+  ]
+
+rewards_by : (o : Option Rewards) (l : Ledger) → HasAccounts l → ((u : Rewards) → o ≡ Some u → IsCoveredUpdate l u)
+    → IsMovedBy (flows_of_update l o) (pots_of l) (pots_of (update_applied o l))
+rewards_by None l m c = λ p. refl
+rewards_by (Some u) l m c = update_moves l u m (c u refl)
 
 pub rewards_balance : RewardsBalance
-rewards_balance w m c = rewards_by w.pending w m (λ u e. update-moves w u m (c u e))
+rewards_balance w m c = rewards_by w.pending w.ledger m c
 
 pub snapshots_balance : SnapshotsBalance
-snapshots_balance w = record { outputs_moved = refl; deposits_moved = refl; rewards_moved = refl; fees_moved = refl; donations_moved = refl; treasury_moved = refl; reserves_moved = refl; none_in_hand = refl }
+snapshots_balance w p = refl
 
 pub enactment_balances : EnactmentBalances
-enactment_balances w = record { outputs_moved = refl; deposits_moved = refl; rewards_moved = refl; fees_moved = refl; donations_moved = refl; treasury_moved = refl; reserves_moved = refl; none_in_hand = refl }
+enactment_balances w p = refl
 
 pub members_balance : MembersBalance
-members_balance w = record { outputs_moved = refl; deposits_moved = refl; rewards_moved = refl; fees_moved = refl; donations_moved = refl; treasury_moved = refl; reserves_moved = refl; none_in_hand = refl }
+members_balance l p = refl
 
 pub dormancy_balances : DormancyBalances
-dormancy_balances w = record { outputs_moved = refl; deposits_moved = refl; rewards_moved = refl; fees_moved = refl; donations_moved = refl; treasury_moved = refl; reserves_moved = refl; none_in_hand = refl }
+dormancy_balances l p = refl
 
 pub freeze_balances : FreezeBalances
-freeze_balances w = record { outputs_moved = refl; deposits_moved = refl; rewards_moved = refl; fees_moved = refl; donations_moved = refl; treasury_moved = refl; reserves_moved = refl; none_in_hand = refl }
+freeze_balances w p = refl
 
 pub donations_balance : DonationsBalance
-donations_balance w = record { outputs_moved = refl; deposits_moved = refl; rewards_moved = refl; fees_moved = refl; donations_moved = omega arith; treasury_moved = omega arith; reserves_moved = refl; none_in_hand = refl }
+donations_balance l outputs = refl
+donations_balance l deposits = refl
+donations_balance l rewards = refl
+donations_balance l fees = refl
+donations_balance l donations = omega arith
+donations_balance l treasury = omega arith
+donations_balance l reserves = refl
+donations_balance l hand = refl
 
+-- 3: each pool keeps its deposit
 pub terms_balance : TermsBalance
-terms_balance w =
-    let same : sum_values (λ (p : Pool). p.deposit) (terms_turned w).pools ≡ sum_values (λ (p : Pool). p.deposit) w.pools = sum_values-each_same (λ (p : Pool). p.deposit) _ (λ k x. refl) w.pools in
-    record { outputs_moved = refl; deposits_moved = omega (arith, same); rewards_moved = refl; fees_moved = refl; donations_moved = refl; treasury_moved = refl; reserves_moved = refl; none_in_hand = refl }
-
--- the same accounts are claimed where the same credentials are registered
-filter-same : {A : Type 0} (p q : A → Bool) → ((a : A) → p a ≡ q a) → (xs : List A) → filter p xs ≡ filter q xs
-filter-same p q s [] = refl
-filter-same {A} p q s (x ∷ xs) =
-    ap (λ (l : List A). cond (p x) (x ∷ l) l) (filter-same p q s xs) ∙ ap (λ b. cond b (x ∷ filter q xs) (filter q xs)) (s x)
+terms_balance l deposits = omega (arith, sum_values-each_same (λ (p : Pool). p.deposit) (λ k (t : Pool). record t { terms = unwrap_or t.future t.terms; future = None }) (λ k x. refl) l.pools)
+terms_balance l _ = refl
 
 some_same : {A : Type 0} (o : Option A) (f : A → A) → is_some (option_map f o) ≡ is_some o
 some_same None f = refl
 some_same (Some x) f = refl
 
-module _ (w : World) where
+module _ (l : Ledger) where
   -- the ledger without the reaped pools, before their deposits are paid out
-  abbrev left : World
-  left = record w {
-    pools = entries_where (λ p t. not (retires_now w t)) w.pools;
-    accounts = changed_where (λ c (r : Registered). some_and (is_reaped w) r.pool) without_pool w.accounts;
+  abbrev left : Ledger
+  left = record l {
+    pools = staying_at (l.epoch + 1) l.pools;
+    accounts = changed_where (λ c (r : Registered). some_and (is_reaped l) r.pool) without_pool l.accounts;
   }
 
-  abbrev refunds : List (Credential × ℕ)
-  refunds = pool_refunds w
-
-  same_account : (c : Credential) → is_account left c ≡ is_account w c
-  same_account c =
-      ap (λ (o : Option Registered). is_some o) (value_at-changed_where credential_total credential_exact (λ c (r : Registered). some_and (is_reaped w) r.pool) without_pool w.accounts c)
-      ∙ some_same (value_at credential_cmp w.accounts c) _
-
-  same_claimed : (ps : List (Credential × ℕ)) → claimed left ps ≡ claimed w ps
-  same_claimed ps = ap (λ (l : List (Credential × ℕ)). sum_by amount_of l) (filter-same (λ p. is_account left p.0) (λ p. is_account w p.0) (λ p. same_account p.0) ps)
-
-  same_unclaimed : (ps : List (Credential × ℕ)) → unclaimed left ps ≡ unclaimed w ps
-  same_unclaimed ps = ap (λ (l : List (Credential × ℕ)). sum_by amount_of l) (filter-same (λ p. not (is_account left p.0)) (λ p. not (is_account w p.0)) (λ p. ap not (same_account p.0)) ps)
-
-  pool_deposit : PoolId × Pool → ℕ
+  abbrev pool_deposit : PoolId × Pool → ℕ
   pool_deposit e = e.1.deposit
 
-  refunds_sum : sum_by amount_of refunds ≡ sum_by (λ (e : PoolId × Pool). e.1.deposit) (reaped_pools w)
-  refunds_sum = sum_by-map amount_of (λ (e : PoolId × Pool). (e.1.terms.account.cred, e.1.deposit)) (reaped_pools w)
+  same_account : (c : Credential) → is_account left c ≡ is_account l c
+  same_account c =
+      ap (λ (o : Option Registered). is_some o) (value_at-changed_where credential_total credential_exact (λ c (r : Registered). some_and (is_reaped l) r.pool) without_pool l.accounts c)
+      ∙ some_same (value_at credential_cmp l.accounts c) _
 
-  pools_parted : sum_by (λ (e : PoolId × Pool). e.1.deposit) (reaped_pools w) + sum_values (λ (p : Pool). p.deposit) left.pools ≡ sum_values (λ (p : Pool). p.deposit) w.pools
+  same_of : (f : Registered → ℕ) → ((r : Registered) → f (without_pool r) ≡ f r) → sum_values f left.accounts ≡ sum_values f l.accounts
+  same_of f s = sum_values-changed_same f (λ c (r : Registered). some_and (is_reaped l) r.pool) without_pool s l.accounts
+
+  pools_parted : sum_by amount_of (pool_refunds l) + sum_values (λ (p : Pool). p.deposit) left.pools ≡ sum_values (λ (p : Pool). p.deposit) l.pools
   pools_parted =
       omega (
         arith,
-        sum-parted (λ (e : PoolId × Pool). e.1.deposit) (λ e. retires_now w e.1) w.pools,
+        sum_by-map amount_of (λ (e : PoolId × Pool). (e.1.terms.account.cred, e.1.deposit)) (reaped_pools l),
+        sum-parted pool_deposit (λ e. retires_at (l.epoch + 1) e.1) l.pools,
         sum_values-entries (λ (p : Pool). p.deposit) left.pools,
-        sum_values-entries (λ (p : Pool). p.deposit) w.pools,
+        sum_values-entries (λ (p : Pool). p.deposit) l.pools,
       )
 
-  pools_move : HasAccounts w → IsMovedBy (map (payment deposits w) refunds) (pots_of w) (pots_of (reaped w))
-  pools_move m =
-      let same_deposits : sum_values (λ (r : Registered). r.deposit) left.accounts ≡ sum_values (λ (r : Registered). r.deposit) w.accounts =
-      sum_values-changed_same (λ (r : Registered). r.deposit) (λ c (r : Registered). some_and (is_reaped w) r.pool) without_pool (λ x. refl) w.accounts in
-      let same_rewards : sum_values (λ (r : Registered). r.rewards) left.accounts ≡ sum_values (λ (r : Registered). r.rewards) w.accounts =
-      sum_values-changed_same (λ (r : Registered). r.rewards) (λ c (r : Registered). some_and (is_reaped w) r.pool) without_pool (λ x. refl) w.accounts in
-      let gains = rewards-credited left refunds (IsMap-changed_where credential_cmp (λ c (r : Registered). some_and (is_reaped w) r.pool) without_pool w.accounts m) in
-      let stay : deposits_of (credited refunds left) ≡ deposits_of left = deposits-credited left refunds in
-      record {
-        outputs_moved = omega (arith, payments-into deposits w refunds outputs, payments-from deposits w refunds outputs);
-        deposits_moved = omega (arith, payments-into deposits w refunds deposits, payments-from deposits w refunds deposits, stay, same_deposits, pools_parted, refunds_sum);
-        rewards_moved = omega (arith, payments-into deposits w refunds rewards, payments-from deposits w refunds rewards, gains, same_rewards, same_claimed refunds);
-        fees_moved = omega (arith, payments-into deposits w refunds fees, payments-from deposits w refunds fees);
-        donations_moved = omega (arith, payments-into deposits w refunds donations, payments-from deposits w refunds donations);
-        treasury_moved = omega (arith, payments-into deposits w refunds treasury, payments-from deposits w refunds treasury, same_unclaimed refunds);
-        reserves_moved = omega (arith, payments-into deposits w refunds reserves, payments-from deposits w refunds reserves);
-        none_in_hand = omega (arith, payments-into deposits w refunds hand, payments-from deposits w refunds hand);
-      }
+  -- it lacks their deposits
+  left_pots : (p : Pot) → held_in p (pots_of left) + cond (same_pot deposits p) (sum_by amount_of (pool_refunds l)) 0 ≡ held_in p (pots_of l)
+  left_pots outputs = omega arith
+  left_pots deposits = omega (arith, same_of (λ (r : Registered). r.deposit) (λ r. refl), pools_parted)
+  left_pots rewards = omega (arith, same_of (λ (r : Registered). r.rewards) (λ r. refl))
+  left_pots fees = omega arith
+  left_pots donations = omega arith
+  left_pots treasury = omega arith
+  left_pots reserves = omega arith
+  left_pots hand = omega arith
 
 pub pools_balance : PoolsBalance
-pools_balance w m = pools_move w m
+pools_balance l m =
+    refunds_move l (left l) (pool_refunds l) (IsMap-changed_where credential_cmp (λ c (r : Registered). some_and (is_reaped l) r.pool) without_pool l.accounts m) (same_account l) (left_pots l)
 
--- targets
-target_into : (w : World) (q : Credential × ℕ) (p : Pot) → sum_into p (flow_of_target w q) ≡ cond (is_account w q.0) (cond (same_pot rewards p) q.1 0) 0
-target_into w q p = elim (is_account w q.0) as (λ b. sum_into p (cond b (flow treasury rewards q.1 ∷ []) []) ≡ cond b (cond (same_pot rewards p) q.1 0) 0) [
-  | true ↦ omega (arith, into-cons p (flow treasury rewards q.1) [])
+-- 5: targets
+target_sum : (end : End) (l : Ledger) (q : Credential × ℕ) (p : Pot) → sum_at end p (flow_of_target l q) ≡ cond (is_account l q.0) (cond (is_end end p treasury rewards) q.1 0) 0
+target_sum end l q p = elim (is_account l q.0) as (λ b. sum_at end p (cond b (flow treasury rewards q.1 ∷ []) []) ≡ cond b (cond (is_end end p treasury rewards) q.1 0) 0) [
+  | true ↦ omega (arith, sum-cons end p (flow treasury rewards q.1) [])
   | false ↦ refl
 ]
 
-target_from : (w : World) (q : Credential × ℕ) (p : Pot) → sum_from p (flow_of_target w q) ≡ cond (is_account w q.0) (cond (same_pot treasury p) q.1 0) 0
-target_from w q p = elim (is_account w q.0) as (λ b. sum_from p (cond b (flow treasury rewards q.1 ∷ []) []) ≡ cond b (cond (same_pot treasury p) q.1 0) 0) [
-  | true ↦ omega (arith, from-cons p (flow treasury rewards q.1) [])
-  | false ↦ refl
-]
+join : (b c : Bool) (n rest : ℕ) → cond b (cond c n 0) 0 + cond c rest 0 ≡ cond c (cond b n 0 + rest) 0
+join true true n rest = omega arith
+join true false n rest = refl
+join false true n rest = omega arith
+join false false n rest = refl
 
-claimed-cons : (w : World) (q : Credential × ℕ) (ps : List (Credential × ℕ)) → claimed w (q ∷ ps) ≡ cond (is_account w q.0) q.1 0 + claimed w ps
-claimed-cons w q ps = elim (is_account w q.0) as (λ b. sum_by amount_of (cond b (q ∷ filter (λ p. is_account w p.0) ps) (filter (λ p. is_account w p.0) ps)) ≡ cond b q.1 0 + claimed w ps) [
-  | true ↦ sum_by-cons amount_of q (filter (λ p. is_account w p.0) ps)
-  | false ↦ omega arith
-]
-
-join : (b c : Bool) (n rest all : ℕ) → all ≡ cond b n 0 + rest → cond b (cond c n 0) 0 + cond c rest 0 ≡ cond c all 0
-join true true n rest all e = omega arith
-join true false n rest all e = refl
-join false true n rest all e = omega arith
-join false false n rest all e = refl
-
-targets-into : (w : World) (ps : List (Credential × ℕ)) (p : Pot) → sum_into p (flows_of_targets w ps) ≡ cond (same_pot rewards p) (claimed w ps) 0
-targets-into w [] p = none (same_pot rewards p)
+targets_sum : (end : End) (l : Ledger) (ps : List (Credential × ℕ)) (p : Pot) → sum_at end p (flows_of_targets l ps) ≡ cond (is_end end p treasury rewards) (claimed l ps) 0
+targets_sum end l [] p = none (is_end end p treasury rewards)
   where
-    none : (b : Bool) → sum_into p [] ≡ cond b 0 0
+    none : (b : Bool) → sum_at end p [] ≡ cond b 0 0
     none true = refl
     none false = refl
-targets-into w (q ∷ ps) p =
-    omega (arith, into-append p (flow_of_target w q) (flows_of_targets w ps), target_into w q p, targets-into w ps p, join (is_account w q.0) (same_pot rewards p) q.1 (claimed w ps) (claimed w (q ∷ ps)) (claimed-cons w q ps))
-
-targets-from : (w : World) (ps : List (Credential × ℕ)) (p : Pot) → sum_from p (flows_of_targets w ps) ≡ cond (same_pot treasury p) (claimed w ps) 0
-targets-from w [] p = none (same_pot treasury p)
-  where
-    none : (b : Bool) → sum_from p [] ≡ cond b 0 0
-    none true = refl
-    none false = refl
-targets-from w (q ∷ ps) p =
-    omega (arith, from-append p (flow_of_target w q) (flows_of_targets w ps), target_from w q p, targets-from w ps p, join (is_account w q.0) (same_pot treasury p) q.1 (claimed w ps) (claimed w (q ∷ ps)) (claimed-cons w q ps))
+targets_sum end l (q ∷ ps) p =
+    omega (
+      arith,
+      sum-append end p (flow_of_target l q) (flows_of_targets l ps),
+      target_sum end l q p,
+      targets_sum end l ps p,
+      join (is_account l q.0) (is_end end p treasury rewards) q.1 (claimed l ps),
+      ap (λ n. cond (is_end end p treasury rewards) n 0) (parted-cons (λ x. is_account l x.0) q ps),
+    )
 
 pub payments_balance : PaymentsBalance
-payments_balance w ps m c =
-    let gains = rewards-credited w ps m in
-    let stay : deposits_of (credited ps w) ≡ deposits_of w = deposits-credited w ps in
-    record {
-      outputs_moved = omega (arith, targets-into w ps outputs, targets-from w ps outputs);
-      deposits_moved = omega (arith, targets-into w ps deposits, targets-from w ps deposits, stay);
-      rewards_moved = omega (arith, targets-into w ps rewards, targets-from w ps rewards, gains);
-      fees_moved = omega (arith, targets-into w ps fees, targets-from w ps fees);
-      donations_moved = omega (arith, targets-into w ps donations, targets-from w ps donations);
-      treasury_moved = omega (arith, targets-into w ps treasury, targets-from w ps treasury, c);
-      reserves_moved = omega (arith, targets-into w ps reserves, targets-from w ps reserves);
-      none_in_hand = omega (arith, targets-into w ps hand, targets-from w ps hand);
-    }
+payments_balance l ps m c p = elim p as (λ p. held_in p (pots_of (withdrawals_paid ps l)) + sum_at source p (flows_of_targets l ps) ≡ held_in p (pots_of l) + sum_at sink p (flows_of_targets l ps)) [
+  | outputs ↦ omega (arith, targets_sum source l ps outputs, targets_sum sink l ps outputs)
+  | deposits ↦ omega (arith, targets_sum source l ps deposits, targets_sum sink l ps deposits, deposits-credited l ps)
+  | rewards ↦ omega (arith, targets_sum source l ps rewards, targets_sum sink l ps rewards, rewards-credited l ps m)
+  | fees ↦ omega (arith, targets_sum source l ps fees, targets_sum sink l ps fees)
+  | donations ↦ omega (arith, targets_sum source l ps donations, targets_sum sink l ps donations)
+  | treasury ↦ omega (arith, targets_sum source l ps treasury, targets_sum sink l ps treasury, c)
+  | reserves ↦ omega (arith, targets_sum source l ps reserves, targets_sum sink l ps reserves)
+  | hand ↦ omega (arith, targets_sum source l ps hand, targets_sum sink l ps hand)
+]

@@ -1,63 +1,51 @@
--- What flows into and out of a pot, list after list.
+-- What flows into and out of a pot, list after list, and pots that are moved by lists of flows.
 use Rattle.std.proofs.Common.{◌≡◌, ℕ, zero, ◌+◌, List, [], ◌∷◌, ◌++◌, Bool, true, false, cond, map, filter, sum_by, refl, ap, sym, ◌∙◌, arith}
 use Rattle.std.proofs.lemmas.List.Elements.{filter-append}
 use Rattle.std.proofs.lemmas.List.Sums.{sum_by-append, sum_by-cons}
-use Rattle.ledger_model.specs.Flows.{Pot, Flow, flow, same_pot, sum_into, sum_from}
+use Rattle.tx_records.specs.declared.report.Pots.{Pots}
+use Rattle.ledger_model.specs.Moves.{IsMovedBy}
+use Rattle.ledger_model.specs.Flows.{Pot, Flow, End, source, sink, flow, pot_at, same_pot, sum_at}
 
 abbrev amount : Flow → ℕ
 amount f = f.amount
 
-abbrev goes_into : Pot → Flow → Bool
-goes_into p f = same_pot f.to p
+-- p is this end of a flow from a to b
+abbrev pub is_end : End → Pot → Pot → Pot → Bool
+is_end source p a b = same_pot a p
+is_end sink p a b = same_pot b p
 
-abbrev comes_from : Pot → Flow → Bool
-comes_from p f = same_pot f.from p
+by_first : (b : Bool) (f : Flow) (fs : List Flow) → sum_by amount (cond b (f ∷ fs) fs) ≡ cond b f.amount 0 + sum_by amount fs
+by_first true f fs = sum_by-cons amount f fs
+by_first false f fs = omega arith
 
-pub into-cons : (p : Pot) (f : Flow) (fs : List Flow) → sum_into p (f ∷ fs) ≡ cond (same_pot f.to p) f.amount 0 + sum_into p fs
-into-cons p f fs = elim (same_pot f.to p) as (λ b. sum_by amount (cond b (f ∷ filter (goes_into p) fs) (filter (goes_into p) fs)) ≡ cond b f.amount 0 + sum_into p fs) [
-  | true ↦ sum_by-cons amount f (filter (goes_into p) fs)
-  | false ↦ omega arith
-]
+pub sum-cons : (end : End) (p : Pot) (f : Flow) (fs : List Flow) → sum_at end p (f ∷ fs) ≡ cond (is_end end p f.from f.to) f.amount 0 + sum_at end p fs
+sum-cons source p f fs = by_first (same_pot f.from p) f (filter (λ (g : Flow). same_pot g.from p) fs)
+sum-cons sink p f fs = by_first (same_pot f.to p) f (filter (λ (g : Flow). same_pot g.to p) fs)
 
-pub from-cons : (p : Pot) (f : Flow) (fs : List Flow) → sum_from p (f ∷ fs) ≡ cond (same_pot f.from p) f.amount 0 + sum_from p fs
-from-cons p f fs = elim (same_pot f.from p) as (λ b. sum_by amount (cond b (f ∷ filter (comes_from p) fs) (filter (comes_from p) fs)) ≡ cond b f.amount 0 + sum_from p fs) [
-  | true ↦ sum_by-cons amount f (filter (comes_from p) fs)
-  | false ↦ omega arith
-]
-
-pub into-append : (p : Pot) (fs gs : List Flow) → sum_into p (fs ++ gs) ≡ sum_into p fs + sum_into p gs
-into-append p fs gs = ap (λ (l : List Flow). sum_by amount l) (filter-append (goes_into p) fs gs) ∙ sum_by-append amount (filter (goes_into p) fs) (filter (goes_into p) gs)
-
-pub from-append : (p : Pot) (fs gs : List Flow) → sum_from p (fs ++ gs) ≡ sum_from p fs + sum_from p gs
-from-append p fs gs = ap (λ (l : List Flow). sum_by amount l) (filter-append (comes_from p) fs gs) ∙ sum_by-append amount (filter (comes_from p) fs) (filter (comes_from p) gs)
+pub sum-append : (end : End) (p : Pot) (fs gs : List Flow) → sum_at end p (fs ++ gs) ≡ sum_at end p fs + sum_at end p gs
+sum-append end p fs gs =
+    ap (λ (list : List Flow). sum_by amount list) (filter-append (λ f. same_pot (pot_at end f) p) fs gs)
+    ∙ sum_by-append amount (filter (λ f. same_pot (pot_at end f) p) fs) (filter (λ f. same_pot (pot_at end f) p) gs)
 
 zero_either : (c : Bool) → cond c zero zero ≡ zero
 zero_either true = refl
 zero_either false = refl
 
+pub sum_either : (b : Bool) (x y : ℕ) → cond b x 0 + cond b y 0 ≡ cond b (x + y) 0
+sum_either true x y = refl
+sum_either false x y = omega arith
+
 -- flows that all go from one pot to one pot
-each_into : (b : Bool) (x y : ℕ) → cond b x 0 + cond b y 0 ≡ cond b (x + y) 0
-each_into true x y = refl
-each_into false x y = omega arith
-
-pub into-map : {X : Type 0} (p a b : Pot) (f : X → ℕ) (xs : List X) → sum_into p (map (λ x. flow a b (f x)) xs) ≡ cond (same_pot b p) (sum_by f xs) 0
-into-map p a b f [] = sym (zero_either (same_pot b p))
-into-map p a b f (x ∷ xs) =
+pub sum-map : {X : Type 0} (end : End) (p a b : Pot) (f : X → ℕ) (xs : List X) → sum_at end p (map (λ x. flow a b (f x)) xs) ≡ cond (is_end end p a b) (sum_by f xs) 0
+sum-map end p a b f [] = sym (zero_either (is_end end p a b))
+sum-map end p a b f (x ∷ xs) =
     omega (
       arith,
-      into-cons p (flow a b (f x)) (map (λ x. flow a b (f x)) xs),
-      into-map p a b f xs,
-      each_into (same_pot b p) (f x) (sum_by f xs),
-      ap (λ n. cond (same_pot b p) n 0) (sum_by-cons f x xs),
+      sum-cons end p (flow a b (f x)) (map (λ x. flow a b (f x)) xs),
+      sum-map end p a b f xs,
+      sum_either (is_end end p a b) (f x) (sum_by f xs),
+      ap (λ n. cond (is_end end p a b) n 0) (sum_by-cons f x xs),
     )
 
-pub from-map : {X : Type 0} (p a b : Pot) (f : X → ℕ) (xs : List X) → sum_from p (map (λ x. flow a b (f x)) xs) ≡ cond (same_pot a p) (sum_by f xs) 0
-from-map p a b f [] = sym (zero_either (same_pot a p))
-from-map p a b f (x ∷ xs) =
-    omega (
-      arith,
-      from-cons p (flow a b (f x)) (map (λ x. flow a b (f x)) xs),
-      from-map p a b f xs,
-      each_into (same_pot a p) (f x) (sum_by f xs),
-      ap (λ n. cond (same_pot a p) n 0) (sum_by-cons f x xs),
-    )
+pub moved-append : (fs gs : List Flow) (a b c : Pots) → IsMovedBy fs a b → IsMovedBy gs b c → IsMovedBy (fs ++ gs) a c
+moved-append fs gs a b c h k = λ p. omega (arith, h p, k p, sum-append source p fs gs, sum-append sink p fs gs)

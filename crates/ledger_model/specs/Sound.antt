@@ -5,14 +5,14 @@ use Rattle.std.specs.Map.{keys_of}
 use Rattle.maps.specs.Maps.{IsMap, IsSet, has_member}
 use Rattle.gov_ids.specs.declared.OutRef.{OutRef}
 use Rattle.gov_ids.specs.Orders.{credential_cmp, outref_cmp, pool_cmp, txid_cmp}
-use Rattle.ledger_model.specs.World.{World}
+use Rattle.ledger_model.specs.Ledger.{Ledger}
 
 -- the maps of outputs, accounts, pools, DReps and hot entries and the set of used ids stand in order, each name once, and the transaction id of each output is a used one
-pub record IsSound (w : World) : Type 0 where
-  pub outputs : IsMap outref_cmp w.outputs
-  pub used : IsSet txid_cmp w.used
-  pub accounts : IsMap credential_cmp w.accounts
-  pub pools : IsMap pool_cmp w.pools
-  pub dreps : IsMap credential_cmp w.dreps
-  pub hot : IsMap credential_cmp w.hot
-  pub ids_used : AllByRecursion (λ (r : OutRef). has_member txid_cmp w.used r.tx ≡ true) (keys_of w.outputs)
+pub record IsSound (l : Ledger) : Type 0 where
+  pub outputs : IsMap outref_cmp l.outputs
+  pub used : IsSet txid_cmp l.used
+  pub accounts : IsMap credential_cmp l.accounts
+  pub pools : IsMap pool_cmp l.pools
+  pub dreps : IsMap credential_cmp l.dreps
+  pub hot : IsMap credential_cmp l.hot
+  pub ids_used : AllByRecursion (λ (r : OutRef). has_member txid_cmp l.used r.tx ≡ true) (keys_of l.outputs)

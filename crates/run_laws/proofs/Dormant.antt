@@ -1,4 +1,4 @@
--- The dormant bound holds of every ledger that records reach.
+-- The dormant bound holds of every World that records reach.
 use Rattle.std.proofs.Common.{◌≡◌, ℕ, ◌+◌, ◌^◌, ◌<◌, ◌≤◌, ◌==◌, ◌⊎◌, inl, inr, List, [], ◌∷◌, ◌++◌, Bool, true, false, cond, Option, Some, None, filter, filter_map, flat_map, map, fold, take, length, unwrap_or, refl, ap, subst, ◌∙◌, arith}
 use Rattle.std.specs.List.{AllByRecursion, cons_option, enumerate_from, list_all}
 use Rattle.std.specs.Ordering.{eq_by_cmp, match_ordering}
@@ -35,16 +35,22 @@ use Rattle.tx_records.specs.declared.tx.ProposalRecord.{ProposalRecord}
 use Rattle.tx_records.specs.declared.tx.Scripts.{Scripts}
 use Rattle.tx_records.specs.declared.tx.Scripts.TheVariants.{Absent, Passed, Failed}
 use Rattle.tx_records.specs.declared.tx.Tx.{Tx}
-use Rattle.ledger_model.specs.World.{World}
-use Rattle.ledger_model.specs.Changes.{changed_by, dormant_added, extended, fresh_expiry, has_voted, having_acted, is_kept_active, new_drep, refreshed, voters_refreshed, withdrawn, without_vote_of}
+use Rattle.ledger_model.specs.Ledger.{Ledger}
+use Rattle.book_records.specs.Dormancy.{is_kept_active, extended}
+use Rattle.gov_model.specs.Proposals.{without_vote}
+use Rattle.ledger_model.specs.Changes.{changed_by, dormant_added, fresh_expiry, has_voted, having_acted, new_drep, refreshed, voters_refreshed, withdrawn}
 use Rattle.ledger_model.specs.Draft.{draft_with, is_refused, last_draft}
-use Rattle.ledger_model.specs.Transaction.{after_failed, after_passed, after_scripts, made_proposal, made_proposals, with_votes, world_after_tx}
+use Rattle.ledger_model.specs.Transaction.{after_passed, after_scripts, made_proposal, made_proposals, with_votes}
+use Rattle.run_model.specs.World.{World}
 use Rattle.run_model.specs.Boundary.{after_members, after_rewards, update_applied, world_after_boundary}
 use Rattle.run_model.specs.Genesis.{world_of_genesis}
 use Rattle.run_model.specs.Laws.{DormantBound}
-use Rattle.run_model.specs.Limits.{are_params, is_action, is_genesis, is_readable, is_slot, is_tx, is_u32}
+use Rattle.tx_records.specs.Limits.{are_params, is_action, is_slot, is_u32}
+use Rattle.tx_records.specs.GenesisLimits as genesis_limits
+use Rattle.tx_records.specs.RecordLimits.{is_within_limits}
+use Rattle.tx_records.specs.TxLimits as tx_limits
 use Rattle.run_model.specs.Runs.{IsReached, world_after_all}
-use Rattle.run_model.specs.Step.{crossed, enters_next, in_order_of_credential, pulsed, refusal_of, step, step_by, world_after}
+use Rattle.run_model.specs.Step.{crossed, enters_next, refusal_of, step, step_by, world_after_accepted}
 use Rattle.run_laws.proofs.Lists.{all_append, all_weaken, left_of, right_of}
 
 -- what holds of each item, after a map and after a filter
@@ -101,8 +107,8 @@ module _ (P : DrepState → Type 0) where
 -- the same where some values change, and the claim with them
 each_changed : (P Q : DrepState → Type 0) (p : Credential → DrepState → Bool) (f : DrepState → DrepState) → ((x : DrepState) → P x → Q (f x)) → ((x : DrepState) → P x → Q x)
     → (es : List (Credential × DrepState)) → EachDrep P es → EachDrep Q (changed_where p f es)
-each_changed P Q p f k l [] h = tt
-each_changed P Q p f k l (e ∷ es) h = (by_test Q (p e.0 e.1) (f e.1) e.1 (k e.1 h.0) (l e.1 h.0), each_changed P Q p f k l es h.1)
+each_changed P Q p f k j [] h = tt
+each_changed P Q p f k j (e ∷ es) h = (by_test Q (p e.0 e.1) (f e.1) e.1 (k e.1 h.0) (j e.1 h.0), each_changed P Q p f k j es h.1)
 
 -- no epoch is dormant, or no proposal is live
 abbrev IsAwake : ℕ → List Proposal → Type 0
@@ -110,10 +116,10 @@ IsAwake dormant ps = (dormant ≡ 0) ⊎ (ps ≡ [])
 
 awake_made : (f : Proposal → Proposal) (dormant : ℕ) (ps : List Proposal) → IsAwake dormant ps → IsAwake dormant (map f ps)
 awake_made f dormant ps (inl e) = inl e
-awake_made f dormant ps (inr e) = inr (ap (λ (l : List Proposal). map f l) e)
+awake_made f dormant ps (inr e) = inr (ap (λ (list : List Proposal). map f list) e)
 
 -- certificates leave the dormant count
-cert_dormant : (c : Cert) (d : World) → (changed_by c d).dormant ≡ d.dormant
+cert_dormant : (c : Cert) (d : Ledger) → (changed_by c d).dormant ≡ d.dormant
 cert_dormant (AccountReg cred deposit pool drep) d = refl
 cert_dormant (AccountUnreg cred refund) d = refl
 cert_dormant (Delegate cred pool drep) d = refl
@@ -125,29 +131,29 @@ cert_dormant (DrepUpdate cred) d = refl
 cert_dormant (HotAuth cold key) d = refl
 cert_dormant (HotResign cold) d = refl
 
-either_dormant : (b : Bool) (c : Cert) (d : World) → (cond b d (changed_by c d)).dormant ≡ d.dormant
+either_dormant : (b : Bool) (c : Cert) (d : Ledger) → (cond b d (changed_by c d)).dormant ≡ d.dormant
 either_dormant true c d = refl
 either_dormant false c d = cert_dormant c d
 
-certs_dormant : (w : World) (cs : List Cert) (d : World) → (fold (draft_with w) d cs).dormant ≡ d.dormant
-certs_dormant w [] d = refl
-certs_dormant w (c ∷ cs) d = certs_dormant w cs (draft_with w d c) ∙ either_dormant (is_refused w d c) c d
+certs_dormant : (l : Ledger) (cs : List Cert) (d : Ledger) → (fold (draft_with l) d cs).dormant ≡ d.dormant
+certs_dormant l [] d = refl
+certs_dormant l (c ∷ cs) d = certs_dormant l cs (draft_with l d c) ∙ either_dormant (is_refused l d c) c d
 
 -- a proposal ends the dormant epochs
-awake_after : (w : World) (id : TxId) (ps : List ProposalRecord) (old : List Proposal) (dormant : ℕ) → IsAwake dormant old → (is_empty ps ≡ false → dormant ≡ 0)
-    → IsAwake dormant (old ++ map (λ p. made_proposal w id p.0 p.1) (enumerate_from 0 ps))
-awake_after w id [] old dormant (inl e) k = inl e
-awake_after w id [] old dormant (inr e) k = inr (ap (λ (l : List Proposal). l ++ []) e)
-awake_after w id (p ∷ ps) old dormant a k = inl (k refl)
+awake_after : (l : Ledger) (id : TxId) (ps : List ProposalRecord) (old : List Proposal) (dormant : ℕ) → IsAwake dormant old → (is_empty ps ≡ false → dormant ≡ 0)
+    → IsAwake dormant (old ++ map (λ p. made_proposal l id p.0 p.1) (enumerate_from 0 ps))
+awake_after l id [] old dormant (inl e) k = inl e
+awake_after l id [] old dormant (inr e) k = inr (ap (λ (list : List Proposal). list ++ []) e)
+awake_after l id (p ∷ ps) old dormant a k = inl (k refl)
 
-refresh_dormant : (b : Bool) (tx : Tx) (v : World) → b ≡ false → (voters_refreshed tx (cond b v (dormant_added v))).dormant ≡ 0
+refresh_dormant : (b : Bool) (tx : Tx) (v : Ledger) → b ≡ false → (voters_refreshed tx (cond b v (dormant_added v))).dormant ≡ 0
 refresh_dormant true tx v e = cc
 refresh_dormant false tx v e = refl
 
 -- where there was no proposal the boundary keeps none, and it counts an epoch only where none is left
 none_kept : (dormant : ℕ) (ps : List Proposal) (enacted expired : List ActionId) (last : LastIds) → IsAwake dormant ps → IsAwake dormant (kept_of ps enacted expired last)
 none_kept dormant ps enacted expired last (inl e) = inl e
-none_kept dormant ps enacted expired last (inr e) = inr (ap (λ (l : List Proposal). kept_of l enacted expired last) e)
+none_kept dormant ps enacted expired last (inr e) = inr (ap (λ (list : List Proposal). kept_of list enacted expired last) e)
 
 noted_awake : (ps : List Proposal) (dormant : ℕ) → IsAwake dormant ps → IsAwake (cond (is_empty ps) (dormant + 1) dormant) ps
 noted_awake [] dormant a = inr refl
@@ -177,10 +183,10 @@ module _ (most : ℕ) where
   abbrev AreActiveRecords : List ProposalRecord → Type 0
   AreActiveRecords ps = AllByRecursion (λ (p : ProposalRecord). IsActiveAction p.action) ps
 
-  made_live : (w : World) (id : TxId) (n : ℕ) (ps : List ProposalRecord) → AreActiveRecords ps
-      → AreActive (map (λ p. made_proposal w id p.0 p.1) (enumerate_from n ps))
-  made_live w id n [] h = tt
-  made_live w id n (p ∷ ps) h = (h.0, made_live w id (n + 1) ps h.1)
+  made_live : (l : Ledger) (id : TxId) (n : ℕ) (ps : List ProposalRecord) → AreActiveRecords ps
+      → AreActive (map (λ p. made_proposal l id p.0 p.1) (enumerate_from n ps))
+  made_live l id n [] h = tt
+  made_live l id n (p ∷ ps) h = (h.0, made_live l id (n + 1) ps h.1)
 
   -- enacting such proposals leaves the activity within its range
   overlaid : (o : Option ℕ) (n : ℕ) → n ≤ most → IsActive o → unwrap_or o n ≤ most
@@ -215,145 +221,135 @@ module _ (top most : ℕ) where
   abbrev IsTimely : ℕ → ℕ → DrepState → Type 0
   IsTimely dormant epoch d = d.expiry + dormant ≤ top + most + epoch
 
-  -- the law, with the activity of the parameters that live and frozen proposals leave within its range
-  record IsWithin (w : World) : Type 0 where
-    awake : IsAwake w.dormant w.proposals
-    at_most : w.dormant ≤ w.epoch
-    dreps : EachDrep (IsTimely w.dormant w.epoch) w.dreps
-    activity : w.state.params.drep_activity ≤ most
-    start : w.frozen.start.params.drep_activity ≤ most
-    live : AreActive most w.proposals
-    frozen : AreActive most w.frozen.proposals
+  -- the law, with the activity of the parameters and that which live proposals leave within its range
+  record AreWithin (dormant epoch length : ℕ) (ps : List Proposal) (es : List (Credential × DrepState)) : Type 0 where
+    awake : IsAwake dormant ps
+    at_most : dormant ≤ epoch
+    dreps : EachDrep (IsTimely dormant epoch) es
+    activity : length ≤ most
+    live : AreActive most ps
 
-  fresh_is_timely : (w : World) → IsWithin w → fresh_expiry w + w.dormant ≤ top + most + w.epoch
-  fresh_is_timely w h = omega (arith, h.at_most, h.activity)
+  abbrev IsWithin : Ledger → Type 0
+  IsWithin l = AreWithin l.dormant l.epoch l.state.params.drep_activity l.proposals l.dreps
+
+  fresh_is_timely : (l : Ledger) → IsWithin l → fresh_expiry l + l.dormant ≤ top + most + l.epoch
+  fresh_is_timely l h = omega (arith, h.at_most, h.activity)
 
   -- where only the DReps change
-  dreps_within : (w : World) (es : List (Credential × DrepState)) → IsWithin w → EachDrep (IsTimely w.dormant w.epoch) es → IsWithin (record w { dreps = es })
-  dreps_within w es h d = record { awake = h.awake; at_most = h.at_most; dreps = d; activity = h.activity; start = h.start; live = h.live; frozen = h.frozen }
+  dreps_within : (l : Ledger) (es : List (Credential × DrepState)) → IsWithin l → EachDrep (IsTimely l.dormant l.epoch) es → IsWithin (record l { dreps = es })
+  dreps_within l es h d = record { awake = h.awake; at_most = h.at_most; dreps = d; activity = h.activity; live = h.live }
 
-  acted_within : (p : Credential → DrepState → Bool) (w : World) → IsWithin w → IsWithin (record w { dreps = changed_where p (having_acted w) w.dreps })
-  acted_within p w h =
-      dreps_within w (changed_where p (having_acted w) w.dreps) h
-      (each_changed (IsTimely w.dormant w.epoch) (IsTimely w.dormant w.epoch) p (having_acted w) (λ x k. fresh_is_timely w h) (λ x k. k) w.dreps h.dreps)
+  acted_within : (p : Credential → DrepState → Bool) (l : Ledger) → IsWithin l → IsWithin (record l { dreps = changed_where p (having_acted l) l.dreps })
+  acted_within p l h =
+      dreps_within l (changed_where p (having_acted l) l.dreps) h
+      (each_changed (IsTimely l.dormant l.epoch) (IsTimely l.dormant l.epoch) p (having_acted l) (λ x k. fresh_is_timely l h) (λ x k. k) l.dreps h.dreps)
 
-  cert_within : (c : Cert) (w : World) → IsWithin w → IsWithin (changed_by c w)
-  cert_within (AccountReg cred deposit pool drep) w h = record { awake = h.awake; at_most = h.at_most; dreps = h.dreps; activity = h.activity; start = h.start; live = h.live; frozen = h.frozen }
-  cert_within (AccountUnreg cred refund) w h = record { awake = h.awake; at_most = h.at_most; dreps = h.dreps; activity = h.activity; start = h.start; live = h.live; frozen = h.frozen }
-  cert_within (Delegate cred pool drep) w h = record { awake = h.awake; at_most = h.at_most; dreps = h.dreps; activity = h.activity; start = h.start; live = h.live; frozen = h.frozen }
-  cert_within (PoolReg pool cost pledge margin account) w h = record { awake = h.awake; at_most = h.at_most; dreps = h.dreps; activity = h.activity; start = h.start; live = h.live; frozen = h.frozen }
-  cert_within (PoolRetire pool epoch) w h = record { awake = h.awake; at_most = h.at_most; dreps = h.dreps; activity = h.activity; start = h.start; live = h.live; frozen = h.frozen }
-  cert_within (DrepReg cred deposit) w h =
-      dreps_within w (with_value credential_cmp cred (new_drep w) w.dreps) h (each_with_value (IsTimely w.dormant w.epoch) cred (new_drep w) w.dreps (fresh_is_timely w h) h.dreps)
-  cert_within (DrepUnreg cred refund) w h =
-      record {
-        awake = awake_made (without_vote_of (voter.Drep cred)) w.dormant w.proposals h.awake;
-        at_most = h.at_most;
-        dreps = each_without_key (IsTimely w.dormant w.epoch) cred w.dreps h.dreps;
-        activity = h.activity;
-        start = h.start;
-        live = all_made (λ (p : Proposal). IsActiveAction most p.action) (λ (p : Proposal). IsActiveAction most p.action) (without_vote_of (voter.Drep cred)) (λ p k. k) w.proposals h.live;
-        frozen = h.frozen;
-      }
-  cert_within (DrepUpdate cred) w h = acted_within (λ q x. eq_by_cmp credential_cmp cred q) w h
-  cert_within (HotAuth cold key) w h = record { awake = h.awake; at_most = h.at_most; dreps = h.dreps; activity = h.activity; start = h.start; live = h.live; frozen = h.frozen }
-  cert_within (HotResign cold) w h = record { awake = h.awake; at_most = h.at_most; dreps = h.dreps; activity = h.activity; start = h.start; live = h.live; frozen = h.frozen }
+  votes_within : (f : Proposal → Proposal) → ((p : Proposal) → IsActiveAction most p.action → IsActiveAction most (f p).action) → (ps : List Proposal) → AreActive most ps → AreActive most (map f ps)
+  votes_within f k ps h = all_made (λ (p : Proposal). IsActiveAction most p.action) (λ (p : Proposal). IsActiveAction most p.action) f k ps h
 
-  either_within : (b : Bool) (c : Cert) (d : World) → IsWithin d → IsWithin (cond b d (changed_by c d))
+  cert_within : (c : Cert) (l : Ledger) → IsWithin l → IsWithin (changed_by c l)
+  cert_within (AccountReg cred deposit pool drep) l h = h
+  cert_within (AccountUnreg cred refund) l h = h
+  cert_within (Delegate cred pool drep) l h = h
+  cert_within (PoolReg pool cost pledge margin account) l h = h
+  cert_within (PoolRetire pool epoch) l h = h
+  cert_within (DrepReg cred deposit) l h =
+      dreps_within l (with_value credential_cmp cred (new_drep l) l.dreps) h (each_with_value (IsTimely l.dormant l.epoch) cred (new_drep l) l.dreps (fresh_is_timely l h) h.dreps)
+  cert_within (DrepUnreg cred refund) l h = record {
+    awake = awake_made (without_vote (voter.Drep cred)) l.dormant l.proposals h.awake;
+    at_most = h.at_most;
+    dreps = each_without_key (IsTimely l.dormant l.epoch) cred l.dreps h.dreps;
+    activity = h.activity;
+    live = votes_within (without_vote (voter.Drep cred)) (λ p k. k) l.proposals h.live;
+  }
+  cert_within (DrepUpdate cred) l h = acted_within (λ q x. eq_by_cmp credential_cmp cred q) l h
+  cert_within (HotAuth cold key) l h = h
+  cert_within (HotResign cold) l h = h
+
+  either_within : (b : Bool) (c : Cert) (d : Ledger) → IsWithin d → IsWithin (cond b d (changed_by c d))
   either_within true c d h = h
   either_within false c d h = cert_within c d h
 
-  certs_within : (w : World) (cs : List Cert) (d : World) → IsWithin d → IsWithin (fold (draft_with w) d cs)
-  certs_within w [] d h = h
-  certs_within w (c ∷ cs) d h = certs_within w cs (draft_with w d c) (either_within (is_refused w d c) c d h)
+  certs_within : (l : Ledger) (cs : List Cert) (d : Ledger) → IsWithin d → IsWithin (fold (draft_with l) d cs)
+  certs_within l [] d h = h
+  certs_within l (c ∷ cs) d h = certs_within l cs (draft_with l d c) (either_within (is_refused l d c) c d h)
 
   -- the refresh
-  withdrawn_within : (tx : Tx) (w : World) → IsWithin w → IsWithin (withdrawn tx w)
-  withdrawn_within tx w h = record { awake = h.awake; at_most = h.at_most; dreps = h.dreps; activity = h.activity; start = h.start; live = h.live; frozen = h.frozen }
+  added_within : (l : Ledger) → IsWithin l → IsWithin (dormant_added l)
+  added_within l h = record {
+    awake = inl refl;
+    at_most = omega arith;
+    dreps = each_changed (IsTimely l.dormant l.epoch) (IsTimely 0 l.epoch) (λ c d. is_kept_active l.epoch l.dormant d) (extended l.dormant) (λ x k. omega (arith, k)) (λ x k. omega (arith, k)) l.dreps h.dreps;
+    activity = h.activity;
+    live = h.live;
+  }
 
-  added_within : (w : World) → IsWithin w → IsWithin (dormant_added w)
-  added_within w h =
+  refresh_within : (b : Bool) (tx : Tx) (l : Ledger) → IsWithin l → IsWithin (voters_refreshed tx (cond b l (dormant_added l)))
+  refresh_within true tx l h = acted_within (λ c d. has_voted tx c) l h
+  refresh_within false tx l h = acted_within (λ c d. has_voted tx c) (dormant_added l) (added_within l h)
+
+  draft_within : (tx : Tx) (l : Ledger) → IsWithin l → IsWithin (last_draft l tx)
+  draft_within tx l h = certs_within l (take (length tx.certs) tx.certs) (refreshed tx (withdrawn tx l)) (refresh_within (is_empty tx.proposals) tx (withdrawn tx l) h)
+
+  passed_within : (l : Ledger) (tx : Tx) → IsWithin l → AreActiveRecords most tx.proposals → IsWithin (after_passed l tx)
+  passed_within l tx h new =
+      let d : Ledger = last_draft l tx in
+      let k : IsWithin d = draft_within tx l h in
       record {
-        awake = inl refl;
-        at_most = omega arith;
-        dreps = each_changed (IsTimely w.dormant w.epoch) (IsTimely 0 w.epoch) (λ c d. is_kept_active w d) (extended w) (λ x k. omega (arith, k)) (λ x k. omega (arith, k)) w.dreps h.dreps;
-        activity = h.activity;
-        start = h.start;
-        live = h.live;
-        frozen = h.frozen;
-      }
-
-  refresh_within : (b : Bool) (tx : Tx) (w : World) → IsWithin w → IsWithin (voters_refreshed tx (cond b w (dormant_added w)))
-  refresh_within true tx w h = acted_within (λ c d. has_voted tx c) w h
-  refresh_within false tx w h = acted_within (λ c d. has_voted tx c) (dormant_added w) (added_within w h)
-
-  draft_within : (tx : Tx) (w : World) → IsWithin w → IsWithin (last_draft w tx)
-  draft_within tx w h =
-      certs_within w (take (length tx.certs) tx.certs) (refreshed tx (withdrawn tx w)) (refresh_within (is_empty tx.proposals) tx (withdrawn tx w) (withdrawn_within tx w h))
-
-  passed_within : (w : World) (tx : Tx) → IsWithin w → AreActiveRecords most tx.proposals → IsWithin (after_passed w tx)
-  passed_within w tx h new =
-      let d : World = last_draft w tx in
-      let k : IsWithin d = draft_within tx w h in
-      record {
-        awake = awake_after w tx.id tx.proposals (map (with_votes tx) d.proposals) d.dormant (awake_made (with_votes tx) d.dormant d.proposals k.awake) (
-            λ e. certs_dormant w (take (length tx.certs) tx.certs) (refreshed tx (withdrawn tx w)) ∙ refresh_dormant (is_empty tx.proposals) tx (withdrawn tx w) e
+        awake = awake_after l tx.id tx.proposals (map (with_votes tx) d.proposals) d.dormant (awake_made (with_votes tx) d.dormant d.proposals k.awake) (
+            λ e. certs_dormant l (take (length tx.certs) tx.certs) (refreshed tx (withdrawn tx l)) ∙ refresh_dormant (is_empty tx.proposals) tx (withdrawn tx l) e
             );
         at_most = k.at_most;
         dreps = k.dreps;
         activity = k.activity;
-        start = k.start;
-        live = all_append (λ (p : Proposal). IsActiveAction most p.action) (map (with_votes tx) d.proposals) (made_proposals w tx) (all_made (λ (p : Proposal). IsActiveAction most p.action) (λ (p : Proposal). IsActiveAction most p.action) (with_votes tx) (λ p k. k) d.proposals k.live) (made_live most w tx.id 0 tx.proposals new);
-        frozen = k.frozen;
+        live = all_append (λ (p : Proposal). IsActiveAction most p.action) (map (with_votes tx) d.proposals) (made_proposals l tx)
+            (votes_within (with_votes tx) (λ p k. k) d.proposals k.live) (made_live most l tx.id 0 tx.proposals new);
       }
 
-  failed_within : (w : World) (tx : Tx) → IsWithin w → IsWithin (after_failed w tx)
-  failed_within w tx h = record { awake = h.awake; at_most = h.at_most; dreps = h.dreps; activity = h.activity; start = h.start; live = h.live; frozen = h.frozen }
+  tx_within : (sc : Scripts) (l : Ledger) (tx : Tx) → IsWithin l → AreActiveRecords most tx.proposals → IsWithin (after_scripts sc l tx)
+  tx_within Absent l tx h new = passed_within l tx h new
+  tx_within Passed l tx h new = passed_within l tx h new
+  tx_within Failed l tx h new = h
 
-  by_scripts : (sc : Scripts) (w : World) (tx : Tx) → IsWithin (after_failed w tx) → IsWithin (after_passed w tx) → IsWithin (after_scripts sc w tx)
-  by_scripts Absent w tx f p = p
-  by_scripts Passed w tx f p = p
-  by_scripts Failed w tx f p = f
-
-  tx_within : (w : World) (tx : Tx) → IsWithin w → AreActiveRecords most tx.proposals → IsWithin (world_after_tx w tx)
-  tx_within w tx h new = by_scripts tx.scripts w tx (failed_within w tx h) (passed_within w tx h new)
+  -- the same of a World, and of what it froze
+  record IsWithinWorld (w : World) : Type 0 where
+    ledger : IsWithin w.ledger
+    start : w.frozen.start.params.drep_activity ≤ most
+    frozen : AreActive most w.frozen.proposals
 
   -- the boundary
-  update_within : (o : Option Rewards) (w : World) → IsWithin w → IsWithin (update_applied o w)
-  update_within None w h = h
-  update_within (Some u) w h = record { awake = h.awake; at_most = h.at_most; dreps = h.dreps; activity = h.activity; start = h.start; live = h.live; frozen = h.frozen }
+  update_within : (o : Option Rewards) (l : Ledger) → IsWithin l → IsWithin (update_applied o l)
+  update_within None l h = h
+  update_within (Some u) l h = h
 
-  boundary_within : (w : World) → IsWithin w → IsWithin (world_after_boundary w)
+  boundary_within : (w : World) → IsWithinWorld w → IsWithinWorld (world_after_boundary w)
   boundary_within w h =
-      let v : World = after_rewards w in
-      let k : IsWithin v = update_within w.pending w h in
-      let kept : List Proposal = (after_members w).proposals in
-      let most_now : cond (is_empty kept) (v.dormant + 1) v.dormant ≤ v.dormant + 1 = noted_most (is_empty kept) v.dormant in
-      let activity : (world_after_boundary w).state.params.drep_activity ≤ most = enacted_active most v.frozen k.start k.frozen in
-      let live : AreActive most kept = all_passing (λ (p : Proposal). IsActiveAction most p.action) _ _ (all_passing (λ (p : Proposal). IsActiveAction most p.action) _ v.proposals k.live) in
+      let l : Ledger = (after_rewards w).ledger in
+      let k : IsWithin l = update_within w.pending w.ledger h.ledger in
+      let kept : List Proposal = (after_members w).ledger.proposals in
+      let most_now : cond (is_empty kept) (l.dormant + 1) l.dormant ≤ l.dormant + 1 = noted_most (is_empty kept) l.dormant in
+      let activity : (world_after_boundary w).ledger.state.params.drep_activity ≤ most = enacted_active most w.frozen h.start h.frozen in
+      let live : AreActive most kept = all_passing (λ (p : Proposal). IsActiveAction most p.action) _ _ (all_passing (λ (p : Proposal). IsActiveAction most p.action) _ l.proposals k.live) in
       record {
-        awake = noted_awake kept v.dormant (none_kept v.dormant v.proposals _ _ _ k.awake);
-        at_most = omega (arith, most_now, k.at_most);
-        dreps = all_weaken (λ (e : Credential × DrepState). IsTimely v.dormant v.epoch e.1) (λ (e : Credential × DrepState). IsTimely (cond (is_empty kept) (v.dormant + 1) v.dormant) (v.epoch + 1) e.1) (λ e l. omega (arith, l, most_now)) v.dreps k.dreps;
-        activity = activity;
+        ledger = record {
+          awake = noted_awake kept l.dormant (none_kept l.dormant l.proposals _ _ _ k.awake);
+          at_most = omega (arith, most_now, k.at_most);
+          dreps = all_weaken (λ (e : Credential × DrepState). IsTimely l.dormant l.epoch e.1)
+              (λ (e : Credential × DrepState). IsTimely (cond (is_empty kept) (l.dormant + 1) l.dormant) (l.epoch + 1) e.1) (λ e j. omega (arith, j, most_now)) l.dreps k.dreps;
+          activity = activity;
+          live = live;
+        };
         start = activity;
-        live = live;
         frozen = live;
       }
 
-  crossed_within : (b : Bool) (w : World) → IsWithin w → IsWithin (crossed b w)
+  crossed_within : (b : Bool) (w : World) → IsWithinWorld w → IsWithinWorld (crossed b w)
   crossed_within true w h = boundary_within w h
   crossed_within false w h = h
 
-  pulsed_within : (slot pulse : ℕ) (w : World) → IsWithin w → IsWithin (pulsed slot pulse w)
-  pulsed_within slot pulse w h = record { awake = h.awake; at_most = h.at_most; dreps = h.dreps; activity = h.activity; start = h.start; live = h.live; frozen = h.frozen }
-
-  pending_within : (u : Rewards) (w : World) → IsWithin w → IsWithin (record w { pending = Some (in_order_of_credential u) })
-  pending_within u w h = record { awake = h.awake; at_most = h.at_most; dreps = h.dreps; activity = h.activity; start = h.start; live = h.live; frozen = h.frozen }
-
 -- the bound of the law
 abbrev IsBounded : World → Type 0
-IsBounded w = IsWithin (2 ^ 62) (2 ^ 32) w
+IsBounded w = IsWithinWorld (2 ^ 62) (2 ^ 32) w
 
 -- what reading gives of activities
 short : (n : ℕ) → is_u32 n ≡ true → n ≤ 2 ^ 32
@@ -376,7 +372,7 @@ actions_active : (ps : List ProposalRecord) → list_all (λ (p : ProposalRecord
 actions_active [] h = tt
 actions_active (p ∷ ps) h = (action_active p.action (left_of _ _ h), actions_active ps (right_of _ _ h))
 
-tx_active : (tx : Tx) → is_tx tx ≡ true → AreActiveRecords (2 ^ 32) tx.proposals
+tx_active : (tx : Tx) → tx_limits.is_within_limits tx ≡ true → AreActiveRecords (2 ^ 32) tx.proposals
 tx_active tx h = actions_active tx.proposals (right_of _ _ (left_of _ _ (left_of _ _ (left_of _ _ (left_of _ _ (left_of _ _ (left_of _ _ h)))))))
 
 -- the genesis
@@ -396,41 +392,44 @@ all_early epoch (d ∷ ds) h = (early d.2 epoch (left_of _ _ h), all_early epoch
 at_least_none : (n : ℕ) → 0 ≤ n
 at_least_none n = omega arith
 
-genesis_bounded : (g : Genesis) → is_genesis g ≡ true → IsBounded (world_of_genesis g)
+genesis_bounded : (g : Genesis) → genesis_limits.is_within_limits g ≡ true → IsBounded (world_of_genesis g)
 genesis_bounded g h =
     let params : are_params g.params ≡ true = right_of _ _ (left_of _ _ h) in
     let activity : g.params.drep_activity ≤ 2 ^ 32 = short g.params.drep_activity (right_of _ _ (left_of _ _ params)) in
     let expiries : list_all (λ (d : Drep3). is_slot d.2) g.dreps ≡ true = right_of _ _ (left_of _ _ (left_of _ _ h)) in
+    let epoch : ℕ = (world_of_genesis g).ledger.epoch in
     record {
-      awake = inl refl;
-      at_most = at_least_none (world_of_genesis g).epoch;
-      dreps = each_with_values (IsTimely (2 ^ 62) (2 ^ 32) 0 (world_of_genesis g).epoch) (map as_entry g.dreps) [] (all_early (world_of_genesis g).epoch g.dreps expiries) tt;
-      activity = activity;
+      ledger = record {
+        awake = inl refl;
+        at_most = at_least_none epoch;
+        dreps = each_with_values (IsTimely (2 ^ 62) (2 ^ 32) 0 epoch) (map as_entry g.dreps) [] (all_early epoch g.dreps expiries) tt;
+        activity = activity;
+        live = tt;
+      };
       start = activity;
-      live = tt;
       frozen = tt;
     }
 
 -- each record
-accepted_bounded : (w : World) (r : Record) → IsBounded w → is_readable r ≡ true → IsBounded (world_after w r)
+accepted_bounded : (w : World) (r : Record) → IsBounded w → is_within_limits r ≡ true → IsBounded (world_after_accepted w r)
 accepted_bounded w (records.Genesis g) b h = b
-accepted_bounded w (records.Block slot pulse) b h = pulsed_within (2 ^ 62) (2 ^ 32) slot pulse (crossed (enters_next w slot) w) (crossed_within (2 ^ 62) (2 ^ 32) (enters_next w slot) w b)
-accepted_bounded w (records.Rewards u) b h = pending_within (2 ^ 62) (2 ^ 32) u w b
-accepted_bounded w (records.Tx tx) b h = tx_within (2 ^ 62) (2 ^ 32) w tx b (tx_active tx h)
+accepted_bounded w (records.Block slot pulse) b h = let c = crossed_within (2 ^ 62) (2 ^ 32) (enters_next w.ledger slot) w b in record { ledger = c.ledger; start = c.start; frozen = c.frozen }
+accepted_bounded w (records.Rewards u) b h = record { ledger = b.ledger; start = b.start; frozen = b.frozen }
+accepted_bounded w (records.Tx tx) b h = record { ledger = tx_within (2 ^ 62) (2 ^ 32) tx.scripts w.ledger tx b.ledger (tx_active tx h); start = b.start; frozen = b.frozen }
 accepted_bounded w (records.Print what) b h = b
 
-bounded_by : (o : Option Rule) (w : World) (r : Record) → IsBounded w → is_readable r ≡ true → IsBounded (step_by o w r).0
+bounded_by : (o : Option Rule) (w : World) (r : Record) → IsBounded w → is_within_limits r ≡ true → IsBounded (step_by o w r).0
 bounded_by (Some rule) w r b h = b
 bounded_by None w r b h = accepted_bounded w r b h
 
-all_bounded : (rs : List Record) (w : World) → IsBounded w → list_all is_readable rs ≡ true → IsBounded (world_after_all w rs)
+all_bounded : (rs : List Record) (w : World) → IsBounded w → list_all is_within_limits rs ≡ true → IsBounded (world_after_all w rs)
 all_bounded [] w b h = b
 all_bounded (r ∷ rs) w b h = all_bounded rs (step w r).0 (bounded_by (refusal_of w r) w r b (left_of _ _ h)) (right_of _ _ h)
 
 reached_bounded : (w : World) → IsReached w → IsBounded w
-reached_bounded w h = subst (λ (v : World). IsBounded v) h.reached (all_bounded h.records (world_of_genesis h.genesis) (genesis_bounded h.genesis h.readable) h.all_readable)
+reached_bounded w h = subst (λ (v : World). IsBounded v) h.reached (all_bounded h.records (world_of_genesis h.genesis) (genesis_bounded h.genesis h.within) h.all_within)
 
 pub dormant_bound : DormantBound
 dormant_bound w h =
-    let b : IsBounded w = reached_bounded w h in
-    record { awake = b.awake; at_most = b.at_most; expiries = λ c d e. each_found (IsTimely (2 ^ 62) (2 ^ 32) w.dormant w.epoch) w.dreps c d b.dreps e }
+    let b : IsWithin (2 ^ 62) (2 ^ 32) w.ledger = (reached_bounded w h).ledger in
+    record { awake = b.awake; at_most = b.at_most; expiries = λ c d e. each_found (IsTimely (2 ^ 62) (2 ^ 32) w.ledger.dormant w.ledger.epoch) w.ledger.dreps c d b.dreps e }

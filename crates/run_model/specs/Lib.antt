@@ -1,8 +1,8 @@
+pub mod World
 pub mod Freeze
 pub mod Boundary
 pub mod Report
 pub mod Genesis
-pub mod Limits
 pub mod Step
 pub mod Runs
 pub mod BoundaryFlows

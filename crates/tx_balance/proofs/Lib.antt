@@ -6,3 +6,4 @@ pub mod Certs
 pub mod Drafts
 pub mod Passed
 pub mod Supplies
+pub mod Sounds

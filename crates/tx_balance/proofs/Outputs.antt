@@ -1,5 +1,6 @@
 -- Outputs that leave and come: what they hold together.
 use Rattle.std.proofs.Common.{◌≡◌, ℕ, ◌+◌, ◌<◌, List, [], ◌∷◌, ◌++◌, Bool, true, false, cond, ◌||◌, Option, Some, None, map, sum_by, take, length, refl, ap, sym, subst, ◌∙◌, arith, append_assoc, length-append}
+use Rattle.std.proofs.lemmas.Bool.{or_parts}
 use Rattle.std.specs.List.{AllByRecursion, IsDistinct, list_any, enumerate_from}
 use Rattle.std.specs.Map.{keys_of, values_of}
 use Rattle.std.proofs.lemmas.List.Sums.{sum_by-cons}
@@ -12,6 +13,7 @@ use Rattle.std.proofs.Math.Seq.{take-append_seam}
 use Rattle.maps.specs.Maps.{value_at, has_member, with_values, without_keys}
 use Rattle.maps.proofs.Lookups.{value_at-without_keys}
 use Rattle.maps.proofs.Several.{sum_values-with_values, sum_values-without_keys}
+use Rattle.maps.proofs.Ties.{is_equal}
 use Rattle.gov_ids.specs.declared.OutRef.{OutRef}
 use Rattle.gov_ids.specs.declared.TxId.{TxId}
 use Rattle.gov_ids.specs.Orders.{outref_cmp, txid_cmp}
@@ -19,32 +21,24 @@ use Rattle.gov_ids.specs.Same.{same_outref}
 use Rattle.gov_ids.proofs.Exacts.{outref_exact}
 use Rattle.gov_ids.proofs.Totals.{outref_total}
 use Rattle.book_records.specs.declared.Output.{Output}
-use Rattle.ledger_model.specs.World.{World}
+use Rattle.ledger_model.specs.Ledger.{Ledger}
 use Rattle.ledger_model.specs.Checks.{Check, per_place_from}
-use Rattle.ledger_model.specs.OutputRules.{lovelace_at, is_spent_before}
+use Rattle.ledger_model.specs.UtxoRules.{lovelace_at, is_spent_before}
 use Rattle.book_records.specs.Outputs.{lovelace_in}
 use Rattle.ledger_model.specs.Sound.{IsSound}
 use Rattle.ledger_model.proofs.Unbroken.{IsUnbroken, unbroken-per_place}
-
-pub or_both_false : (b c : Bool) → (b || c) ≡ false → (b ≡ false) × (c ≡ false)
-or_both_false true c h = cc
-or_both_false false c h = (refl, h)
 
 -- the references of a list that no check finds earlier in it stand once
 module _ (all : List OutRef) where
   abbrev AreFresh : List OutRef → List OutRef → Type 0
   AreFresh front rs = AllByRecursion (λ r. list_any (same_outref r) front ≡ false) rs
 
-  two_parts : (b c : Bool) → (b || c) ≡ false → (b ≡ false) × (c ≡ false)
-  two_parts true c h = cc
-  two_parts false c h = (refl, h)
-
   fresh-parts : (front : List OutRef) (x : OutRef) (rs : List OutRef) → AreFresh (front ++ x ∷ []) rs → AreFresh front rs × AllByRecursion (λ r. same_outref x r ≡ false) rs
   fresh-parts front x [] h = (tt, tt)
   fresh-parts front x (r ∷ rs) h =
-      let parts : (list_any (same_outref r) front ≡ false) × ((same_outref r x || false) ≡ false) = two_parts _ _ (sym (list_any-append (same_outref r) front (x ∷ [])) ∙ h.0) in
+      let parts : (list_any (same_outref r) front ≡ false) × ((same_outref r x || false) ≡ false) = or_parts _ _ (sym (list_any-append (same_outref r) front (x ∷ [])) ∙ h.0) in
       let more : AreFresh front rs × AllByRecursion (λ r. same_outref x r ≡ false) rs = fresh-parts front x rs h.1 in
-      ((parts.0, more.0), ((eq_by_cmp_equiv outref_total).symm x r ∙ (two_parts _ _ parts.1).0, more.1))
+      ((parts.0, more.0), ((eq_by_cmp_equiv outref_total).symm x r ∙ (or_parts _ _ parts.1).0, more.1))
 
   -- no reference of rs stands in the front before it
   pub all_fresh : (checks : ℕ → OutRef → List Check)
@@ -56,12 +50,12 @@ module _ (all : List OutRef) where
   all_fresh checks says front (r ∷ rs) e h =
       let both : IsUnbroken (checks (length front) r) × IsUnbroken (per_place_from checks (length front + 1) rs) = unbroken-per_place checks (length front) r rs h in
       let here : list_any (same_outref r) (take (length front) all) ≡ false = says (length front) r both.0 in
-      let seam : take (length front) all ≡ front = ap (λ (l : List OutRef). take (length front) l) (sym e) ∙ take-append_seam front (r ∷ rs) in
+      let seam : take (length front) all ≡ front = ap (λ (list : List OutRef). take (length front) list) (sym e) ∙ take-append_seam front (r ∷ rs) in
       let n : length (front ++ r ∷ []) ≡ length front + 1 = length-append front (r ∷ []) in
       let more : AreFresh (front ++ r ∷ []) rs × IsDistinct same_outref rs =
       all_fresh checks says (front ++ r ∷ []) rs (append_assoc front (r ∷ []) rs ∙ e) (subst (λ (k : ℕ). IsUnbroken (per_place_from checks k rs)) (sym n) both.1) in
       let parts : AreFresh front rs × AllByRecursion (λ q. same_outref r q ≡ false) rs = fresh-parts front r rs more.0 in
-      ((ap (λ (l : List OutRef). list_any (same_outref r) l) (sym seam) ∙ here, parts.0), (parts.1, more.1))
+      ((ap (λ (list : List OutRef). list_any (same_outref r) list) (sym seam) ∙ here, parts.0), (parts.1, more.1))
 
 -- an output of a transaction whose id is not used is not there
 not_first : (id : TxId) (i : ℕ) (used : List TxId) (e : OutRef × Output) (rest : Option Output) (r : Ordering) → outref_cmp (record { tx = id; index = i }) e.0 ≡ r
@@ -83,11 +77,11 @@ cond_none : (b : Bool) (o : Option Output) → o ≡ None → cond b None o ≡ 
 cond_none true o h = refl
 cond_none false o h = h
 
-pub not_there_after : (w : World) (id : TxId) (i : ℕ) (rs : List OutRef) → IsSound w → has_member txid_cmp w.used id ≡ false
-    → value_at outref_cmp (without_keys outref_cmp rs w.outputs) (record { tx = id; index = i }) ≡ None
-not_there_after w id i rs s n =
-    value_at-without_keys outref_total rs w.outputs (record { tx = id; index = i })
-    ∙ cond_none (has_member outref_cmp rs (record { tx = id; index = i })) (value_at outref_cmp w.outputs (record { tx = id; index = i })) (not_there id i w.used w.outputs n s.ids_used)
+pub not_there_after : (l : Ledger) (id : TxId) (i : ℕ) (rs : List OutRef) → IsSound l → has_member txid_cmp l.used id ≡ false
+    → value_at outref_cmp (without_keys outref_cmp rs l.outputs) (record { tx = id; index = i }) ≡ None
+not_there_after l id i rs s n =
+    value_at-without_keys outref_total rs l.outputs (record { tx = id; index = i })
+    ∙ cond_none (has_member outref_cmp rs (record { tx = id; index = i })) (value_at outref_cmp l.outputs (record { tx = id; index = i })) (not_there id i l.used l.outputs n s.ids_used)
 
 -- outputs with these indices, from n on
 module _ (id : TxId) {X : Type 0} (kept : X → Output) where
@@ -98,19 +92,14 @@ module _ (id : TxId) {X : Type 0} (kept : X → Output) where
   made_from n xs = map placed_output (enumerate_from n xs)
 
   other_index : (i j : ℕ) (b : Bool) → i < j → same_outref (record { tx = id; index = i }) (record { tx = id; index = j }) ≡ b → b ≡ false
-  other_index i j true l e = absurd (
+  other_index i j true lt e = absurd (
       let one : i ≡ j = ap (λ (r : OutRef). r.index) (outref_exact (record { tx = id; index = i }) (record { tx = id; index = j }) (is_equal _ e)) in omega arith
       )
-    where
-      is_equal : (r : Ordering) → is_eq r ≡ true → r ≡ Equal
-      is_equal Less h = cc
-      is_equal Equal h = refl
-      is_equal Greater h = cc
-  other_index i j false l e = refl
+  other_index i j false lt e = refl
 
   later_indices : (i n : ℕ) (xs : List X) → i < n → AllByRecursion (λ r. same_outref (record { tx = id; index = i }) r ≡ false) (keys_of (made_from n xs))
-  later_indices i n [] l = tt
-  later_indices i n (x ∷ xs) l = (other_index i n _ l refl, later_indices i (n + 1) xs (omega arith))
+  later_indices i n [] lt = tt
+  later_indices i n (x ∷ xs) lt = (other_index i n _ lt refl, later_indices i (n + 1) xs (omega arith))
 
   pub made_once : (n : ℕ) (xs : List X) → IsDistinct same_outref (keys_of (made_from n xs))
   unfolding IsDistinct
@@ -126,12 +115,12 @@ module _ (id : TxId) {X : Type 0} (kept : X → Output) where
   sum-made n (x ∷ xs) = omega (arith, sum-made (n + 1) xs, sum_by-cons (λ (o : Output). o.lovelace) (kept x) (values_of (made_from (n + 1) xs)), sum_by-cons (λ x. (kept x).lovelace) x xs)
 
 -- what is spent and what is made, beside what there was
-pub outputs_settled : (w : World) (id : TxId) (rs : List OutRef) (new : List (OutRef × Output)) → IsSound w → IsDistinct same_outref rs
-    → IsDistinct same_outref (keys_of new) → AllByRecursion (λ r. value_at outref_cmp (without_keys outref_cmp rs w.outputs) r ≡ None) (keys_of new)
-    → lovelace_in (with_values outref_cmp new (without_keys outref_cmp rs w.outputs)) + sum_by (lovelace_at w) rs ≡ lovelace_in w.outputs + lovelace_in new
-outputs_settled w id rs new s once new_once fresh =
+pub outputs_settled : (l : Ledger) (id : TxId) (rs : List OutRef) (new : List (OutRef × Output)) → IsSound l → IsDistinct same_outref rs
+    → IsDistinct same_outref (keys_of new) → AllByRecursion (λ r. value_at outref_cmp (without_keys outref_cmp rs l.outputs) r ≡ None) (keys_of new)
+    → lovelace_in (with_values outref_cmp new (without_keys outref_cmp rs l.outputs)) + sum_by (lovelace_at l) rs ≡ lovelace_in l.outputs + lovelace_in new
+outputs_settled l id rs new s once new_once fresh =
     omega (
       arith,
-      sum_values-with_values outref_total (λ (o : Output). o.lovelace) new (without_keys outref_cmp rs w.outputs) new_once fresh,
-      sum_values-without_keys outref_total outref_exact (λ (o : Output). o.lovelace) rs w.outputs s.outputs once,
+      sum_values-with_values outref_total (λ (o : Output). o.lovelace) new (without_keys outref_cmp rs l.outputs) new_once fresh,
+      sum_values-without_keys outref_total outref_exact (λ (o : Output). o.lovelace) rs l.outputs s.outputs once,
     )

@@ -1,9 +1,9 @@
 -- Pots that are moved by flows, none of which stays in hand, hold as much as before.
 use Rattle.std.proofs.Common.{◌≡◌, ℕ, ◌+◌, List, [], ◌∷◌, cond, sum_by, refl, arith}
 use Rattle.std.proofs.lemmas.List.Sums.{sum_by-cons}
-use Rattle.ledger_model.specs.Flows.{Pot, outputs, deposits, rewards, fees, donations, treasury, reserves, hand, Flow, same_pot, sum_into, sum_from}
+use Rattle.ledger_model.specs.Flows.{Pot, outputs, deposits, rewards, fees, donations, treasury, reserves, hand, Flow, same_pot, End, source, sink, sum_at}
 use Rattle.tx_balance.specs.Laws.{MovesKeepSupply}
-use Rattle.ledger_model.proofs.FlowSums.{into-cons, from-cons}
+use Rattle.ledger_model.proofs.FlowSums.{is_end, sum-cons}
 
 abbrev amount : Flow → ℕ
 amount f = f.amount
@@ -19,52 +19,31 @@ one_pot treasury n = omega arith
 one_pot reserves n = omega arith
 one_pot hand n = omega arith
 
-all_into : (fs : List Flow) → sum_into outputs fs + sum_into deposits fs + sum_into rewards fs + sum_into fees fs + sum_into donations fs + sum_into treasury fs + sum_into reserves fs + sum_into hand fs ≡ sum_by amount fs
-all_into [] = refl
-all_into (f ∷ fs) = omega (
-  arith,
-  into-cons outputs f fs,
-  into-cons deposits f fs,
-  into-cons rewards f fs,
-  into-cons fees f fs,
-  into-cons donations f fs,
-  into-cons treasury f fs,
-  into-cons reserves f fs,
-  into-cons hand f fs,
-  one_pot f.to f.amount,
-  all_into fs,
-  sum_by-cons amount f fs,
-)
+at_one_end : (end : End) (a b : Pot) (n : ℕ) → cond (is_end end outputs a b) n 0 + cond (is_end end deposits a b) n 0 + cond (is_end end rewards a b) n 0
+    + cond (is_end end fees a b) n 0 + cond (is_end end donations a b) n 0 + cond (is_end end treasury a b) n 0 + cond (is_end end reserves a b) n 0
+    + cond (is_end end hand a b) n 0 ≡ n
+at_one_end source a b n = one_pot a n
+at_one_end sink a b n = one_pot b n
 
-all_from : (fs : List Flow) → sum_from outputs fs + sum_from deposits fs + sum_from rewards fs + sum_from fees fs + sum_from donations fs + sum_from treasury fs + sum_from reserves fs + sum_from hand fs ≡ sum_by amount fs
-all_from [] = refl
-all_from (f ∷ fs) = omega (
+-- each flow has one pot at this end
+all_sums : (end : End) (fs : List Flow) → sum_at end outputs fs + sum_at end deposits fs + sum_at end rewards fs + sum_at end fees fs
+    + sum_at end donations fs + sum_at end treasury fs + sum_at end reserves fs + sum_at end hand fs ≡ sum_by amount fs
+all_sums end [] = refl
+all_sums end (f ∷ fs) = omega (
   arith,
-  from-cons outputs f fs,
-  from-cons deposits f fs,
-  from-cons rewards f fs,
-  from-cons fees f fs,
-  from-cons donations f fs,
-  from-cons treasury f fs,
-  from-cons reserves f fs,
-  from-cons hand f fs,
-  one_pot f.from f.amount,
-  all_from fs,
+  sum-cons end outputs f fs,
+  sum-cons end deposits f fs,
+  sum-cons end rewards f fs,
+  sum-cons end fees f fs,
+  sum-cons end donations f fs,
+  sum-cons end treasury f fs,
+  sum-cons end reserves f fs,
+  sum-cons end hand f fs,
+  at_one_end end f.from f.to f.amount,
+  all_sums end fs,
   sum_by-cons amount f fs,
 )
 
 pub moves_keep_supply : MovesKeepSupply
 moves_keep_supply fs old new m =
-    omega (
-      arith,
-      all_into fs,
-      all_from fs,
-      m.outputs_moved,
-      m.deposits_moved,
-      m.rewards_moved,
-      m.fees_moved,
-      m.donations_moved,
-      m.treasury_moved,
-      m.reserves_moved,
-      m.none_in_hand,
-    )
+    omega (arith, all_sums source fs, all_sums sink fs, m outputs, m deposits, m rewards, m fees, m donations, m treasury, m reserves, m hand)

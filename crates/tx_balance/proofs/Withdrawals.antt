@@ -1,11 +1,9 @@
 -- Withdrawals of whole balances: what is left of the rewards, and what is withdrawn.
-use Rattle.std.proofs.Common.{◌≡◌, ℕ, ◌+◌, List, [], ◌∷◌, Bool, true, false, cond, not, ◌||◌, Option, Some, None, is_some, map, sum_by, refl, ap, sym, ◌∙◌, arith}
+use Rattle.std.proofs.Common.{◌≡◌, ℕ, ◌+◌, List, [], ◌∷◌, Bool, true, false, cond, ◌||◌, Option, Some, None, is_some, map, sum_by, refl, ap, sym, ◌∙◌, arith}
 use Rattle.std.specs.Option.{option_map}
 use Rattle.std.specs.List.{AllByRecursion, IsDistinct, list_any}
-use Rattle.std.specs.Ordering.{eq_by_cmp, is_eq}
-use Rattle.std.specs.declared.cmp.Ordering.{Ordering}
-use Rattle.std.specs.declared.cmp.Ordering.TheVariants.{Less, Equal, Greater}
-use Rattle.std.proofs.lemmas.Bool.{eqb-true}
+use Rattle.std.specs.Ordering.{eq_by_cmp}
+use Rattle.std.proofs.lemmas.Bool.{eqb-true, or_parts, not-false}
 use Rattle.std.proofs.lemmas.Cmp.{eq_by_cmp_equiv}
 use Rattle.std.proofs.lemmas.List.Sums.{sum_by-cons}
 use Rattle.maps.specs.Maps.{IsMap, value_at, sum_values, changed_where, changed_at}
@@ -13,6 +11,7 @@ use Rattle.maps.specs.Words.{among, repeats, amount}
 use Rattle.maps.proofs.Kept.{IsMap-changed_where}
 use Rattle.maps.proofs.Lookups.{value_at-changed_at}
 use Rattle.maps.proofs.Sums.{sum_values-changed_at}
+use Rattle.maps.proofs.Ties.{is_equal}
 use Rattle.gov_ids.specs.declared.Account.{Account}
 use Rattle.gov_ids.specs.declared.Credential.{Credential}
 use Rattle.gov_ids.specs.Orders.{account_cmp, credential_cmp}
@@ -20,21 +19,11 @@ use Rattle.gov_ids.specs.Same.{same_account, same_credential}
 use Rattle.gov_ids.proofs.Exacts.{credential_exact}
 use Rattle.gov_ids.proofs.Totals.{account_total, credential_total}
 use Rattle.book_records.specs.declared.Registered.{Registered}
-use Rattle.ledger_model.specs.World.{World, account_at, is_account}
+use Rattle.ledger_model.specs.Ledger.{Ledger, account_at, is_account}
 use Rattle.ledger_model.specs.Checks.{per_place_from}
 use Rattle.ledger_model.specs.Changes.{emptied}
 use Rattle.ledger_model.specs.CertRules.{withdrawal_checks, rewards_at}
 use Rattle.ledger_model.proofs.Unbroken.{IsUnbroken, unbroken-cons, unbroken-per_place}
-use Rattle.tx_balance.proofs.Outputs.{or_both_false}
-
-pub not_false : (b : Bool) → not b ≡ false → b ≡ true
-not_false true h = refl
-not_false false h = cc
-
-pub is_equal : (r : Ordering) → is_eq r ≡ true → r ≡ Equal
-is_equal Less h = cc
-is_equal Equal h = refl
-is_equal Greater h = cc
 
 abbrev cred_of : Account × ℕ → Credential
 cred_of x = x.0.cred
@@ -58,14 +47,14 @@ module _ (net : ℕ) where
       → AllByRecursion (λ c. same_credential a.cred c ≡ false) (map cred_of xs)
   others a [] n h r = tt
   others a (x ∷ xs) n h r =
-      let parts : (same_account a x.0 ≡ false) × (list_any (eq_by_cmp account_cmp a) (map account_of xs) ≡ false) = or_both_false _ _ r in
+      let parts : (same_account a x.0 ≡ false) × (list_any (eq_by_cmp account_cmp a) (map account_of xs) ≡ false) = or_parts _ _ r in
       (other_cred a x.0 _ refl (n ∙ sym h.0) parts.0, others a xs n h.1 parts.1)
 
   pub own_credentials : (xs : List (Account × ℕ)) → AreOf xs → repeats account_cmp (map account_of xs) ≡ false → IsDistinct same_credential (map cred_of xs)
   unfolding IsDistinct
   own_credentials [] h r = tt
   own_credentials (x ∷ xs) h r =
-      let parts : (list_any (eq_by_cmp account_cmp x.0) (map account_of xs) ≡ false) × (repeats account_cmp (map account_of xs) ≡ false) = or_both_false _ _ r in
+      let parts : (list_any (eq_by_cmp account_cmp x.0) (map account_of xs) ≡ false) × (repeats account_cmp (map account_of xs) ≡ false) = or_parts _ _ r in
       (others x.0 xs h.0 h.1 parts.0, own_credentials xs h.1 parts.1)
 
 -- the balance of an account is what is withdrawn
@@ -91,7 +80,7 @@ one_more false false r = refl
 emptied_at-cons : (c : Credential) (cs : List Credential) (es : List (Credential × Registered)) → emptied_at (c ∷ cs) es ≡ emptied_at cs (changed_at credential_cmp c emptied es)
 emptied_at-cons c cs [] = refl
 emptied_at-cons c cs (e ∷ es) =
-    ap (λ (l : List (Credential × Registered)). (e.0, cond (same_credential e.0 c || among same_credential e.0 cs) (emptied e.1) e.1) ∷ l) (emptied_at-cons c cs es)
+    ap (λ (list : List (Credential × Registered)). (e.0, cond (same_credential e.0 c || among same_credential e.0 cs) (emptied e.1) e.1) ∷ list) (emptied_at-cons c cs es)
     ∙ ap (λ (r : Registered). (e.0, r) ∷ emptied_at cs (changed_at credential_cmp c emptied es)) (
     ap (λ b. cond (b || among same_credential e.0 cs) (emptied e.1) e.1) ((eq_by_cmp_equiv credential_total).symm e.0 c)
     ∙ one_more (same_credential c e.0) (among same_credential e.0 cs) e.1
@@ -111,11 +100,11 @@ still_whole c es (x ∷ xs) o h =
 pub withdrawals_sum : (xs : List (Account × ℕ)) (es : List (Credential × Registered)) → IsMap credential_cmp es → IsDistinct same_credential (map cred_of xs) → AreWhole es xs
     → sum_values rewards_of (emptied_at (map cred_of xs) es) + sum_by (λ (x : Account × ℕ). x.1) xs ≡ sum_values rewards_of es
 unfolding IsDistinct
-withdrawals_sum [] es m d h = omega (arith, ap (λ (l : List (Credential × Registered)). sum_values rewards_of l) (none_emptied es))
+withdrawals_sum [] es m d h = omega (arith, ap (λ (list : List (Credential × Registered)). sum_values rewards_of list) (none_emptied es))
   where
     none_emptied : (es : List (Credential × Registered)) → emptied_at [] es ≡ es
     none_emptied [] = refl
-    none_emptied (e ∷ es) = ap (λ (l : List (Credential × Registered)). e ∷ l) (none_emptied es)
+    none_emptied (e ∷ es) = ap (λ (list : List (Credential × Registered)). e ∷ list) (none_emptied es)
 withdrawals_sum (x ∷ xs) es m d h =
     let one : List (Credential × Registered) = changed_at credential_cmp x.0.cred emptied es in
     let first : sum_values rewards_of one + h.0.0.rewards ≡ sum_values rewards_of es + 0 = sum_values-changed_at rewards_of credential_cmp credential_total x.0.cred emptied h.0.0 es m h.0.1 in
@@ -123,7 +112,7 @@ withdrawals_sum (x ∷ xs) es m d h =
       arith,
       first,
       h.0.2,
-      ap (λ (l : List (Credential × Registered)). sum_values rewards_of l) (emptied_at-cons x.0.cred (map cred_of xs) es),
+      ap (λ (list : List (Credential × Registered)). sum_values rewards_of list) (emptied_at-cons x.0.cred (map cred_of xs) es),
       withdrawals_sum xs one (IsMap-changed_where credential_cmp (λ q r. eq_by_cmp credential_cmp x.0.cred q) emptied es m) d.1 (still_whole x.0.cred es xs d.0 h.1),
       sum_by-cons (λ (x : Account × ℕ). x.1) x xs,
     )
@@ -133,16 +122,16 @@ whole_by : (o : Option Registered) (n : ℕ) → is_some o ≡ true → n ≡ am
 whole_by None n h e = cc
 whole_by (Some r) n h e = (r, refl, sym e)
 
-pub withdrawals_whole : (w : World) (n : ℕ) (xs : List (Account × ℕ)) → IsUnbroken (per_place_from (withdrawal_checks w) n xs) → AreOf w.network xs × AreWhole w.accounts xs
-withdrawals_whole w n [] h = (tt, tt)
-withdrawals_whole w n (x ∷ xs) h =
-    let both = unbroken-per_place (withdrawal_checks w) n x xs h in
+pub withdrawals_whole : (l : Ledger) (n : ℕ) (xs : List (Account × ℕ)) → IsUnbroken (per_place_from (withdrawal_checks l) n xs) → AreOf l.network xs × AreWhole l.accounts xs
+withdrawals_whole l n [] h = (tt, tt)
+withdrawals_whole l n (x ∷ xs) h =
+    let both = unbroken-per_place (withdrawal_checks l) n x xs h in
     let a = unbroken-cons _ _ both.0 in
     let b = unbroken-cons _ _ a.1 in
     let c = unbroken-cons _ _ b.1 in
     let d = unbroken-cons _ _ c.1 in
-    let network : x.0.network ≡ w.network = eqb-true x.0.network w.network (not_false _ a.0) in
-    let there : is_account w x.0.cred ≡ true = not_false _ b.0 in
-    let whole : x.1 ≡ rewards_at w x.0.cred = eqb-true x.1 (rewards_at w x.0.cred) (not_false _ d.0) in
-    let more = withdrawals_whole w (n + 1) xs both.1 in
-    ((network, more.0), (whole_by (account_at w x.0.cred) x.1 there whole, more.1))
+    let network : x.0.network ≡ l.network = eqb-true x.0.network l.network (not-false _ a.0) in
+    let there : is_account l x.0.cred ≡ true = not-false _ b.0 in
+    let whole : x.1 ≡ rewards_at l x.0.cred = eqb-true x.1 (rewards_at l x.0.cred) (not-false _ d.0) in
+    let more = withdrawals_whole l (n + 1) xs both.1 in
+    ((network, more.0), (whole_by (account_at l x.0.cred) x.1 there whole, more.1))

@@ -4,19 +4,19 @@ use Rattle.maps.specs.Words.{repeats}
 use Rattle.gov_ids.specs.Orders.{account_cmp}
 use Rattle.tx_records.specs.declared.report.Pots.{Pots}
 use Rattle.tx_records.specs.declared.tx.Tx.{Tx}
-use Rattle.ledger_model.specs.World.{World}
-use Rattle.ledger_model.specs.OutputRules.{is_failed}
+use Rattle.ledger_model.specs.Ledger.{Ledger}
+use Rattle.ledger_model.specs.UtxoRules.{is_failed}
 use Rattle.ledger_model.specs.Sound.{IsSound}
-use Rattle.ledger_model.specs.Supply.{pots_of, total_of}
+use Rattle.ledger_model.specs.Supply.{pots_of, supply_of, total_of}
 use Rattle.ledger_model.specs.Broken.{is_allowed}
 use Rattle.ledger_model.specs.Flows.{Flow, flows_of_tx}
 use Rattle.ledger_model.specs.Moves.{IsMovedBy}
-use Rattle.ledger_model.specs.Transaction.{world_after_tx}
+use Rattle.ledger_model.specs.Transaction.{ledger_after_tx}
 
 -- an allowed transaction whose scripts failed moves the pots by its flows
 abbrev pub FailedBalances : Type 0
-FailedBalances = (w : World) (tx : Tx) → IsSound w → is_failed tx.scripts ≡ true → is_allowed w tx ≡ true →
-    IsMovedBy (flows_of_tx w tx) (pots_of w) (pots_of (world_after_tx w tx))
+FailedBalances = (l : Ledger) (tx : Tx) → IsSound l → is_failed tx.scripts ≡ true → is_allowed l tx ≡ true →
+    IsMovedBy (flows_of_tx l tx) (pots_of l) (pots_of (ledger_after_tx l tx))
 
 -- no account is named twice in its withdrawals
 abbrev pub HasOwnWithdrawals : Tx → Type 0
@@ -24,9 +24,18 @@ HasOwnWithdrawals tx = repeats account_cmp (map (λ x. x.0) tx.withdrawals) ≡ 
 
 -- and so does one whose scripts did not fail, which withdraws from no account twice
 abbrev pub PassedBalances : Type 0
-PassedBalances = (w : World) (tx : Tx) → IsSound w → HasOwnWithdrawals tx → is_failed tx.scripts ≡ false → is_allowed w tx ≡ true →
-    IsMovedBy (flows_of_tx w tx) (pots_of w) (pots_of (world_after_tx w tx))
+PassedBalances = (l : Ledger) (tx : Tx) → IsSound l → HasOwnWithdrawals tx → is_failed tx.scripts ≡ false →
+    is_allowed l tx ≡ true → IsMovedBy (flows_of_tx l tx) (pots_of l) (pots_of (ledger_after_tx l tx))
 
 -- pots that are moved by flows hold as much together as before
 abbrev pub MovesKeepSupply : Type 0
 MovesKeepSupply = (flows : List Flow) (old new : Pots) → IsMovedBy flows old new → total_of new ≡ total_of old
+
+-- an allowed transaction leaves a sound ledger sound
+abbrev pub AllowedStaysSound : Type 0
+AllowedStaysSound = (l : Ledger) (tx : Tx) → IsSound l → is_allowed l tx ≡ true → IsSound (ledger_after_tx l tx)
+
+-- and its supply, which the pots hold as before
+abbrev pub AllowedKeepsSupply : Type 0
+AllowedKeepsSupply = (l : Ledger) (tx : Tx) → IsSound l → HasOwnWithdrawals tx → is_allowed l tx ≡ true →
+    ((ledger_after_tx l tx).supply ≡ l.supply) × (supply_of (ledger_after_tx l tx) ≡ supply_of l)

@@ -1,4 +1,4 @@
-ghost use Rattle.tx_balance.specs.Laws.{FailedBalances, MovesKeepSupply, PassedBalances};
+ghost use Rattle.tx_balance.specs.Laws.{AllowedKeepsSupply, AllowedStaysSound, FailedBalances, MovesKeepSupply, PassedBalances};
 
 /// An allowed transaction whose scripts did not fail and that withdraws from no account twice moves each pot of a sound ledger by its flows, and all that it takes in hand it gives on. (The preservation of value of the formal specification)
 pub fn passed_balances()
@@ -13,4 +13,14 @@ pub fn failed_balances()
 /// Pots that are moved by flows, none of which stays in hand, hold as much together as before. (Own)
 pub fn moves_keep_supply()
     ensures { MovesKeepSupply }
+{}
+
+/// An allowed transaction leaves a sound ledger sound. (Own)
+pub fn allowed_stays_sound()
+    ensures { AllowedStaysSound }
+{}
+
+/// An allowed transaction that withdraws from no account twice keeps the supply of a sound ledger, and its pots hold as much together as before. (The preservation of value of the formal specification)
+pub fn allowed_keeps_supply()
+    ensures { AllowedKeepsSupply }
 {}

@@ -1,6 +1,8 @@
-//! The balance of a transaction: each allowed one moves the pots by its flows, and the supply stays.
+//! The balance of a transaction: each allowed one moves the pots by its flows, the supply stays, and the maps of a ledger stay maps.
 #![tactic(auto)]
 
 mod laws;
 
-pub use laws::{failed_balances, moves_keep_supply, passed_balances};
+pub use laws::{
+    allowed_keeps_supply, allowed_stays_sound, failed_balances, moves_keep_supply, passed_balances,
+};
