@@ -1,8 +1,4 @@
-pub mod BreakLemmas
-pub mod GivenLemmas
-pub mod GoesLemmas
-pub mod LookLemmas
+pub mod LawLemmas
 pub mod PieceLemmas
-pub mod RunLemmas
-pub mod StateLemmas
-pub mod TurnLemmas
+pub mod ProgressLemmas
+pub mod StepLemmas

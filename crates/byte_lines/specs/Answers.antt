@@ -1,8 +1,6 @@
--- What the answers of a reader of lines say.
-use Rattle.std.specs.Prelude.{◌≡◌, ℕ, ◌<◌, ◌⊎◌, ◌++◌, List, [], ◌∷◌, Option, Some, None, Result, Ok, Err, IsTrue, length, take, ⊤, ◌≢◌, IsSome, IfSome}
-use Rattle.byte_lines.specs.Pieces.{lines_of}
-use Rattle.byte_lines.specs.Faults.{given, before_bytes}
-use Rattle.byte_lines.specs.Reader.{Reader, lines_left, heard}
+-- What a call for the next line does.
+use Rattle.std.specs.Prelude.{◌≡◌, ℕ, ◌+◌, ◌≤◌, ◌<◌, ◌⊎◌, ◌↔◌, false, List, [], ◌∷◌, Option, Some, None, Result, Ok, Err, IsErr, IsOk, IsTrue, length, ⊤}
+use Rattle.byte_lines.specs.Reader.{Reader, part_max}
 use Rattle.byte_lines.specs.declared.lines.Line.{Line}
 use Rattle.byte_lines.specs.declared.lines.Line.TheVariants.{Whole, TooLong, End}
 use Rattle.byte_lines.specs.declared.lines.LineFault.{LineFault}
@@ -15,18 +13,6 @@ line_given (Ok TooLong) new = None ∷ []
 line_given (Ok End) new = []
 line_given (Err fault) new = []
 
--- whatever comes after these bytes, the lines still to come were the one given and those that come now; after the end nothing comes
-abbrev pub GoesOn : Reader → Reader → List ℕ → List (Option (List ℕ)) → Type 0
-GoesOn old new bytes line =
-    (rest : List ℕ) → (IsTrue new.ended → rest ≡ []) → lines_left old (bytes ++ rest) ≡ line ++ lines_left new rest
-
--- the reader goes on by the bytes that it got; nothing is said where memory ran out
-abbrev pub GivesNext : Reader → Reader → List ℕ → Result Line LineFault → Type 0
-GivesNext old new got (Ok line) = GoesOn old new (heard old got) (line_given (Ok line) new)
-GivesNext old new got (Err ReadFault) = GoesOn old new (heard old got) []
-GivesNext old new got (Err TooMuch) = GoesOn old new (heard old got) []
-GivesNext old new got (Err NoMemory) = ⊤
-
 -- the text stays, but for a whole line
 abbrev pub TextStays : Reader → Reader → Result Line LineFault → Type 0
 TextStays old new (Ok Whole) = ⊤
@@ -34,29 +20,36 @@ TextStays old new (Ok TooLong) = new.text ≡ old.text
 TextStays old new (Ok End) = new.text ≡ old.text
 TextStays old new (Err fault) = new.text ≡ old.text
 
--- what was taken is looked at, and no line is begun
-pub record IsDone (r : Reader) : Type 0 where
-  pub ahead : r.ahead ≡ []
-  pub begun : r.begun ≡ Some []
-
 -- the end came, more came than the reader heeds, or memory ran out
 abbrev pub IsStopped : Reader → Type 0
 IsStopped r = IsTrue r.ended ⊎ (r.stream_max < r.taken) ⊎ IsTrue r.failed
 
--- the lines given so far and those still to come are the lines of the bytes that came so far, up to stream_max, and of those to come
-pub record HasGiven (r : Reader) (got : List ℕ) (given : List (Option (List ℕ))) : Type 0 where
-  pub taken : r.taken ≡ length got
-  pub lines : (rest : List ℕ) → (IsTrue r.ended → rest ≡ []) → given ++ lines_left r rest ≡ lines_of r.line_max (take r.stream_max got ++ rest)
+-- what a call leaves of the reader, whatever the source tells
+pub record Advances (old new : Reader) (result : Result Line LineFault) : Type 0 where
+  pub line_max : new.line_max ≡ old.line_max
+  pub stream_max : new.stream_max ≡ old.stream_max
+  pub text : TextStays old new result
+  pub number : new.number ≡ old.number + length (line_given result new)
+  pub grows : old.taken ≤ new.taken
+  pub bound : new.taken ≤ new.stream_max + 1
 
--- `ls` are the lines that a reader gave of a source that had `first` left when it began, and has `left` now
-pub record HasRead (r : Reader) (first left : Option (List ℕ)) (ls : List (Option (List ℕ))) : Type 0 where
-  pub gave : first ≡ before_bytes (given first left) left
-  pub lines : IsSome first → HasGiven r (given first left) ls
-  -- at the end nothing is left
-  pub drained : IsTrue r.ended → IfSome left (λ bytes. bytes ≡ [])
+-- however long a line or a stream is
+pub record IsBounded (r : Reader) : Type 0 where
+  -- it holds no more than a line and one part
+  pub held : r.held ≤ r.line_max + part_max
+  -- each line took a byte
+  pub few : r.number ≤ r.taken
 
--- after an answer the reader has given one line more, or none more; nothing is said where memory ran out
-abbrev pub ReadsOn : Reader → Reader → Option (List ℕ) → Option (List ℕ) → Result Line LineFault → Type 0
-ReadsOn old new left left' result =
-    result ≢ Err NoMemory → (first : Option (List ℕ)) (ls : List (Option (List ℕ))) →
-    HasRead old first left ls → HasRead new first left' (ls ++ line_given result new)
+-- what an answer says
+pub record IsAnswer (old new : Reader) (result : Result Line LineFault) : Type 0 where
+  -- the end comes once all is looked at, and then again at each call
+  pub end : result ≡ Ok End → IsTrue new.ended
+  pub end_again : IsTrue old.ended → result ≡ Ok End
+  pub unfinished : IsErr result → new.ended ≡ false
+  -- after a line or the end no line is begun, and less than one part is ahead
+  pub begun : IsOk result → new.begun ≡ Some []
+  pub ahead : IsOk result → length new.ahead < part_max
+  -- a fault, or too much, comes once all is looked at
+  pub looked : (result ≡ Err ReadFault) ⊎ (result ≡ Err TooMuch) → new.ahead ≡ []
+  pub too_much : (result ≡ Err TooMuch) ↔ (new.stream_max < new.taken)
+  pub no_memory : (result ≡ Err NoMemory) ↔ IsTrue new.failed

@@ -1,77 +1,67 @@
 -- Laws on lines.
-use Rattle.std.specs.Prelude.{◌≡◌, ◌≢◌, ℕ, ◌+◌, ◌<◌, ◌≤◌, ◌++◌, false, List, [], ◌∷◌, Option, Result, Err, IsTrue, IsSome, IfSome, length, take}
-use Rattle.byte_lines.specs.Pieces.{line_feed, kept, lines_of, whole_of, open_of}
-use Rattle.byte_lines.specs.Faults.{given, before_bytes}
-use Rattle.byte_lines.specs.Reader.{Reader, lines_left}
-use Rattle.byte_lines.specs.Answers.{line_given, IsDone, GivesNext, HasGiven, HasRead}
-use Rattle.byte_lines.specs.declared.lines.Line.{Line}
-use Rattle.byte_lines.specs.declared.lines.LineFault.{LineFault}
-use Rattle.byte_lines.specs.declared.lines.LineFault.TheVariants.{NoMemory}
+use Rattle.std.specs.Prelude.{◌≡◌, ℕ, ◌≤◌, ◌++◌, ◌⊎◌, false, List, [], ◌∷◌, Option, Some, IsTrue}
+use Rattle.std.specs.Io.KnownBytes.{Appends}
+use Rattle.byte_lines.specs.Pieces.{has_feed, line_feed, lines_of, open_of, pieces_of, whole_of}
+use Rattle.byte_lines.specs.Progress.{HasRead}
+use Rattle.byte_lines.specs.Reader.{Reader, heeded}
+
+-- a piece goes up to the first line feed, and the others are those of the rest
+abbrev pub FeedEndsPiece : Type 0
+FeedEndsPiece =
+    (piece rest : List ℕ) → has_feed piece ≡ false → pieces_of (piece ++ line_feed ∷ rest) ≡ piece ∷ pieces_of rest
 
 -- the bytes are those of the whole lines and those after the last line feed
 abbrev pub CutsInTwo : Type 0
-CutsInTwo = (bytes : List ℕ) → whole_of bytes ++ open_of bytes ≡ bytes
+CutsInTwo = (bytes : List ℕ) → (whole_of bytes ++ open_of bytes ≡ bytes) × (has_feed (open_of bytes) ≡ false)
 
--- a line feed more ends one line more than the whole ones
-abbrev pub FeedEndsOneMore : Type 0
-FeedEndsOneMore =
-    (max : ℕ) (bytes : List ℕ) →
-    lines_of max (bytes ++ line_feed ∷ []) ≡ lines_of max (whole_of bytes) ++ kept max (open_of bytes) ∷ []
+-- the lines of bytes and of more bytes are the whole ones of the former, and those of what follows
+abbrev pub LinesAddUp : Type 0
+LinesAddUp =
+    (max : ℕ) (bytes more : List ℕ) →
+    lines_of max (bytes ++ more) ≡ lines_of max (whole_of bytes) ++ lines_of max (open_of bytes ++ more)
 
--- where nothing is ahead, a line feed ends the line begun and no other
-abbrev pub FeedEndsBegun : Type 0
-FeedEndsBegun = (r : Reader) → r.ahead ≡ [] → lines_left r (line_feed ∷ []) ≡ r.begun ∷ []
-
--- where a line feed is to come, a line is
-abbrev pub FeedGivesLine : Type 0
-FeedGivesLine = (r : Reader) (bytes : List ℕ) → 0 < length (lines_left r (bytes ++ line_feed ∷ []))
-
--- a reader that is done gives no line more, if nothing comes
-abbrev pub DoneGivesNone : Type 0
-DoneGivesNone = (r : Reader) → IsDone r → lines_left r [] ≡ []
-
--- a source that stays gives nothing
-abbrev pub StayingGivesNone : Type 0
-StayingGivesNone = (left : Option (List ℕ)) → given left left ≡ []
-
--- what was given at one time and then at another was given in all
-abbrev pub GivenAddsUp : Type 0
-GivenAddsUp =
-    (first mid last : Option (List ℕ)) →
-    first ≡ before_bytes (given first mid) mid → mid ≡ before_bytes (given mid last) last →
-    (given first last ≡ given first mid ++ given mid last) × (first ≡ before_bytes (given first last) last)
-
--- what a call of `next` says of a source that tells its bytes
-pub record IsNext (old new : Reader) (more : List ℕ) (result : Result Line LineFault) : Type 0 where
-  pub line_max : new.line_max ≡ old.line_max
-  pub stream_max : new.stream_max ≡ old.stream_max
-  pub taken : new.taken ≡ old.taken + length more
-  pub lines : GivesNext old new more result
-  pub memory : result ≢ Err NoMemory
-  pub stopped : IsTrue old.ended → (new ≡ old) × (more ≡ [])
-
--- one call of `next` after another, the lines given and those still to come are those of all the bytes
-abbrev pub CallsAddUp : Type 0
-CallsAddUp =
-    (old new : Reader) (got more : List ℕ) (given : List (Option (List ℕ))) (result : Result Line LineFault) →
-    HasGiven old got given → IsNext old new more result → HasGiven new (got ++ more) (given ++ line_given result new)
-
--- at the end of a source that was not too long, the lines given are those of all its bytes
+-- at the end of a stream that was not too long, the lines given are those of all its bytes
 abbrev pub EndGivesAll : Type 0
 EndGivesAll =
-    (r : Reader) (first left : Option (List ℕ)) (ls : List (Option (List ℕ))) →
-    HasRead r first left ls → IsTrue r.ended → IsDone r → r.taken ≤ r.stream_max → IfSome first (λ bytes. ls ≡ lines_of r.line_max bytes)
+    (bytes : List ℕ) (r : Reader) (left : Option (List ℕ)) (given : List (Option (List ℕ))) →
+    (read : HasRead bytes r left given) →
+    IsTrue r.ended → r.taken ≤ r.stream_max →
+    (given ≡ lines_of r.line_max bytes) × (read.came ≡ bytes) × (read.rest ≡ [])
 
--- where reading broke off with nothing ahead, the lines given are the whole lines of the bytes heard
+-- where reading broke off with nothing ahead, the lines given are the whole lines of the bytes that came
 abbrev pub BreakGivesWhole : Type 0
 BreakGivesWhole =
-    (r : Reader) (first left : Option (List ℕ)) (ls : List (Option (List ℕ))) →
-    HasRead r first left ls → IsSome first → r.ended ≡ false → r.ahead ≡ [] →
-    ls ≡ lines_of r.line_max (whole_of (take r.stream_max (given first left)))
+    (bytes : List ℕ) (r : Reader) (left : Option (List ℕ)) (given : List (Option (List ℕ))) →
+    (read : HasRead bytes r left given) →
+    r.ended ≡ false → r.ahead ≡ [] → given ≡ lines_of r.line_max (whole_of (heeded r.stream_max read.came))
 
--- whatever comes then, the lines given are the first of the whole lines of all the bytes heard
+-- at any time, the lines given are the first of the whole lines of the bytes that came or, at the end, all lines of them
 abbrev pub GivesFirst : Type 0
 GivesFirst =
-    (r : Reader) (first left : Option (List ℕ)) (ls : List (Option (List ℕ))) (more : List ℕ) →
-    HasRead r first left ls → IsSome first → r.ended ≡ false →
-    (later : List (Option (List ℕ))) × (ls ++ later ≡ lines_of r.line_max (whole_of (take r.stream_max (given first left) ++ more)))
+    (bytes : List ℕ) (r : Reader) (left : Option (List ℕ)) (given : List (Option (List ℕ))) →
+    (read : HasRead bytes r left given) →
+    ((later : List (Option (List ℕ)))
+    × (lines_of r.line_max (whole_of (heeded r.stream_max read.came)) ≡ given ++ later))
+    ⊎ ((read.rest ≡ []) × (lines_of r.line_max (heeded r.stream_max read.came) ≡ given))
+
+-- and the first of the lines of the stream, as long as no more came than the reader heeds
+abbrev pub GivesFirstOfAll : Type 0
+GivesFirstOfAll =
+    (bytes : List ℕ) (r : Reader) (left : Option (List ℕ)) (given : List (Option (List ℕ))) →
+    (read : HasRead bytes r left given) →
+    r.taken ≤ r.stream_max → (later : List (Option (List ℕ))) × (lines_of r.line_max bytes ≡ given ++ later)
+
+-- after a line, nothing came but its own bytes, those of the lines before it, and those ahead
+abbrev pub NothingBeyond : Type 0
+NothingBeyond =
+    (bytes : List ℕ) (r : Reader) (left : Option (List ℕ)) (given : List (Option (List ℕ))) →
+    (read : HasRead bytes r left given) →
+    r.begun ≡ Some [] → r.taken ≤ r.stream_max →
+    (upto : List ℕ) × (read.came ≡ upto ++ r.ahead) × (given ≡ lines_of r.line_max upto)
+    × ((open_of upto ≡ []) ⊎ (read.rest ≡ []))
+
+-- what a sink takes at one time and then at another, it takes in all
+abbrev pub TakesAddUp : Type 0
+TakesAddUp =
+    (first mid last : Option (List ℕ)) (piece more : List ℕ) →
+    Appends first mid piece → Appends mid last more → Appends first last (piece ++ more)

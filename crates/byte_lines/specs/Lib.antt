@@ -1,9 +1,11 @@
+pub mod Adapters
 pub mod Answers
-pub mod Begun
+pub mod Buffers
 pub mod Faults
 pub mod InMemory
 pub mod Laws
 pub mod Pieces
+pub mod Progress
 pub mod Reader
 pub mod Sinks
 pub mod Sources

@@ -1,43 +1,34 @@
 -- A stream of bytes as its lines. A line ends at a line feed, or at the end where it is not empty.
-use Rattle.std.specs.Prelude.{ℕ, ◌++◌, List, [], ◌∷◌, Option, Some, None, length, map, nat_le, ◌==◌, if◌then◌else◌}
+use Rattle.std.specs.Prelude.{ℕ, Bool, List, [], ◌∷◌, Option, Some, None, length, map, nat_le, ◌==◌, if◌then◌else◌}
+use Rattle.std.specs.List.{list_any}
 
 -- the byte that ends a line
 abbrev pub line_feed : ℕ
 line_feed = 10
 
--- the piece begun, where it is not empty
-abbrev pub last_piece : List ℕ → List (List ℕ)
-last_piece [] = []
-last_piece (b ∷ bs) = (b ∷ bs) ∷ []
+-- whether a line feed stands among the bytes
+abbrev pub has_feed : List ℕ → Bool
+has_feed bytes = list_any (λ b. b == line_feed) bytes
 
--- the pieces of the bytes after those of the piece begun
-abbrev pub pieces_from : List ℕ → List ℕ → List (List ℕ)
-pieces_from begun [] = last_piece begun
-pieces_from begun (b ∷ bs) =
-    if b == line_feed then begun ∷ pieces_from [] bs else pieces_from (begun ++ b ∷ []) bs
+-- a byte before the first piece, which is the empty one where there is none
+abbrev pub with_first : ℕ → List (List ℕ) → List (List ℕ)
+with_first b [] = (b ∷ []) ∷ []
+with_first b (p ∷ ps) = (b ∷ p) ∷ ps
 
--- the bytes cut at line feeds; the piece after the last one counts where it is not empty
+-- the bytes up to the first line feed, and then the pieces of the rest; those after the last one count where there are any
 abbrev pub pieces_of : List ℕ → List (List ℕ)
-pieces_of bytes = pieces_from [] bytes
-
--- the bytes of the whole lines, after those of the line begun
-abbrev pub whole_from : List ℕ → List ℕ → List ℕ
-whole_from begun [] = []
-whole_from begun (b ∷ bs) =
-    if b == line_feed then begun ++ b ∷ whole_from [] bs else whole_from (begun ++ b ∷ []) bs
+pieces_of [] = []
+pieces_of (b ∷ bs) = if b == line_feed then [] ∷ pieces_of bs else with_first b (pieces_of bs)
 
 -- the bytes up to and including the last line feed, none where there is none
 abbrev pub whole_of : List ℕ → List ℕ
-whole_of bytes = whole_from [] bytes
-
--- the bytes after the last line feed, after those of the line begun
-abbrev pub open_from : List ℕ → List ℕ → List ℕ
-open_from begun [] = begun
-open_from begun (b ∷ bs) = if b == line_feed then open_from [] bs else open_from (begun ++ b ∷ []) bs
+whole_of [] = []
+whole_of (b ∷ bs) = if has_feed (b ∷ bs) then b ∷ whole_of bs else []
 
 -- the bytes after the last line feed, all of them where there is none
 abbrev pub open_of : List ℕ → List ℕ
-open_of bytes = open_from [] bytes
+open_of [] = []
+open_of (b ∷ bs) = if has_feed (b ∷ bs) then open_of bs else b ∷ bs
 
 -- the piece, where it is no longer than max
 abbrev pub kept : ℕ → List ℕ → Option (List ℕ)

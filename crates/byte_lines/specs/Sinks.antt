@@ -1,6 +1,7 @@
 -- What a write does, by what the sink tells.
 use Rattle.std.specs.Prelude.{◌≡◌, ℕ, ◌<◌, ◌≤◌, List, Option, Result, Err, IfOk, OnErr, length, take}
-use Rattle.byte_lines.specs.Faults.{Rose, with_bytes}
+use Rattle.std.specs.Io.KnownBytes.{Appends, Keeps}
+use Rattle.byte_lines.specs.Faults.{CountsFaults}
 use Rattle.byte_lines.specs.declared.sink.SinkFault.{SinkFault}
 use Rattle.byte_lines.specs.declared.sink.SinkFault.TheVariants.{WriteFault}
 
@@ -10,8 +11,7 @@ pub record IsWrite (taken taken' : Option (List ℕ)) (faults faults' : ℕ) (pi
   pub some : IfOk result (λ n. 0 < n)
   pub fits : IfOk result (λ n. n ≤ length piece)
   -- they are its first
-  pub took : IfOk result (λ n. taken' ≡ with_bytes taken (take n piece))
-  -- a fault takes none
-  pub stays : OnErr result (taken' ≡ taken)
-  pub rose : result ≡ Err WriteFault → Rose faults faults'
-  pub counted : faults ≤ faults'
+  pub took : IfOk result (λ n. Appends taken taken' (take n piece))
+  -- an error takes none
+  pub stays : OnErr result (Keeps taken taken')
+  pub counts : CountsFaults (result ≡ Err WriteFault) faults faults'

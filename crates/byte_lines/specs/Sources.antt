@@ -1,6 +1,7 @@
 -- What a read does, by what the source tells.
-use Rattle.std.specs.Prelude.{◌≡◌, ℕ, ◌≤◌, List, [], Option, Result, IfSome, IfOk, OnErr, length, take}
-use Rattle.byte_lines.specs.Faults.{Rose, before_bytes}
+use Rattle.std.specs.Prelude.{◌≡◌, ℕ, ◌≤◌, List, Option, Result, IfOk, OnErr, IsErr, length, take}
+use Rattle.std.specs.Io.KnownBytes.{Consumes, IsAtEnd, Keeps}
+use Rattle.byte_lines.specs.Faults.{CountsFaults}
 use Rattle.byte_lines.specs.declared.source.ReadFault.{ReadFault}
 
 -- one read into a slice, which is `into` afterwards: the bytes that the source has left before and after it, and its counts of faults
@@ -8,10 +9,9 @@ pub record IsRead (left left' : Option (List ℕ)) (faults faults' : ℕ) (into 
   -- no more bytes than the slice has room for
   pub fits : IfOk result (λ n. n ≤ length into)
   -- they are the first that were left
-  pub gave : IfOk result (λ n. left ≡ before_bytes (take n into) left')
+  pub gave : IfOk result (λ n. Consumes left left' (take n into))
   -- none at the end alone
-  pub end : IfOk result (λ n. n ≡ 0 → IfSome left (λ bytes. bytes ≡ []))
+  pub end : IfOk result (λ n. n ≡ 0 → IsAtEnd left')
   -- a fault loses none
-  pub stays : OnErr result (left' ≡ left)
-  pub rose : OnErr result (Rose faults faults')
-  pub counted : faults ≤ faults'
+  pub stays : OnErr result (Keeps left left')
+  pub counts : CountsFaults (IsErr result) faults faults'

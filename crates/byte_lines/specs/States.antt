@@ -1,6 +1,7 @@
 -- Where a reader of lines stands.
-use Rattle.std.specs.Prelude.{◌≡◌, ℕ, ◌+◌, ◌≤◌, ◌<◌, Bool, true, false, List, [], Option, Some, IsTrue, length}
-use Rattle.byte_lines.specs.Reader.{FitsIn, weight}
+use Rattle.std.specs.Prelude.{◌≡◌, ℕ, ◌+◌, ◌≤◌, ◌<◌, Bool, true, false, List, [], Option, Some, None, IsTrue, length}
+use Rattle.byte_lines.specs.Buffers.{BytesAhead, LineBegun}
+use Rattle.byte_lines.specs.Reader.{part_max}
 use Rattle.byte_lines.specs.declared.lines.State.{State}
 use Rattle.byte_lines.specs.declared.lines.State.TheVariants.{Reading, Ended, TooMuch, NoMemory}
 
@@ -25,12 +26,19 @@ bytes_over Ended = 0
 bytes_over TooMuch = 1
 bytes_over NoMemory = 0
 
+-- at most how many lines the line begun can become, by its bytes
+abbrev pub weight : Option (List ℕ) → ℕ
+weight None = 1
+weight (Some line) = length line
+
 -- what holds of the fields of a reader
-pub record IsSound (state : State) (line_max stream_max taken number : ℕ) (begun : Option (List ℕ)) (ahead text : List ℕ) : Type 0 where
+pub record IsSound (state : State) (line_max stream_max taken number : ℕ) (begun : LineBegun) (ahead : BytesAhead) (text : List ℕ) : Type 0 where
   -- each line took a byte
-  pub counted : number + length ahead + weight begun ≤ taken
+  pub few : number + length ahead.bytes + weight begun.line ≤ taken
   pub within : taken ≤ stream_max
-  pub fits : FitsIn line_max begun
   pub text_fits : length text ≤ line_max
-  pub ended : IsTrue (is_ended state) → (ahead ≡ []) × (begun ≡ Some [])
-  pub over : 0 < bytes_over state → (taken ≡ stream_max) × (ahead ≡ [])
+  pub holds : begun.held ≤ line_max
+  pub holds_ahead : ahead.held ≤ part_max
+  pub part : length ahead.bytes ≤ ahead.held
+  pub ended : IsTrue (is_ended state) → (ahead.bytes ≡ []) × (begun.line ≡ Some [])
+  pub over : 0 < bytes_over state → (taken ≡ stream_max) × (ahead.bytes ≡ [])

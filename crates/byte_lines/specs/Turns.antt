@@ -1,9 +1,11 @@
 -- What the steps of a reader of lines do.
-use Rattle.std.specs.Prelude.{◌≡◌, ℕ, ◌+◌, ◌≤◌, ◌<◌, ◌++◌, ◌⊎◌, ◌↔◌, true, false, IsTrue, List, [], ◌∷◌, Option, Some, None, Result, Ok, Err, IfSome, IsErr, IsSome, length}
+use Rattle.std.specs.Prelude.{◌≡◌, ℕ, ◌+◌, ◌≤◌, ◌<◌, ◌++◌, ◌⊎◌, ◌↔◌, true, false, IsTrue, IsOk, IsErr, List, [], Option, Some, None, Result, Ok, Err, length}
+use Rattle.std.specs.Io.KnownBytes.{IsAtEnd}
 use Rattle.coin_frac.specs.declared.NoMemory.{NoMemory as OutOfMemory}
-use Rattle.byte_lines.specs.Faults.{before_bytes, given}
-use Rattle.byte_lines.specs.Reader.{Reader, lines_left}
-use Rattle.byte_lines.specs.Answers.{line_given, TextStays, GivesNext, IsDone}
+use Rattle.byte_lines.specs.Answers.{Advances, line_given, TextStays}
+use Rattle.byte_lines.specs.Pieces.{has_feed}
+use Rattle.byte_lines.specs.Progress.{HasRead}
+use Rattle.byte_lines.specs.Reader.{Reader, part_max}
 use Rattle.byte_lines.specs.declared.lines.Line.{Line}
 use Rattle.byte_lines.specs.declared.lines.Line.TheVariants.{End}
 use Rattle.byte_lines.specs.declared.lines.LineFault.{LineFault}
@@ -15,70 +17,73 @@ pub record IsReading (r : Reader) : Type 0 where
   pub failed : r.failed ≡ false
   pub within : r.taken ≤ r.stream_max
 
--- a line was given: by a line feed, or by the end
+-- whatever the stream was, these lines more were given of it
+abbrev pub Gives : Reader → Reader → Option (List ℕ) → Option (List ℕ) → List (Option (List ℕ)) → Type 0
+Gives old new left left' more =
+    (bytes : List ℕ) (given : List (Option (List ℕ))) →
+    HasRead bytes old left given → HasRead bytes new left' (given ++ more)
+
+-- a line was given
 pub record EndsLine (old new : Reader) (line : Line) : Type 0 where
-  pub reader : new ≡ record old { begun = Some []; ahead = new.ahead; text = new.text; number = old.number + 1; ended = new.ended }
+  pub reader : new ≡ record old { begun = Some []; ahead = new.ahead; held = new.held; text = new.text; number = old.number + 1 }
   pub given : length (line_given (Ok line) new) ≡ 1
   pub text : TextStays old new (Ok line)
+  pub ahead : length new.ahead < length old.ahead
+  pub gives : (left : Option (List ℕ)) → Gives old new left left (line_given (Ok line) new)
+
+-- all that was ahead is looked at, and no line feed stands in it
+pub record GoesOn (old new : Reader) : Type 0 where
+  pub reader : new ≡ record old { begun = new.begun; ahead = []; held = new.held }
+  pub none : has_feed old.ahead ≡ false
+  pub gives : (left : Option (List ℕ)) → Gives old new left left []
 
 -- a line feed was found in what was ahead, or there is none there, or memory ran out
 abbrev pub LooksAhead : Reader → Reader → Result (Option Line) OutOfMemory → Type 0
-LooksAhead old new (Ok (Some line)) =
-    EndsLine old new line
-    × (new.ended ≡ old.ended)
-    × ((rest : List ℕ) → lines_left old rest ≡ line_given (Ok line) new ++ lines_left new rest)
-LooksAhead old new (Ok None) =
-    (new ≡ record old { begun = new.begun; ahead = [] }) × ((rest : List ℕ) → lines_left old rest ≡ lines_left new rest)
+LooksAhead old new (Ok (Some line)) = EndsLine old new line
+LooksAhead old new (Ok None) = GoesOn old new
 LooksAhead old new (Err error) = new ≡ old
 
 -- the end of the source came: it ended the line begun, if there was one
 pub record Ends (old new : Reader) (line : Line) : Type 0 where
-  pub reader : new ≡ record old { begun = new.begun; ahead = new.ahead; text = new.text; number = new.number; ended = new.ended }
-  pub ended : new.ended ≡ true
-  pub done : IsDone new
-  pub given : lines_left old [] ≡ line_given (Ok line) new
+  pub reader : new ≡ record old { begun = Some []; ahead = []; held = new.held; text = new.text; number = new.number; ended = true }
   pub text : TextStays old new (Ok line)
   pub number : new.number ≡ old.number + length (line_given (Ok line) new)
+  pub gives : (left : Option (List ℕ)) → IsAtEnd left → Gives old new left left (line_given (Ok line) new)
 
--- a read brought bytes, the end, or a fault
+-- a read brought bytes, or the end
+pub record TakesPart (old new : Reader) (left left' : Option (List ℕ)) (count : ℕ) : Type 0 where
+  pub reader : new ≡ record old { taken = old.taken + count; ahead = new.ahead; held = new.held }
+  pub within : old.taken + count ≤ old.stream_max
+  pub came : length new.ahead ≡ count
+  pub end : count ≡ 0 → IsAtEnd left'
+  pub gives : Gives old new left left' []
+
+-- a byte beyond the limit of the stream came
+pub record TakesOver (old new : Reader) (left left' : Option (List ℕ)) : Type 0 where
+  pub reader : new ≡ record old { taken = old.taken + 1; held = new.held }
+  pub full : old.taken ≡ old.stream_max
+  pub gives : Gives old new left left' []
+
+-- nothing came
+pub record TakesNone (old new : Reader) (left left' : Option (List ℕ)) : Type 0 where
+  pub reader : new ≡ record old { held = new.held }
+  pub gives : Gives old new left left' []
+
+-- a read brought bytes, the end, one byte too much, or nothing
 abbrev pub TakesMore : Reader → Reader → Option (List ℕ) → Option (List ℕ) → Result ℕ LineFault → Type 0
-TakesMore old new left left' (Ok count) =
-    (new ≡ record old { taken = old.taken + count; ahead = new.ahead })
-    × (length new.ahead ≡ count)
-    × (old.taken + count ≤ old.stream_max)
-    × (left ≡ before_bytes new.ahead left')
-    × (count ≡ 0 → IfSome left (λ bytes. bytes ≡ []))
-TakesMore old new left left' (Err ReadFault) = (new ≡ old) × (left' ≡ left)
-TakesMore old new left left' (Err TooMuch) =
-    (new ≡ record old { taken = old.taken + 1 })
-    × (old.taken ≡ old.stream_max)
-    × ((byte : ℕ) × (left ≡ before_bytes (byte ∷ []) left'))
-TakesMore old new left left' (Err NoMemory) = (new ≡ old) × (left' ≡ left)
+TakesMore old new left left' (Ok count) = TakesPart old new left left' count
+TakesMore old new left left' (Err TooMuch) = TakesOver old new left left'
+TakesMore old new left left' (Err ReadFault) = TakesNone old new left left'
+TakesMore old new left left' (Err NoMemory) = TakesNone old new left left'
 
--- all that was taken in between is looked at, and no line was given
-pub record Goes (old new : Reader) (left left' : Option (List ℕ)) : Type 0 where
-  pub gave : left ≡ before_bytes (given left left') left'
-  pub taken : IsSome left → new.taken ≡ old.taken + length (given left left')
-  pub lines : IsSome left → (rest : List ℕ) → lines_left old (given left left' ++ rest) ≡ lines_left new rest
-  pub reader : new ≡ record old { taken = new.taken; begun = new.begun; ahead = new.ahead }
-  pub grows : old.taken ≤ new.taken
-  pub within : new.taken ≤ new.stream_max
-
--- what a call of `next` does, if the reader has not stopped
-pub record Reads (old new : Reader) (left left' : Option (List ℕ)) (result : Result Line LineFault) : Type 0 where
-  pub gave : left ≡ before_bytes (given left left') left'
-  pub taken : IsSome left → new.taken ≡ old.taken + length (given left left')
-  pub grows : old.taken ≤ new.taken
-  pub bound : new.taken ≤ new.stream_max + 1
-  pub lines : IsSome left → GivesNext old new (given left left') result
-  pub text : TextStays old new result
-  pub number : new.number ≡ old.number + length (line_given result new)
-  pub line_max : new.line_max ≡ old.line_max
-  pub stream_max : new.stream_max ≡ old.stream_max
+-- a reader that has not stopped reads on to its next answer
+pub record ReadsOn (old new : Reader) (left left' : Option (List ℕ)) (result : Result Line LineFault) : Type 0 where
+  pub advances : Advances old new result
+  pub gives : Gives old new left left' (line_given result new)
   pub failed : new.failed ≡ false
   pub end : result ≡ Ok End → IsTrue new.ended
-  pub done : IsTrue new.ended → IsDone new
-  pub drained : IsTrue new.ended → IfSome left' (λ bytes. bytes ≡ [])
-  pub too_much : (result ≡ Err TooMuch) ↔ (old.stream_max < new.taken)
-  pub looked : (result ≡ Err ReadFault) ⊎ (result ≡ Err TooMuch) → new.ahead ≡ []
   pub unfinished : IsErr result → new.ended ≡ false
+  pub begun : IsOk result → new.begun ≡ Some []
+  pub ahead : IsOk result → length new.ahead < part_max
+  pub looked : (result ≡ Err ReadFault) ⊎ (result ≡ Err TooMuch) → new.ahead ≡ []
+  pub too_much : (result ≡ Err TooMuch) ↔ (new.stream_max < new.taken)

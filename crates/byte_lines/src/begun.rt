@@ -1,7 +1,7 @@
 //! The line that is being read.
-ghost use Rattle.std.specs.Prelude.{◌≡◌, [], ◌↔◌, IsTrue, OnOk, OnErr};
+ghost use Rattle.std.specs.Prelude.{◌≡◌, ℕ, ◌≤◌, [], ◌↔◌, IsTrue, length, OnOk, OnErr};
 ghost use Rattle.byte_lines.specs.Reader.{with_run};
-ghost use Rattle.byte_lines.specs.Begun.{Finishes};
+ghost use Rattle.byte_lines.specs.Buffers.{Finishes};
 
 use super::lines::Line;
 use coin_frac::NoMemory;
@@ -17,16 +17,20 @@ pub struct Begun {
 }
 
 impl Model for Begun {
-    ghost use Rattle.std.specs.Prelude.{ℕ, List, Option, Some, None, if◌then◌else◌};
+    ghost use Rattle.std.specs.Prelude.{Some, None, length, if◌then◌else◌};
+    ghost use Rattle.byte_lines.specs.Buffers.{LineBegun};
 
-    ghost Value = { Option (List ℕ) };
+    ghost Value = { LineBegun };
 
-    ghost view = { λ a. if a.is_too_long then None else Some a.line.items };
+    ghost view = { λ a. record {
+      line = (if a.is_too_long then None else Some a.line.items);
+      held = length a.line.items;
+    } };
 }
 
 impl Begun {
     pub fn new(alloc: Global) -> Begun
-        ensures { result ≡ Some [] }
+        ensures { result ≡ record { line = Some []; held = 0 } }
     {
         Begun {
             line: Vec::new(alloc),
@@ -35,15 +39,17 @@ impl Begun {
     }
 
     pub fn is_empty(&self) -> bool
-        ensures { IsTrue result ↔ (self.now ≡ Some []) }
+        ensures { IsTrue result ↔ (self.now.line ≡ Some []) }
     {
         !self.is_too_long && self.line.is_empty()
     }
 
     /// Adds a run of bytes. A line that grows beyond `max` bytes is let go.
     pub fn extend(&mut self, max: usize, run: &[u8]) -> Result<(), NoMemory>
-        ensures ok { OnOk result (self.new ≡ with_run max self.old run.now) }
+        requires { self.old.held ≤ max }
+        ensures ok { OnOk result (self.new.line ≡ with_run max self.old.line run.now) }
         ensures err { OnErr result (self.new ≡ self.old) }
+        ensures holds { self.new.held ≤ max }
     {
         if self.is_too_long {
             return Ok(());
@@ -58,8 +64,9 @@ impl Begun {
 
     /// Ends the line: `text` becomes it where it is not too long, and another line is begun.
     pub fn finish(&mut self, text: &mut Vec<u8>) -> Line
-        ensures begun { self.new ≡ Some [] }
-        ensures line { Finishes self.old text.old.items text.new.items result }
+        ensures begun { self.new ≡ record { line = Some []; held = 0 } }
+        ensures line { Finishes self.old.line text.old.items text.new.items result }
+        ensures fits { (max : ℕ) → self.old.held ≤ max → length text.old.items ≤ max → length text.new.items ≤ max }
     {
         if self.is_too_long {
             self.is_too_long = false;

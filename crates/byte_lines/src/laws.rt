@@ -1,17 +1,16 @@
 //! Laws on lines, for proofs of what reads them.
-ghost use Rattle.byte_lines.specs.Laws.{CutsInTwo, FeedEndsOneMore, FeedEndsBegun, FeedGivesLine, DoneGivesNone, StayingGivesNone, GivenAddsUp, CallsAddUp, EndGivesAll, BreakGivesWhole, GivesFirst};
+ghost use Rattle.byte_lines.specs.Laws.{FeedEndsPiece, CutsInTwo, LinesAddUp, EndGivesAll, BreakGivesWhole, GivesFirst, GivesFirstOfAll, NothingBeyond, TakesAddUp};
 
-/// Does nothing. Its clauses are laws: what was given when a stream broke off are its whole lines.
+/// Does nothing. Its clauses are laws: how bytes are cut into lines, and how the lines that a reader gave lie among
+/// those of its stream. (Own)
 pub fn whole_lines()
+    ensures pieces { FeedEndsPiece }
     ensures cuts { CutsInTwo }
-    ensures one_more { FeedEndsOneMore }
-    ensures begun { FeedEndsBegun }
-    ensures line { FeedGivesLine }
-    ensures done { DoneGivesNone }
-    ensures stays { StayingGivesNone }
-    ensures given { GivenAddsUp }
-    ensures calls { CallsAddUp }
+    ensures adds_up { LinesAddUp }
     ensures all { EndGivesAll }
     ensures whole { BreakGivesWhole }
     ensures first { GivesFirst }
+    ensures first_of_all { GivesFirstOfAll }
+    ensures nothing_beyond { NothingBeyond }
+    ensures takes { TakesAddUp }
 {}

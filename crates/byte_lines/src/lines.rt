@@ -1,10 +1,12 @@
 //! The reader of lines.
-ghost use Rattle.std.specs.Prelude.{◌≡◌, ℕ, ◌+◌, ◌<◌, ◌≤◌, ◌↔◌, ◌⊎◌, List, [], Option, length, false, IsSome, IsTrue, IsErr, IfSome};
-ghost use Rattle.byte_lines.specs.Pieces.{lines_of};
-ghost use Rattle.byte_lines.specs.Faults.{Rose, before_bytes, given};
-ghost use Rattle.byte_lines.specs.Reader.{lines_left};
-ghost use Rattle.byte_lines.specs.Answers.{HasRead, ReadsOn, GivesNext, TextStays, IsDone, IsStopped, line_given};
-ghost use Rattle.byte_lines.specs.Turns.{IsReading, Reads, LooksAhead, Ends, TakesMore};
+ghost use Rattle.std.specs.Prelude.{◌≡◌, ℕ, ◌≤◌, ◌++◌, List, [], Option, Some, length, false, true, IsTrue};
+ghost use Rattle.std.specs.Io.KnownBytes.{IsAtEnd};
+ghost use Rattle.byte_lines.specs.Answers.{Advances, IsAnswer, IsBounded, IsStopped, line_given};
+ghost use Rattle.byte_lines.specs.Faults.{CountsFaults};
+ghost use Rattle.byte_lines.specs.Pieces.{has_feed};
+ghost use Rattle.byte_lines.specs.Progress.{HasRead};
+ghost use Rattle.byte_lines.specs.Reader.{part_max};
+ghost use Rattle.byte_lines.specs.Turns.{IsReading, ReadsOn, LooksAhead, Ends, TakesMore};
 
 use super::ahead::Ahead;
 use super::begun::Begun;
@@ -94,8 +96,8 @@ pub struct Lines {
 }
 
 impl Model for Lines {
-    ghost use Rattle.std.specs.Prelude.{◌≡◌, ◌+◌, ◌≤◌, length};
-    ghost use Rattle.byte_lines.specs.Reader.{Reader, weight};
+    ghost use Rattle.std.specs.Prelude.{◌+◌};
+    ghost use Rattle.byte_lines.specs.Reader.{Reader};
     ghost use Rattle.byte_lines.specs.States.{is_ended, is_failed, bytes_over, IsSound};
 
     ghost Value = { Reader };
@@ -104,8 +106,9 @@ impl Model for Lines {
       line_max = a.line_max;
       stream_max = a.stream_max;
       taken = a.taken + bytes_over a.state;
-      begun = a.begun;
-      ahead = a.ahead;
+      begun = a.begun.line;
+      ahead = a.ahead.bytes;
+      held = a.begun.held + a.ahead.held;
       text = a.text.items;
       number = a.number;
       ended = is_ended a.state;
@@ -124,13 +127,13 @@ impl Lines {
           taken = 0;
           begun = Some [];
           ahead = [];
+          held = 0;
           text = [];
           number = 0;
           ended = false;
           failed = false;
         } }
-        ensures lines { (rest : List ℕ) → lines_left result rest ≡ lines_of line_max rest }
-        ensures begins { (left : Option (List ℕ)) → HasRead result left left [] }
+        ensures reads { (bytes : List ℕ) → HasRead bytes result (Some bytes) [] }
     {
         Lines {
             line_max,
@@ -146,35 +149,17 @@ impl Lines {
 
     /// Reads on to the next line. After an error, `text` and `number` are those of the line before. (Own)
     pub fn next<S: Source>(&mut self, source: &mut S) -> Result<Line, LineFault>
-        ensures gave { S.left source.old ≡ before_bytes (given (S.left source.old) (S.left source.new)) (S.left source.new) }
-        ensures counted { S.faults source.old ≤ S.faults source.new }
-        ensures taken { IsSome (S.left source.old) →
-            self.new.taken ≡ self.old.taken + length (given (S.left source.old) (S.left source.new)) }
-        ensures grows { self.old.taken ≤ self.new.taken }
-        ensures bound { self.new.taken ≤ self.new.stream_max + 1 }
-        ensures lines { IsSome (S.left source.old) →
-            GivesNext self.old self.new (given (S.left source.old) (S.left source.new)) result }
-        // one call after another, the lines given and those to come are those of all the bytes
-        ensures adds_up { ReadsOn self.old self.new (S.left source.old) (S.left source.new) result }
-        ensures text { TextStays self.old self.new result }
-        ensures number { self.new.number ≡ self.old.number + length (line_given result self.new) }
-        // each line took a byte
-        ensures few { self.new.number ≤ self.new.taken }
-        ensures line_max { self.new.line_max ≡ self.old.line_max }
-        ensures stream_max { self.new.stream_max ≡ self.old.stream_max }
-        // at the end nothing is left, in the source or here
-        ensures end { result ≡ Ok Line.End → IsTrue self.new.ended }
-        ensures done { IsTrue self.new.ended → IsDone self.new }
-        ensures drained { self.old.ended ≡ false → IsTrue self.new.ended →
-            IfSome (S.left source.new) (λ bytes. bytes ≡ []) }
-        ensures unfinished { IsErr result → self.new.ended ≡ false }
-        ensures end_again { IsTrue self.old.ended → result ≡ Ok Line.End }
-        ensures read_fault { result ≡ Err LineFault.ReadFault → Rose (S.faults source.old) (S.faults source.new) }
-        ensures too_much { (result ≡ Err LineFault.TooMuch) ↔ (self.old.stream_max < self.new.taken) }
-        ensures looked { (result ≡ Err LineFault.ReadFault) ⊎ (result ≡ Err LineFault.TooMuch) → self.new.ahead ≡ [] }
-        ensures no_memory { (result ≡ Err LineFault.NoMemory) ↔ IsTrue self.new.failed }
-        // a reader that has stopped reads nothing more
+        // whatever the stream is and was, with this line the lines given are those of what came of it
+        ensures reads { (bytes : List ℕ) (given : List (Option (List ℕ))) →
+            HasRead bytes self.old (S.left source.old) given →
+            HasRead bytes self.new (S.left source.new) (given ++ line_given result self.new) }
+        ensures advances { Advances self.old self.new result }
+        ensures bounded { IsBounded self.new }
+        ensures answer { IsAnswer self.old self.new result }
+        ensures counts { CountsFaults (result ≡ Err LineFault.ReadFault) (S.faults source.old) (S.faults source.new) }
+        // a reader that has stopped, or has a line ahead, asks the source for nothing
         ensures stopped { IsStopped self.old → (self.new ≡ self.old) × (source.new ≡ source.old) }
+        ensures asks { has_feed self.old.ahead ≡ true → source.new ≡ source.old }
     {
         match self.state {
             State::Reading => {}
@@ -206,9 +191,9 @@ impl Lines {
 
     fn read_line<S: Source>(&mut self, source: &mut S) -> Result<Line, LineFault>
         requires { IsReading self.old }
-        ensures reads { Reads self.old self.new (S.left source.old) (S.left source.new) result }
-        ensures counted { S.faults source.old ≤ S.faults source.new }
-        ensures rose { result ≡ Err LineFault.ReadFault → Rose (S.faults source.old) (S.faults source.new) }
+        ensures reads { ReadsOn self.old self.new (S.left source.old) (S.left source.new) result }
+        ensures counts { CountsFaults (result ≡ Err LineFault.ReadFault) (S.faults source.old) (S.faults source.new) }
+        ensures asks { has_feed self.old.ahead ≡ true → source.new ≡ source.old }
     {
         loop {
             if let Some(line) = self.line_ahead()? {
@@ -223,7 +208,8 @@ impl Lines {
     /// The line that ends in what is ahead. Where none does, all that is ahead joins the line begun.
     fn line_ahead(&mut self) -> Result<Option<Line>, NoMemory>
         requires { IsReading self.old }
-        ensures { LooksAhead self.old self.new result }
+        ensures looks { LooksAhead self.old self.new result }
+        ensures part { length self.old.ahead ≤ part_max }
     {
         let ahead = self.ahead.as_slice();
         match memchr(b'\n', ahead) {
@@ -261,8 +247,7 @@ impl Lines {
         requires reading { IsReading self.old }
         requires looked { self.old.ahead ≡ [] }
         ensures takes { TakesMore self.old self.new (S.left source.old) (S.left source.new) result }
-        ensures counted { S.faults source.old ≤ S.faults source.new }
-        ensures rose { result ≡ Err LineFault.ReadFault → Rose (S.faults source.old) (S.faults source.new) }
+        ensures counts { CountsFaults (result ≡ Err LineFault.ReadFault) (S.faults source.old) (S.faults source.new) }
     {
         let room = self.stream_max - self.taken;
         if room == 0 {
@@ -279,8 +264,7 @@ impl Lines {
         requires looked { self.old.ahead ≡ [] }
         requires full { self.old.stream_max ≤ self.old.taken }
         ensures takes { TakesMore self.old self.new (S.left source.old) (S.left source.new) result }
-        ensures counted { S.faults source.old ≤ S.faults source.new }
-        ensures rose { result ≡ Err LineFault.ReadFault → Rose (S.faults source.old) (S.faults source.new) }
+        ensures counts { CountsFaults (result ≡ Err LineFault.ReadFault) (S.faults source.old) (S.faults source.new) }
     {
         let count = self.ahead.refill(source, 1)?;
         if count == 0 {

@@ -101,7 +101,8 @@ impl Source for FaultySource<'_> {
 
     fn read(&mut self, into: &mut [u8]) -> Result<usize, ReadFault>
         requires { 0 < length into.old }
-        ensures reads { IsRead (Some self.old.left) (Some self.new.left) self.old.faults self.new.faults into.new result }
+        ensures reads { IsRead (Some self.old.left) (Some self.new.left) self.old.faults self.new.faults
+            into.new result }
         ensures fails { IsErr result ↔ Contains self.old.failing self.old.calls }
         ensures count { IfOk result (λ n. n ≡ min (min self.old.part (length self.old.left)) (length into.old)) }
         ensures calls { self.new ≡ record self.old {
@@ -224,7 +225,8 @@ impl Sink for FaultySink<'_> {
 
     fn write(&mut self, piece: &[u8]) -> Result<usize, SinkFault>
         requires { 0 < length piece.now }
-        ensures writes { IsWrite (Some self.old.bytes) (Some self.new.bytes) self.old.faults self.new.faults piece.now result }
+        ensures writes { IsWrite (Some self.old.bytes) (Some self.new.bytes) self.old.faults self.new.faults
+            piece.now result }
         ensures fails { (result ≡ Err SinkFault.WriteFault) ↔ Contains self.old.failing self.old.calls }
         ensures count { IfOk result (λ n. n ≡ min self.old.part (length piece.now)) }
         ensures calls { self.new ≡ record self.old {

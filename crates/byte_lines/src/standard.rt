@@ -1,5 +1,6 @@
 //! A reader of `std::io` as a source, and a writer as a sink.
-ghost use Rattle.std.specs.Prelude.{◌≡◌, ◌<◌, ◌≤◌, None, IfSome, length, is_ok, if◌then◌else◌};
+ghost use Rattle.std.specs.Prelude.{◌≡◌, ◌<◌, ◌≤◌, IfSome, IfNone, length, take, is_ok, if◌then◌else◌};
+ghost use Rattle.std.specs.Io.KnownBytes.{Appends, Keeps};
 ghost use Rattle.byte_lines.specs.Sources.{IsRead};
 ghost use Rattle.byte_lines.specs.Sinks.{IsWrite};
 ghost use Rattle.byte_lines.specs.InMemory.{one_more};
@@ -9,39 +10,40 @@ use super::source::{ReadFault, Source};
 use std::io::{Read, Write};
 use std::marker::Model;
 
-/// A source that reads from `reader`. It tells nothing of the bytes left, and counts each error.
-/// (Own)
+/// A source that reads from `reader`, with one read for each. It tells the bytes that the reader tells, and counts
+/// each error. (Own)
 #[derive(Drop)]
-pub struct ReaderSource<R> {
+pub struct ReaderSource<R: Read> {
     reader: R,
     faults: u64,
 }
 
-impl<R> Model for ReaderSource<R> {
-    ghost use Rattle.std.specs.Prelude.{ℕ};
+impl<R: Read> Model for ReaderSource<R> {
+    ghost use Rattle.byte_lines.specs.Adapters.{ReaderTells};
 
-    ghost Value = { ℕ };
+    ghost Value = { ReaderTells };
 
-    ghost view = { λ a. a.faults };
+    ghost view = { λ a. record { left = R.remaining a.reader; faults = a.faults } };
 }
 
-impl<R> ReaderSource<R> {
+impl<R: Read> ReaderSource<R> {
     /// A source over a reader, with no fault counted. (Own)
     pub fn new(reader: R) -> Self
-        ensures { result ≡ 0 }
+        ensures { result ≡ record { left = R.remaining reader; faults = 0 } }
     {
         ReaderSource { reader, faults: 0 }
     }
 }
 
 impl<R: Read> Source for ReaderSource<R> {
-    ghost left = { λ _. None };
+    ghost left = { λ source. source.left };
 
-    ghost faults = { λ count. count };
+    ghost faults = { λ source. source.faults };
 
     fn read(&mut self, into: &mut [u8]) -> Result<usize, ReadFault>
-        ensures reads { IsRead None None self.old self.new into.new result }
-        ensures count { self.new ≡ (if is_ok result then self.old else one_more self.old) }
+        requires { 0 < length into.old }
+        ensures reads { IsRead self.old.left self.new.left self.old.faults self.new.faults into.new result }
+        ensures count { self.new.faults ≡ (if is_ok result then self.old.faults else one_more self.old.faults) }
     {
         match self.reader.read(into) {
             Ok(count) => Ok(count),
@@ -53,51 +55,63 @@ impl<R: Read> Source for ReaderSource<R> {
     }
 }
 
-/// A sink that writes to `writer`, and flushes it each time. It tells nothing of the bytes taken,
-/// and counts each error, and each write of nothing as one. (Own)
+/// A sink that writes to `writer`, and flushes it each time. It tells the bytes that the writer tells, but for those
+/// whose flush failed, after which each write fails. It counts each error, and each write of nothing as one. (Own)
 #[derive(Drop)]
-pub struct WriterSink<W> {
+pub struct WriterSink<W: Write> {
     writer: W,
+    unflushed: usize,
     faults: u64,
 }
 
-impl<W> Model for WriterSink<W> {
-    ghost use Rattle.std.specs.Prelude.{ℕ};
+impl<W: Write> Model for WriterSink<W> {
+    ghost use Rattle.byte_lines.specs.Adapters.{WriterTells, flushed_of};
 
-    ghost Value = { ℕ };
+    ghost Value = { WriterTells };
 
-    ghost view = { λ a. a.faults };
-}
-
-impl<W> WriterSink<W> {
-    /// A sink over a writer, with no fault counted. (Own)
-    pub fn new(writer: W) -> Self
-        ensures { result ≡ 0 }
-    {
-        WriterSink { writer, faults: 0 }
-    }
+    ghost view = { λ a. record { taken = flushed_of (W.contents a.writer) a.unflushed; faults = a.faults } };
 }
 
 impl<W: Write> WriterSink<W> {
+    /// A sink over a writer, with no fault counted. (Own)
+    pub fn new(writer: W) -> Self
+        ensures { result ≡ record { taken = W.contents writer; faults = 0 } }
+    {
+        WriterSink {
+            writer,
+            unflushed: 0,
+            faults: 0,
+        }
+    }
+
     /// Writes and flushes: how many bytes were written, none where either failed or nothing was.
     fn write_through(&mut self, piece: &[u8]) -> Option<usize>
         ensures count { IfSome result (λ n. (0 < n) × (n ≤ length piece.now)) }
-        ensures faults { self.new ≡ self.old }
+        ensures took { IfSome result (λ n. Appends self.old.taken self.new.taken (take n piece.now)) }
+        ensures stays { IfNone result (Keeps self.old.taken self.new.taken) }
+        ensures faults { self.new.faults ≡ self.old.faults }
     {
+        if self.unflushed > 0 {
+            return None;
+        }
         let count = self.writer.write(piece).ok()?;
-        self.writer.flush().ok()?;
+        if self.writer.flush().is_err() {
+            self.unflushed = count;
+            return None;
+        }
         if count == 0 { None } else { Some(count) }
     }
 }
 
 impl<W: Write> Sink for WriterSink<W> {
-    ghost taken = { λ _. None };
+    ghost taken = { λ sink. sink.taken };
 
-    ghost faults = { λ count. count };
+    ghost faults = { λ sink. sink.faults };
 
     fn write(&mut self, piece: &[u8]) -> Result<usize, SinkFault>
-        ensures writes { IsWrite None None self.old self.new piece.now result }
-        ensures count { self.new ≡ (if is_ok result then self.old else one_more self.old) }
+        requires { 0 < length piece.now }
+        ensures writes { IsWrite self.old.taken self.new.taken self.old.faults self.new.faults piece.now result }
+        ensures count { self.new.faults ≡ (if is_ok result then self.old.faults else one_more self.old.faults) }
     {
         match self.write_through(piece) {
             Some(count) => Ok(count),

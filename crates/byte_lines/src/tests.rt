@@ -26,10 +26,11 @@ impl Write for Broken {
     }
 }
 
-/// A writer that takes all, and counts how often it was flushed.
+/// A writer that takes all, counts how often it was flushed, and fails at one of these.
 #[derive(Drop)]
 struct Watched {
     flushes: u8,
+    failing: u8,
 }
 
 impl Write for Watched {
@@ -39,7 +40,32 @@ impl Write for Watched {
 
     fn flush(&mut self) -> io::Result<()> {
         self.flushes = self.flushes.saturating_add(1);
+        if self.flushes == self.failing {
+            return Err(io::ErrorKind::Other.into());
+        }
         Ok(())
+    }
+}
+
+/// A reader that gives one byte at each read, fails at the second, and keeps how many it was asked for.
+#[derive(Drop)]
+struct Failing {
+    calls: u8,
+    asked: usize,
+}
+
+impl Read for Failing {
+    fn read(&mut self, buf: &mut [u8]) -> io::Result<usize> {
+        self.asked = buf.len();
+        self.calls = self.calls.saturating_add(1);
+        if self.calls == 2 {
+            return Err(io::ErrorKind::Other.into());
+        }
+        let Some(first) = buf.first_mut() else {
+            return Ok(0);
+        };
+        *first = if self.calls == 4 { b'\n' } else { b'a' };
+        Ok(1)
     }
 }
 
@@ -117,10 +143,31 @@ fn adapts_readers_and_writers(rt: HostRuntime) {
     let mut sink = WriterSink::new(&mut bytes);
     assert_eq!(rt; put_all(&mut sink, b"ab"), Ok(()));
     assert_eq!(rt; bytes.as_slice(), b"ab".as_slice());
-    let mut watched = Watched { flushes: 0 };
-    let mut flushed = WriterSink::new(&mut watched);
-    assert_eq!(rt; put_all(&mut flushed, b"ab"), Ok(()));
-    assert_eq!(rt; watched.flushes, 1);
     let mut stuck = WriterSink::new(Broken);
     assert_eq!(rt; put_all(&mut stuck, b"ab"), Err(SinkFault::WriteFault));
+}
+
+#[test]
+fn flushes_each_write(rt: HostRuntime) {
+    let mut watched = Watched {
+        flushes: 0,
+        failing: 2,
+    };
+    let mut sink = WriterSink::new(&mut watched);
+    assert_eq!(rt; put_all(&mut sink, b"ab"), Ok(()));
+    assert_eq!(rt; put_all(&mut sink, b"cd"), Err(SinkFault::WriteFault));
+    assert_eq!(rt; put_all(&mut sink, b"ef"), Err(SinkFault::WriteFault));
+    assert_eq!(rt; watched.flushes, 2);
+}
+
+#[test]
+fn reads_on_after_an_error_of_the_reader(rt: HostRuntime) {
+    let mut failing = Failing { calls: 0, asked: 0 };
+    let mut source = ReaderSource::new(&mut failing);
+    let mut lines = Lines::new(rt.alloc(), 16, 1_000_000);
+    assert_eq!(rt; lines.next(&mut source), Err(LineFault::ReadFault));
+    assert_eq!(rt; lines.next(&mut source), Ok(Line::Whole));
+    assert_eq!(rt; lines.text(), b"aa".as_slice());
+    assert_eq!(rt; failing.calls, 4);
+    assert_eq!(rt; failing.asked, 65_536);
 }
