@@ -1,0 +1,108 @@
+//! The book of accounts: the live entries, and those that stood at the last freeze.
+#![tactic(auto)]
+
+ghost use Rattle.std.specs.Prelude.{◌≡◌, [], OnOk, OnErr, length, option_map};
+ghost use Rattle.gov_ids.specs.Orders.{credential_cmp};
+ghost use Rattle.maps.specs.Maps.{value_at, entry_after};
+ghost use Rattle.view_map.specs.View.{IsInOrder, frozen_of};
+ghost use Rattle.accounts.specs.Accounts.{is_nothing, entered};
+
+pub use book_records::{Entry, Registered};
+use coin_frac::NoMemory;
+use gov_ids::Credential;
+use std::alloc::Global;
+use std::marker::Model;
+use view_map::ViewMap;
+
+/// The account entries by credential, live and frozen. Contracts see it as the `ViewMap` that it is. (DState of the formal specification; the frozen entries are own)
+#[derive(Debug, Drop)]
+pub struct AccountBook {
+    view: ViewMap<Credential, Entry>,
+}
+
+impl Model for AccountBook {
+    ghost use Rattle.accounts.specs.Accounts.{Accounts};
+
+    ghost Value = { Accounts };
+
+    ghost view = { λ a. a.view };
+}
+
+// Whether an entry has neither stake nor a registration.
+fn is_empty(e: &Entry) -> bool
+    ensures { result ≡ is_nothing e.now }
+{
+    e.stake == 0 && e.registered.is_none()
+}
+
+impl AccountBook {
+    /// A book with no entry, live or frozen. (DState of the formal specification)
+    pub fn new(alloc: Global) -> AccountBook
+        ensures { result ≡ record { live = []; saved = [] } }
+    {
+        AccountBook {
+            view: ViewMap::new(alloc),
+        }
+    }
+
+    /// The live entry of a credential, none where there is none. (DState of the formal specification)
+    pub fn get(&self, c: &Credential) -> Option<Entry>
+        ensures value { result ≡ value_at credential_cmp self.now.live c.now }
+        ensures in_order { IsInOrder credential_cmp self.now }
+    {
+        self.view.get(c)
+    }
+
+    /// Puts a live entry in place of what was there; one without stake and registration takes it away. Want of memory changes nothing. (Own)
+    pub fn put(&mut self, c: Credential, e: Entry) -> Result<(), NoMemory>
+        ensures ok { OnOk result (self.new ≡ entered c e self.old) }
+        ensures frozen { frozen_of credential_cmp self.new ≡ frozen_of credential_cmp self.old }
+        ensures err { OnErr result (self.new ≡ self.old) }
+    {
+        if is_empty(&e) {
+            self.view.remove(&c)?;
+        } else {
+            self.view.put(c, e)?;
+        }
+        Ok(())
+    }
+
+    /// Makes the live entries the frozen ones. It takes no memory and copies no entry. (SNAP of the formal specification; how it is kept is own)
+    pub fn freeze(&mut self)
+        ensures fields { self.new ≡ record self.old { saved = [] } }
+        ensures frozen { frozen_of credential_cmp self.new ≡ self.old.live }
+    {
+        self.view.freeze();
+    }
+
+    /// The entry of a credential at the last freeze, none where there was none. (Own)
+    pub fn frozen_get(&self, c: &Credential) -> Option<Entry>
+        ensures { result ≡ value_at credential_cmp (frozen_of credential_cmp self.now) c.now }
+    {
+        self.view.frozen_get(c)
+    }
+
+    /// The first frozen entry past a credential, or the first of all, in the order of credentials; none at the end. (Own)
+    pub fn frozen_next(&self, after: Option<&Credential>) -> Option<(Credential, Entry)>
+        ensures { result ≡ entry_after credential_cmp (option_map (λ c. c.now) after.entry) (frozen_of credential_cmp self.now) }
+    {
+        self.view.frozen_next(after)
+    }
+
+    /// How many frozen entries there are. It walks what has changed since the freeze. (Own)
+    pub fn frozen_len(&self) -> u64
+        ensures { result ≡ length (frozen_of credential_cmp self.now) }
+    {
+        self.view.frozen_len()
+    }
+
+    /// The first live entry past a credential, or the first of all, in the order of credentials; none at the end. (DState of the formal specification)
+    pub fn next(&self, after: Option<&Credential>) -> Option<(Credential, Entry)>
+        ensures { result ≡ entry_after credential_cmp (option_map (λ c. c.now) after.entry) self.now.live }
+    {
+        self.view.next(after)
+    }
+}
+
+#[cfg(test)]
+mod tests;

@@ -1,0 +1,192 @@
+//! The book of registered pools: their terms, and the boundary that turns terms and reaps pools.
+#![tactic(auto)]
+
+ghost use Rattle.std.specs.Prelude.{◌≡◌, [], ◌++◌, None, option_map, is_none, unwrap_or, OnOk, OnErr, IfOk};
+ghost use Rattle.gov_ids.specs.Orders.{pool_cmp};
+ghost use Rattle.maps.specs.Maps.{IsMap, value_at, with_value, entry_after};
+ghost use Rattle.maps.specs.Replaced.{with_option};
+ghost use Rattle.book_records.specs.Pools.{pool_after, with_registration, with_retirement, turned, retires_at};
+ghost use Rattle.cert_pool.specs.Reaping.{reaped_of, left_of};
+
+pub use book_records::{Pool, PoolTerms};
+use coin_frac::NoMemory;
+use gov_ids::{Account, PoolId};
+use maps::keys_past;
+use std::alloc::Global;
+use std::collections::BTreeMap;
+use std::marker::Model;
+
+/// The registered pools in the order of their ids. (PState of the formal specification)
+#[derive(Debug, Drop)]
+pub struct PoolBook {
+    alloc: Global,
+    pools: BTreeMap<PoolId, Pool>,
+}
+
+impl Model for PoolBook {
+    ghost use Rattle.std.specs.Prelude.{List};
+    ghost use Rattle.gov_ids.specs.declared.PoolId.{PoolId};
+    ghost use Rattle.gov_ids.specs.Orders.{pool_cmp};
+    ghost use Rattle.book_records.specs.declared.pool.Pool.{Pool};
+    ghost use Rattle.maps.specs.Maps.{IsMap};
+
+    ghost Value = { List (PoolId × Pool) };
+
+    ghost view = { λ a. a.pools.entries };
+
+    ghost invariant = { λ a. IsMap pool_cmp a.pools.entries };
+}
+
+/// A pool that a boundary removed. (POOLREAP of the formal specification)
+#[derive(Clone, Copy, Debug, PartialEq, Eq)]
+pub struct Reaped {
+    pub pool: PoolId,
+    /// What its first registration paid, in lovelace.
+    pub deposit: u64,
+    /// The reward account of the terms that hold, to which the deposit goes.
+    pub account: Account,
+}
+
+impl PoolBook {
+    /// A book with no pool. (PState of the formal specification)
+    pub fn new(alloc: Global) -> PoolBook
+        ensures { result ≡ [] }
+    {
+        PoolBook {
+            alloc,
+            pools: BTreeMap::new(alloc),
+        }
+    }
+
+    /// The pool of an id, none where it is not registered. (PState of the formal specification)
+    pub fn get(&self, p: &PoolId) -> Option<Pool>
+        ensures value { result ≡ value_at pool_cmp self.now p.now }
+        ensures in_order { IsMap pool_cmp self.now }
+    {
+        self.pools.get(p).copied()
+    }
+
+    /// What the id has becomes `to`. Want of memory changes nothing. (Own)
+    pub fn restore(&mut self, p: PoolId, to: Option<Pool>) -> Result<(), NoMemory>
+        ensures ok { OnOk result (self.new ≡ with_option pool_cmp p to self.old) }
+        ensures err { OnErr result (self.new ≡ self.old) }
+    {
+        match to {
+            Some(pool) => self.put(p, pool),
+            None => {
+                self.pools.remove(&p);
+                Ok(())
+            }
+        }
+    }
+
+    /// Registers a pool with its deposit, in lovelace, and its terms; of a registered pool they become the future terms, its retirement is cancelled, and its deposit stays. It gives whether this is the first registration. Want of memory changes nothing. (POOL of the formal specification)
+    pub fn register(&mut self, p: PoolId, terms: PoolTerms, deposit: u64) -> Result<bool, NoMemory>
+        ensures first { IfOk result (λ r. r ≡ is_none (value_at pool_cmp self.old p)) }
+        ensures ok { OnOk result (self.new ≡ with_registration p terms deposit self.old) }
+        ensures err { OnErr result (self.new ≡ self.old) }
+    {
+        let known = self.get(&p);
+        let first = known.is_none();
+        self.put(p, registered(known, terms, deposit))?;
+        Ok(first)
+    }
+
+    /// The pool retires with the epoch that is named: that epoch begins without it. A pool that is not registered stays so. (POOL of the formal specification)
+    pub fn retire(&mut self, p: &PoolId, epoch: u64)
+        ensures { self.new ≡ with_retirement p.now epoch self.old }
+    {
+        if let Some(pool) = self.pools.get_mut(p) {
+            pool.retires = Some(epoch);
+        }
+    }
+
+    /// The future terms take effect, and then the pools that retire with the epoch leave. It gives these in order of their ids. Want of memory changes nothing. (POOLREAP of the formal specification)
+    pub fn reap(&mut self, epoch: u64) -> Result<Vec<Reaped>, NoMemory>
+        ensures reaped { IfOk result (λ r. r.items ≡ reaped_of epoch self.old) }
+        ensures left { OnOk result (self.new ≡ left_of epoch self.old) }
+        ensures err { OnErr result (self.new ≡ self.old) }
+    {
+        let reaped = self.reaped(epoch)?;
+        self.pools.retain(|_, pool| {
+            *pool = turned(*pool);
+            !retires_at(pool, epoch)
+        });
+        Ok(reaped)
+    }
+
+    /// The first pool past an id, or the first of all, in the order of ids; none at the end. (PState of the formal specification)
+    pub fn next(&self, after: Option<&PoolId>) -> Option<(PoolId, Pool)>
+        ensures { result ≡ entry_after pool_cmp (option_map (λ p. p.now) after.entry) self.now }
+    {
+        let (p, pool) = self.pools.range(keys_past(after)).next()?;
+        Some((*p, *pool))
+    }
+
+    // A pool in place of what the id had.
+    fn put(&mut self, p: PoolId, pool: Pool) -> Result<(), NoMemory>
+        ensures ok { OnOk result (self.new ≡ with_value pool_cmp p pool self.old) }
+        ensures err { OnErr result (self.new ≡ self.old) }
+    {
+        let terms: PoolTerms = pool.terms;
+        self.pools.insert(p, Pool { terms, ..pool })?;
+        Ok(())
+    }
+
+    // The pools that retire with the epoch, by the terms that take effect then.
+    fn reaped(&self, epoch: u64) -> Result<Vec<Reaped>, NoMemory>
+        ensures { IfOk result (λ r. r.items ≡ reaped_of epoch self.now) }
+    {
+        let mut reaped = Vec::new(self.alloc);
+        for (p, pool) in &self.pools {
+            if retires_at(pool, epoch) {
+                reaped.push(Reaped {
+                    pool: *p,
+                    deposit: pool.deposit,
+                    account: turned(*pool).terms.account,
+                })?;
+            }
+        }
+        Ok(reaped)
+    }
+}
+
+// What a registration makes of what was there.
+fn registered(known: Option<Pool>, terms: PoolTerms, deposit: u64) -> Pool
+    ensures { result ≡ pool_after deposit terms known }
+{
+    match known {
+        Some(pool) => Pool {
+            future: Some(terms),
+            retires: None,
+            ..pool
+        },
+        None => Pool {
+            deposit,
+            terms,
+            future: None,
+            retires: None,
+        },
+    }
+}
+
+// The pool with its future terms in force, if it has some.
+fn turned(pool: Pool) -> Pool
+    ensures { result ≡ turned pool }
+{
+    Pool {
+        terms: pool.future.unwrap_or(pool.terms),
+        future: None,
+        ..pool
+    }
+}
+
+// Whether the pool retires with the epoch.
+fn retires_at(pool: &Pool, epoch: u64) -> bool
+    ensures { result ≡ retires_at epoch pool.now }
+{
+    pool.retires == Some(epoch)
+}
+
+#[cfg(test)]
+mod tests;

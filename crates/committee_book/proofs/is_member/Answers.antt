@@ -1,0 +1,15 @@
+use Rattle.std.proofs.Common.{◌∙◌, rules, tests}
+use Rattle.std.specs.List.{list_any}
+use Rattle.std.proofs.lemmas.Iterator.{YieldsList-from_slice}
+use Rattle.std.proofs.lemmas.Iterator.Search.{any_from_yields_List}
+use Rattle.gov_ids.specs.contracts.CredentialPartialEq.TheImpl as credential_eq
+use Rattle.gov_ids.proofs.Sames.{credential_same}
+use Rattle.committee_book.proofs.is_member.Goals as goal
+
+pub returns-in-Some : goal.returns-in-Some
+returns-in-Some c =
+    let members = c.in-Some.committee.now.members in
+    rw c.in-Some.is (
+    any_from_yields_List (λ m. credential_eq.eq-value.it m.0 c.args.cold.now) _ _ _ c.any.ensures.ran (YieldsList-from_slice members cc) (λ x b q k. search (rules, tests))
+    ∙ (λ i. list_any (λ m. credential_same i m.0 c.args.cold.now) members)
+    )

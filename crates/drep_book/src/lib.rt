@@ -1,0 +1,133 @@
+//! The book of registered DReps, with the dormant count.
+#![tactic(auto)]
+
+ghost use Rattle.std.specs.Prelude.{◌≡◌, ◌+◌, ◌^◌, ◌<◌, [], option_map, OnOk, OnErr, if◌then◌else◌};
+ghost use Rattle.gov_ids.specs.Orders.{credential_cmp};
+ghost use Rattle.maps.specs.Maps.{IsMap, value_at, with_value, without_key, entry_after};
+ghost use Rattle.book_records.specs.Dormancy.{is_kept_active, extended, with_dormant_added, AllFit};
+ghost use Rattle.drep_book.specs.Dreps.{Dreps};
+
+pub use book_records::DrepState;
+use coin_frac::NoMemory;
+use gov_ids::Credential;
+use maps::keys_past;
+use std::alloc::Global;
+use std::collections::BTreeMap;
+use std::marker::Model;
+
+/// The registered DReps with their deposits and expiries, and the dormant count: how many epochs ended without a proposal since a transaction proposed last. (GState of the formal specification; how the count acts is own)
+#[derive(Debug, Drop)]
+pub struct DrepBook {
+    dreps: BTreeMap<Credential, DrepState>,
+    dormant: u64,
+}
+
+impl Model for DrepBook {
+    ghost use Rattle.gov_ids.specs.Orders.{credential_cmp};
+    ghost use Rattle.maps.specs.Maps.{IsMap};
+    ghost use Rattle.drep_book.specs.Dreps.{Dreps};
+
+    ghost Value = { Dreps };
+
+    ghost view = { λ a. record { dreps = a.dreps.entries; dormant = a.dormant } };
+
+    ghost invariant = { λ a. IsMap credential_cmp a.dreps.entries };
+}
+
+impl DrepBook {
+    /// A book with no DRep and no dormant epoch. (GState of the formal specification)
+    pub fn new(alloc: Global) -> DrepBook
+        ensures { result ≡ record { dreps = []; dormant = 0 } }
+    {
+        DrepBook {
+            dreps: BTreeMap::new(alloc),
+            dormant: 0,
+        }
+    }
+
+    /// The DRep of a credential, none where it is not registered. (GState of the formal specification)
+    pub fn get(&self, c: &Credential) -> Option<DrepState>
+        ensures value { result ≡ value_at credential_cmp self.now.dreps c.now }
+        ensures in_order { IsMap credential_cmp self.now.dreps }
+    {
+        self.dreps.get(c).copied()
+    }
+
+    /// A DRep in place of what the credential had. Want of memory changes nothing. (GOVCERT of the formal specification)
+    pub fn put(&mut self, c: Credential, s: DrepState) -> Result<(), NoMemory>
+        ensures ok { OnOk result (self.new ≡ record self.old { dreps = with_value credential_cmp c s self.old.dreps }) }
+        ensures err { OnErr result (self.new ≡ self.old) }
+    {
+        self.dreps.insert(c, s)?;
+        Ok(())
+    }
+
+    /// Removes the DRep of a credential and gives it, none where it is not registered. (GOVCERT of the formal specification)
+    pub fn take(&mut self, c: &Credential) -> Option<DrepState>
+        ensures value { result ≡ value_at credential_cmp self.old.dreps c.now }
+        ensures rest { self.new ≡ record self.old { dreps = without_key credential_cmp c.now self.old.dreps } }
+    {
+        self.dreps.remove(c)
+    }
+
+    /// How many epochs ended without a proposal since a transaction proposed last. (Own)
+    pub fn dormant(&self) -> u64
+        ensures { result ≡ self.now.dormant }
+    {
+        self.dormant
+    }
+
+    /// The dormant epochs are added to the expiry of each DRep that with them has not expired by the epoch, and none are left. It walks the DReps, but for a dormant count of 0. (Own)
+    pub fn refresh(&mut self, epoch: u64)
+        requires fit { AllFit self.old.dormant self.old.dreps }
+        ensures dreps { self.new.dreps ≡ with_dormant_added epoch self.old.dormant self.old.dreps }
+        ensures dormant { self.new.dormant ≡ 0 }
+    {
+        if self.dormant == 0 {
+            return;
+        }
+        let dormant = self.dormant;
+        self.dreps.retain(|_, d| {
+            *d = with_dormant(*d, epoch, dormant);
+            true
+        });
+        self.dormant = 0;
+    }
+
+    /// One more epoch ended without a proposal. (Own)
+    pub fn grow_dormant(&mut self)
+        requires fits { self.old.dormant + 1 < 2 ^ 64 }
+        ensures { self.new ≡ record self.old { dormant = self.old.dormant + 1 } }
+    {
+        self.dormant += 1;
+    }
+
+    /// The dormant count becomes `n` epochs; the expiries stay. (Own)
+    pub fn set_dormant(&mut self, n: u64)
+        ensures { self.new ≡ record self.old { dormant = n } }
+    {
+        self.dormant = n;
+    }
+
+    /// The first DRep past a credential, or the first of all, in the order of credentials; none at the end. (GState of the formal specification)
+    pub fn next(&self, after: Option<&Credential>) -> Option<(Credential, DrepState)>
+        ensures { result ≡ entry_after credential_cmp (option_map (λ c. c.now) after.entry) self.now.dreps }
+    {
+        let (c, s) = self.dreps.range(keys_past(after)).next()?;
+        Some((*c, *s))
+    }
+}
+
+// The DRep with the dormant epochs added, if it has not expired with them. A sum that does not fit stops at the last number.
+fn with_dormant(d: DrepState, epoch: u64, dormant: u64) -> DrepState
+    ensures { d.expiry + dormant < 2 ^ 64 → result ≡ (if is_kept_active epoch dormant d then extended dormant d else d) }
+{
+    let expiry = d.expiry.saturating_add(dormant);
+    if expiry < epoch {
+        return d;
+    }
+    DrepState { expiry, ..d }
+}
+
+#[cfg(test)]
+mod tests;

@@ -1,0 +1,6 @@
+pub mod Parents
+pub mod Index
+pub mod Entries
+pub mod Retaining
+pub mod Voting
+pub mod Searched

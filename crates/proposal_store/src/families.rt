@@ -1,0 +1,84 @@
+ghost use Rattle.std.specs.Prelude.{◌≡◌, ◌++◌, [], ◌∷◌, OnOk, OnErr, if◌then◌else◌};
+ghost use Rattle.std.specs.Ordering.{eq_by_cmp};
+ghost use Rattle.gov_model.specs.Proposals.{children_of};
+ghost use Rattle.proposal_store.specs.declared.families.Parent.{Parent};
+ghost use Rattle.proposal_store.specs.Families.{parent_cmp, ids_at};
+
+use coin_frac::NoMemory;
+use gov_actions::{Proposal, Purpose};
+use gov_ids::ActionId;
+use listed::Listed;
+use std::alloc::Global;
+use std::collections::BTreeMap;
+use std::marker::Model;
+
+// What an action with a purpose follows.
+#[derive(Clone, Copy, PartialEq, Eq, PartialOrd, Ord)]
+pub(crate) struct Parent {
+    pub(crate) purpose: Purpose,
+    pub(crate) previous: Option<ActionId>,
+}
+
+// The ids of the proposals that follow each, in order of submission.
+#[derive(Drop)]
+pub(crate) struct Families {
+    alloc: Global,
+    index: BTreeMap<Parent, Listed<ActionId>>,
+}
+
+impl Model for Families {
+    ghost use Rattle.std.specs.Prelude.{List};
+    ghost use Rattle.gov_ids.specs.declared.ActionId.{ActionId};
+    ghost use Rattle.proposal_store.specs.declared.families.Parent.{Parent};
+
+    ghost Value = { List (Parent × List ActionId) };
+
+    ghost view = { λ a. a.index.entries };
+}
+
+impl Families {
+    pub(crate) fn new(alloc: Global) -> Families
+        ensures { result ≡ [] }
+    {
+        Families {
+            alloc,
+            index: BTreeMap::new(alloc),
+        }
+    }
+
+    pub(crate) fn get(&self, parent: &Parent) -> &[ActionId]
+        ensures { result.now ≡ ids_at self.now parent.now }
+    {
+        match self.index.get(parent) {
+            Some(ids) => ids.as_slice(),
+            None => &[],
+        }
+    }
+
+    // One more child, at the end. Want of memory changes nothing.
+    fn add(&mut self, parent: Parent, id: ActionId) -> Result<(), NoMemory>
+        ensures ok { OnOk result ((q : Parent) → ids_at self.new q ≡ (if eq_by_cmp parent_cmp parent q then ids_at self.old q ++ id ∷ [] else ids_at self.old q)) }
+        ensures err { OnErr result (self.new ≡ self.old) }
+    {
+        if let Some(ids) = self.index.get_mut(&parent) {
+            ids.push(id)?;
+            return Ok(());
+        }
+        let mut ids = Listed::new(self.alloc);
+        ids.push(id)?;
+        self.index.insert(parent, ids)?;
+        Ok(())
+    }
+
+    // A proposal among the children of what it follows, if it has a purpose. Want of memory changes nothing.
+    pub(crate) fn note(&mut self, p: &Proposal) -> Result<(), NoMemory>
+        ensures ok { OnOk result ((q : Parent) → ids_at self.new q ≡ ids_at self.old q ++ children_of q.purpose q.previous (p.now ∷ [])) }
+        ensures err { OnErr result (self.new ≡ self.old) }
+    {
+        let previous = p.action.previous();
+        match p.action.purpose() {
+            Some(purpose) => self.add(Parent { purpose, previous }, p.id),
+            None => Ok(()),
+        }
+    }
+}

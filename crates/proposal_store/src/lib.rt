@@ -1,0 +1,11 @@
+//! The live proposals, in order of submission.
+#![tactic(auto)]
+
+mod families;
+mod store;
+mod votes;
+
+pub use store::ProposalStore;
+
+#[cfg(test)]
+mod tests;

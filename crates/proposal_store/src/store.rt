@@ -1,0 +1,182 @@
+ghost use Rattle.std.specs.Prelude.{◌≡◌, ◌+◌, ◌^◌, ◌<◌, ◌++◌, [], ◌∷◌, None, filter, map, length, slice_get, OnOk, OnErr, IfOk};
+ghost use Rattle.std.specs.Option.{option_copied};
+ghost use Rattle.std.specs.List.{IsDistinct};
+ghost use Rattle.std.specs.Map.{values_of};
+ghost use Rattle.gov_ids.specs.declared.Voter.TheVariants.{Drep};
+ghost use Rattle.gov_ids.specs.Orders.{voter_cmp};
+ghost use Rattle.gov_ids.specs.Same.{same_action};
+ghost use Rattle.gov_model.specs.Ratified.{ids_of};
+ghost use Rattle.gov_model.specs.Proposals.{proposal_of, children_of, deposits_of, those_of, others_than, with_vote, without_vote, with_change};
+ghost use Rattle.maps.specs.Maps.{IsMap};
+ghost use Rattle.proposal_store.specs.Store.{AllOrdered, is_in, is_out};
+
+use crate::families::{Families, Parent};
+use crate::votes::{drop_vote, put_vote};
+use coin_frac::NoMemory;
+use gov_actions::{Proposal, Purpose, Vote};
+use gov_ids::{ActionId, Credential, Voter};
+use indexmap::IndexMap;
+use maps::set_of;
+use std::alloc::Global;
+use std::collections::BTreeSet;
+use std::marker::Model;
+use std::mem;
+
+/// The live proposals with their votes, in order of submission. (GovState of the formal specification)
+#[derive(Drop)]
+pub struct ProposalStore {
+    alloc: Global,
+    proposals: IndexMap<ActionId, Proposal>,
+    families: Families,
+    deposits: u64,
+}
+
+impl Model for ProposalStore {
+    ghost use Rattle.std.specs.Prelude.{List};
+    ghost use Rattle.std.specs.Map.{values_of};
+    ghost use Rattle.gov_actions.specs.declared.action.Proposal.{Proposal};
+    ghost use Rattle.proposal_store.specs.Store.{IsStore};
+
+    ghost Value = { List Proposal };
+
+    ghost view = { λ a. values_of a.proposals.entries };
+
+    ghost invariant = { λ a. IsStore a.proposals.entries a.families a.deposits };
+}
+
+impl ProposalStore {
+    /// A store with no proposal. (GovState of the formal specification)
+    pub fn new(alloc: Global) -> ProposalStore
+        ensures { result ≡ [] }
+    {
+        ProposalStore {
+            alloc,
+            proposals: IndexMap::new(alloc),
+            families: Families::new(alloc),
+            deposits: 0,
+        }
+    }
+
+    /// The proposal of an id, none where there is none. It does not walk the list. (GovState of the formal specification)
+    pub fn get(&self, id: &ActionId) -> Option<&Proposal>
+        ensures { option_copied result ≡ proposal_of id.now self.now }
+    {
+        self.proposals.get(id)
+    }
+
+    /// How many proposals there are. (GovState of the formal specification)
+    pub fn len(&self) -> u64
+        ensures count { result ≡ length self.now }
+        ensures distinct { IsDistinct same_action (ids_of self.now) }
+    {
+        self.proposals.len() as u64
+    }
+
+    /// The proposal at the place `i` in order of submission, counted from 0; none past the end. (GovState of the formal specification)
+    pub fn at(&self, i: u64) -> Option<&Proposal>
+        ensures { option_copied result ≡ slice_get self.now i }
+    {
+        let (_, p) = self.proposals.get_index(i as usize)?;
+        Some(p)
+    }
+
+    /// What the proposals paid, in lovelace. (GovState of the formal specification)
+    pub fn deposits(&self) -> u64
+        ensures { result ≡ deposits_of self.now }
+    {
+        self.deposits
+    }
+
+    /// The ids of the proposals of a purpose that name an action, or none, as the one before them, in order of submission. It does not walk the list. (CIP-1694, Governance actions: Content)
+    pub fn children(&self, purpose: Purpose, previous: Option<ActionId>) -> &[ActionId]
+        ensures { result.now ≡ children_of purpose previous self.now }
+    {
+        self.families.get(&Parent { purpose, previous })
+    }
+
+    /// One more proposal, at the end. Want of memory changes nothing. (GOV of the formal specification)
+    pub fn add(&mut self, p: Proposal) -> Result<(), NoMemory>
+        requires absent { proposal_of p.id self.old ≡ None }
+        requires fits { deposits_of self.old + p.deposit < 2 ^ 64 }
+        requires ordered { IsMap voter_cmp p.votes }
+        ensures ok { OnOk result (self.new ≡ self.old ++ p ∷ []) }
+        ensures err { OnErr result (self.new ≡ self.old) }
+    {
+        self.proposals.reserve(1)?;
+        self.families.note(&p)?;
+        self.deposits += p.deposit;
+        self.proposals.insert(p.id, p)?;
+        Ok(())
+    }
+
+    /// Keeps the proposals whose ids are listed, and gives the others, both in order of submission. After want of memory the store has lost proposals: it is to be dropped. (EPOCH of the formal specification)
+    pub fn retain_listed(&mut self, keep: &[ActionId]) -> Result<Vec<Proposal>, NoMemory>
+        ensures kept { OnOk result (self.new ≡ those_of keep.now self.old) }
+        ensures removed { IfOk result (λ r. r.items ≡ others_than keep.now self.old) }
+    {
+        let alloc = self.alloc;
+        let keep = set_of(alloc, keep)?;
+        let old = mem::replace(self, ProposalStore::new(alloc));
+        self.refill(old.proposals, &keep)
+    }
+
+    /// The vote of a voter on the proposal of an id, in place of an earlier one; nothing where there is no such proposal. Want of memory changes nothing. (GOV of the formal specification)
+    pub fn vote(&mut self, id: &ActionId, v: Voter, vote: Vote) -> Result<(), NoMemory>
+        ensures ok { OnOk result (self.new ≡ with_change id.now (with_vote v vote) self.old) }
+        ensures err { OnErr result (self.new ≡ self.old) }
+    {
+        let Some(p) = self.proposals.get_mut(id) else {
+            return Ok(());
+        };
+        put_vote(&mut p.votes, v, vote)
+    }
+
+    /// The vote of a voter on the proposal of an id leaves, if there is one. (Own)
+    pub fn unvote(&mut self, id: &ActionId, v: &Voter)
+        ensures { self.new ≡ with_change id.now (without_vote v.now) self.old }
+    {
+        let Some(p) = self.proposals.get_mut(id) else {
+            return;
+        };
+        drop_vote(&mut p.votes, v);
+    }
+
+    /// The votes of a DRep leave all proposals. (Own)
+    pub fn clear_votes(&mut self, drep: &Credential)
+        ensures { self.new ≡ map (without_vote (Drep drep.now)) self.old }
+    {
+        let voter = Voter::Drep(*drep);
+        self.proposals.retain(
+            |_, p|
+                requires { IsMap voter_cmp p.old.votes }
+            {
+                drop_vote(&mut p.votes, &voter);
+                true
+            },
+        );
+    }
+
+    // Adds the proposals that are to be kept to an empty store, and gives the others.
+    fn refill(
+        &mut self,
+        proposals: IndexMap<ActionId, Proposal>,
+        keep: &BTreeSet<ActionId>,
+    ) -> Result<Vec<Proposal>, NoMemory>
+        requires empty { self.old ≡ [] }
+        requires distinct { IsDistinct same_action (ids_of (values_of proposals.entries)) }
+        requires fit { deposits_of (values_of proposals.entries) < 2 ^ 64 }
+        requires ordered { AllOrdered (values_of proposals.entries) }
+        ensures kept { OnOk result (self.new ≡ filter (is_in keep.now.keys) (values_of proposals.entries)) }
+        ensures removed { IfOk result (λ r. r.items ≡ filter (is_out keep.now.keys) (values_of proposals.entries)) }
+    {
+        let mut removed = Vec::new(self.alloc);
+        for (_, p) in proposals {
+            if keep.contains(&p.id) {
+                self.add(p)?;
+            } else {
+                removed.push(p)?;
+            }
+        }
+        Ok(removed)
+    }
+}

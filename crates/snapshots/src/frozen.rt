@@ -1,0 +1,33 @@
+use book_records::DefaultVote;
+use gov_actions::{EnactState, HotState, Proposal};
+use gov_ids::{Account, Credential, PoolId};
+use listed::Listed;
+
+/// What is frozen when an epoch begins, but for the entries of the accounts, which their book keeps. (CIP-1694, Changes to the stake snapshot; EPOCH of the formal specification)
+#[derive(Drop)]
+pub struct Frozen {
+    /// The epoch that begins.
+    pub epoch: u64,
+    /// Parameters, version, committee, constitution, last enacted ids and treasury, from which a pass starts.
+    pub start: EnactState,
+    /// The DReps in the order of their credentials, each with the last epoch in which it counts as active.
+    pub dreps: Listed<(Credential, u64)>,
+    /// The pools of mark in the order of their ids.
+    pub pools: Listed<FrozenPool>,
+    /// The hot keys and resignations, in the order of cold keys.
+    pub hot: Listed<(Credential, HotState)>,
+    /// The proposals with their votes, in order of submission.
+    pub proposals: Listed<Proposal>,
+}
+
+/// A pool of mark at the freeze. (RatifyEnv of the formal specification)
+#[derive(Clone, Copy, Debug, PartialEq, Eq)]
+pub struct FrozenPool {
+    pub pool: PoolId,
+    /// Its reward account, none where the pool is no longer registered.
+    pub account: Option<Account>,
+    /// The stake of mark and the deposits of the proposals whose return account delegates to it, in lovelace.
+    pub stake: u64,
+    /// How it counts where it did not vote, but for hard forks: by the vote delegation of its reward account.
+    pub default_vote: DefaultVote,
+}

@@ -1,0 +1,99 @@
+-- The outputs and the accounts, and that each account's stake is what its outputs hold. (UTxOState and DState of the formal specification; the running stake is own)
+use Rattle.std.specs.Prelude.{ℕ, ◌≡◌, ◌+◌, ◌≤◌, false, List, [], Option, Some, None}
+use Rattle.std.specs.List.{All}
+use Rattle.std.specs.Map.{values_of}
+use Rattle.std.specs.Option.{option_and_then}
+use Rattle.gov_ids.specs.declared.Credential.{Credential}
+use Rattle.gov_ids.specs.declared.OutRef.{OutRef}
+use Rattle.gov_ids.specs.declared.TxId.{TxId}
+use Rattle.gov_ids.specs.Orders.{credential_cmp, outref_cmp}
+use Rattle.gov_ids.specs.Same.{same_credential}
+use Rattle.book_records.specs.declared.Entry.{Entry}
+use Rattle.book_records.specs.declared.Output.{Output}
+use Rattle.book_records.specs.declared.Registered.{Registered}
+use Rattle.book_records.specs.Outputs.{lovelace_in}
+use Rattle.maps.specs.Maps.{value_at, with_value, without_key, entries_where, sum_values}
+use Rattle.maps.specs.Words.{amount, holds}
+use Rattle.utxo_set.specs.Utxos.{Utxos}
+use Rattle.accounts.specs.Accounts.{Accounts, is_nothing, entered}
+
+-- the unspent outputs and used ids, and the account entries
+pub record Stakes : Type 0 where
+  pub outputs : Utxos
+  pub accounts : Accounts
+
+-- what the outputs with this stake part hold
+abbrev pub stake_held : List (OutRef × Output) → Credential → ℕ
+stake_held outputs c = lovelace_in (entries_where (λ r (o : Output). holds same_credential o.address.stake c) outputs)
+
+-- the stake that the entry of a credential names, 0 where there is none
+abbrev pub stake_at : List (Credential × Entry) → Credential → ℕ
+stake_at entries c = amount (λ (e : Entry). e.stake) (value_at credential_cmp entries c)
+
+-- its registration
+abbrev pub registered_at : List (Credential × Entry) → Credential → Option Registered
+registered_at entries c = option_and_then (λ (e : Entry). e.registered) (value_at credential_cmp entries c)
+
+-- the entry of a credential; no stake and no registration where there is none
+abbrev pub whole_entry : List (Credential × Entry) → Credential → Entry
+whole_entry entries c = record { stake = stake_at entries c; registered = registered_at entries c }
+
+-- each stake is what the outputs hold; and each entry has stake or a registration
+pub record AreKept (s : Stakes) : Type 0 where
+  pub stakes : (c : Credential) → stake_at s.accounts.live c ≡ stake_held s.outputs.outputs c
+  pub entries : All (λ e. is_nothing e ≡ false) (values_of s.accounts.live)
+
+-- the stake part of the output at r, if there is one
+abbrev pub stake_part_at : List (OutRef × Output) → OutRef → Option Credential
+stake_part_at outputs r = option_and_then (λ (o : Output). o.address.stake) (value_at outref_cmp outputs r)
+
+-- the accounts with that stake for a stake part: its registration stays, and nothing changes where there is no part
+abbrev pub with_stake : Option Credential → (Credential → ℕ) → Accounts → Accounts
+with_stake None stake a = a
+with_stake (Some c) stake a = entered c (record { stake = stake c; registered = registered_at a.live c }) a
+
+-- the accounts with that registration for c: its stake stays
+abbrev pub with_registration : Credential → Option Registered → Accounts → Accounts
+with_registration c to a = entered c (record { stake = stake_at a.live c; registered = to }) a
+
+-- the reward balances
+abbrev pub balances_in : List (Credential × Entry) → ℕ
+balances_in entries = sum_values (λ (e : Entry). amount (λ (r : Registered). r.rewards) e.registered) entries
+
+-- the greatest supply, in lovelace
+abbrev pub greatest_supply : ℕ
+greatest_supply = 45000000000000000
+
+-- with n lovelace more, all outputs and balances together are at most the greatest supply
+abbrev pub HasRoom : ℕ → Stakes → Type 0
+HasRoom n s = lovelace_in s.outputs.outputs + balances_in s.accounts.live + n ≤ greatest_supply
+
+-- the book without the output at r, its stake part with the stake that the outputs left hold
+abbrev pub spent : OutRef → Stakes → Stakes
+spent r s =
+    let left = without_key outref_cmp r s.outputs.outputs in
+    record {
+      outputs = record s.outputs { outputs = left };
+      accounts = with_stake (stake_part_at s.outputs.outputs r) (stake_held left) s.accounts;
+    }
+
+-- the book with an output at r, its stake part with the stake that the outputs then hold
+abbrev pub added : OutRef → Output → Stakes → Stakes
+added r o s =
+    let more = with_value outref_cmp r o s.outputs.outputs in
+    record {
+      outputs = record s.outputs { outputs = more };
+      accounts = with_stake o.address.stake (stake_held more) s.accounts;
+    }
+
+-- the book with that registration for c
+abbrev pub with_account : Credential → Option Registered → Stakes → Stakes
+with_account c to s = record s { accounts = with_registration c to s.accounts }
+
+-- the book with these used ids
+abbrev pub with_used : List TxId → Stakes → Stakes
+with_used ids s = record s { outputs = record s.outputs { used = ids } }
+
+-- the book with no output, no used id and no account
+abbrev pub no_stakes : Stakes
+no_stakes = record { outputs = record { outputs = []; used = [] }; accounts = record { live = []; saved = [] } }

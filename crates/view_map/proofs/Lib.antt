@@ -1,0 +1,4 @@
+pub mod Entries
+mod Frozen
+mod Lengths
+mod Walk
