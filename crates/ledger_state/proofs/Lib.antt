@@ -1,11 +1,7 @@
-pub mod Apart
-pub mod Balance
-pub mod Bare
-pub mod Blank
-pub mod BuiltGenesis
-pub mod BuiltTx
-pub mod Committed
 pub mod Puts
-pub mod Repeats
+pub mod Walks
+pub mod MemberWalks
+pub mod Listings
 pub mod Starting
-pub mod UsedIds
+pub mod Committing
+pub mod Parts

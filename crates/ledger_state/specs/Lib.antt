@@ -1,4 +1,6 @@
-pub mod Held
+pub mod Kept
 pub mod Built
 pub mod Starts
-pub mod Laws
+pub mod Drafts
+pub mod Listing
+pub mod Members

@@ -1,13 +1,13 @@
 -- The ledger of a genesis.
 use Rattle.std.specs.Prelude.{◌≡◌, Result, Ok, Err, Some, None}
 use Rattle.tx_records.specs.declared.genesis.Genesis.{Genesis}
-use Rattle.run_model.specs.Genesis.{genesis_fault, world_of_genesis}
+use Rattle.ledger_model.specs.Ledger.{Ledger}
+use Rattle.run_model.specs.Genesis.{genesis_fault, ledger_of_genesis}
 use Rattle.ledger_state.specs.declared.fault.GenesisFault.{GenesisFault}
 use Rattle.ledger_state.specs.declared.fault.GenesisFault.TheVariants as faults
-use Rattle.ledger_state.specs.Held.{Held, world_of}
 
 -- the ledger of a genesis that breaks no rule, or the first rule that it breaks, unless memory ran out
-abbrev pub StartsAs : Result Held GenesisFault → Genesis → Type 0
-StartsAs (Ok h) g = (genesis_fault g ≡ None) × (world_of h (world_of_genesis g) ≡ world_of_genesis g)
+abbrev pub StartsAs : Result Ledger GenesisFault → Genesis → Type 0
+StartsAs (Ok l) g = (genesis_fault g ≡ None) × (l ≡ ledger_of_genesis g)
 StartsAs (Err (faults.Broken rule)) g = genesis_fault g ≡ Some rule
 StartsAs (Err faults.NoMemory) g = Unit {0}

@@ -3,7 +3,7 @@ ghost use Rattle.std.specs.List.{AllByRecursion};
 ghost use Rattle.std.specs.Map.{keys_of};
 ghost use Rattle.book_records.specs.Outputs.{lovelace_in};
 ghost use Rattle.gov_ids.specs.Orders.{outref_cmp, txid_cmp};
-ghost use Rattle.ledger_model.specs.OutputRules.{returned};
+ghost use Rattle.ledger_model.specs.UtxoRules.{returned};
 ghost use Rattle.ledger_model.specs.Transaction.{kept_output, made_outputs, made_return};
 ghost use Rattle.maps.specs.Maps.{IsMap, in_order, value_at, with_values, without_keys};
 ghost use Rattle.maps.specs.Words.{repeats};

@@ -1,75 +1,102 @@
-ghost use Rattle.std.specs.Prelude.{◌≡◌, ◌≤◌, ◌+◌, ◌*◌, ◌==◌, not, true, IfOk, map, sum_by};
+ghost use Rattle.std.specs.Prelude.{◌≡◌, ◌==◌, not, true, IfOk};
 ghost use Rattle.std.specs.List.{list_any};
-ghost use Rattle.maps.specs.Words.{repeats};
-ghost use Rattle.gov_ids.specs.Orders.{credential_cmp, outref_cmp};
-ghost use Rattle.run_model.specs.Genesis.{genesis_fault, genesis_members};
-ghost use Rattle.ledger_state.specs.Built.{is_built_genesis};
+ghost use Rattle.gov_ids.specs.Orders.{pool_cmp};
+ghost use Rattle.ledger_state.specs.Listing.{is_drep_among};
+ghost use Rattle.maps.specs.Maps.{has_member};
+ghost use Rattle.maps.specs.Words.{none_or};
+ghost use Rattle.run_model.specs.Genesis.{genesis_fault, genesis_sum, names_an_unknown, names_another_network, repeats_a_name};
+ghost use Rattle.tx_records.specs.GenesisLimits.{is_within_limits};
 
+use crate::committee::members_of;
+use crate::entries::{lovelace_in, names_of};
 use coin_frac::NoMemory;
-use gov_ids::{Address, OutRef};
+use gov_ids::{Address, Credential, Drep, OutRef, PoolId, repeats_a_name};
 use std::alloc::Global;
 use std::collections::BTreeSet;
-use tx_records::{Genesis, GenesisCommittee, GenesisRule};
+use tx_records::limits::SUPPLY_LIMIT;
+use tx_records::{Genesis, GenesisPool, GenesisRule};
 
-/// The greatest supply, in lovelace. (Own)
-const SUPPLY_LIMIT: u64 = 45_000_000_000_000_000;
-
-/// The first rule that a genesis breaks. The rule on unknown targets is never broken, since a genesis that is built lists no account. (Own)
-#[tactic(auto, using(crate::proofs::BuiltGenesis::fault_of_built))]
+/// The first rule that a genesis breaks. (Own)
 pub fn broken_rule(alloc: Global, genesis: &Genesis) -> Result<Option<GenesisRule>, NoMemory>
-    requires { is_built_genesis genesis.now ≡ true }
+    requires { is_within_limits genesis.now ≡ true }
     ensures { IfOk result (λ rule. rule ≡ genesis_fault genesis.now) }
 {
-    let outputs = genesis.outputs.as_slice();
     if genesis.supply > SUPPLY_LIMIT {
         return Ok(Some(GenesisRule::SupplyTooLarge));
     }
-    if repeats_member(alloc, &genesis.committee)? || repeats_output(alloc, outputs)? {
+    if a_list_repeats(alloc, genesis)? {
         return Ok(Some(GenesisRule::Repeated));
     }
-    if names_another_network(outputs, genesis.network) {
+    if names_an_unknown(alloc, genesis)? {
+        return Ok(Some(GenesisRule::UnknownTarget));
+    }
+    if names_another_network(genesis) {
         return Ok(Some(GenesisRule::WrongNetwork));
     }
-    if lovelace_with_pots(outputs, genesis.treasury, genesis.reserves)
-        != u128::from(genesis.supply)
-    {
+    if sum_of(genesis) != u128::from(genesis.supply) {
         return Ok(Some(GenesisRule::SumWrong));
     }
     Ok(None)
 }
 
-/// Whether a member of the committee stands twice.
-fn repeats_member(alloc: Global, committee: &Option<GenesisCommittee>) -> Result<bool, NoMemory>
-    ensures { IfOk result (λ twice. twice ≡ repeats credential_cmp (map (λ m. m.0) (genesis_members committee.now))) }
+/// Whether a name stands twice in a list.
+fn a_list_repeats(alloc: Global, genesis: &Genesis) -> Result<bool, NoMemory>
+    ensures { IfOk result (λ twice. twice ≡ repeats_a_name genesis.now) }
 {
-    match committee {
-        Some(committee) => repeats_name(alloc, committee.members.as_slice()),
-        None => Ok(false),
+    if repeats_a_name(alloc, members_of(&genesis.committee))?
+        || repeats_a_name(alloc, genesis.outputs.as_slice())?
+        || repeats_a_name(alloc, genesis.accounts.as_slice())?
+        || repeats_a_name(alloc, genesis.pools.as_slice())?
+    {
+        return Ok(true);
+    }
+    Ok(repeats_a_name(alloc, genesis.dreps.as_slice())?)
+}
+
+/// Whether a pool is named that is not among these.
+fn is_unknown_pool(pools: &BTreeSet<PoolId>, pool: &Option<PoolId>) -> bool
+    ensures { result ≡ not (none_or (has_member pool_cmp pools.now.keys) pool.now) }
+{
+    match pool {
+        Some(pool) => !pools.contains(pool),
+        None => false,
     }
 }
 
-/// Whether an output stands twice.
-fn repeats_output(alloc: Global, outputs: &[(OutRef, Address, u64)]) -> Result<bool, NoMemory>
-    ensures { IfOk result (λ twice. twice ≡ repeats outref_cmp (map (λ o. o.0) outputs.now)) }
+/// Whether a DRep is named that is neither predefined nor among these.
+fn is_unknown_drep(dreps: &BTreeSet<Credential>, drep: &Option<Drep>) -> bool
+    ensures { result ≡ not (none_or (is_drep_among dreps.now.keys) drep.now) }
 {
-    repeats_name(alloc, outputs)
+    match drep {
+        Some(Drep::Registered(cred)) => !dreps.contains(cred),
+        Some(Drep::Abstain | Drep::NoConfidence) | None => false,
+    }
 }
 
-/// Whether two entries have the same name, which is their first part.
-fn repeats_name<K: Ord + Copy, A, B>(alloc: Global, entries: &[(K, A, B)]) -> Result<bool, NoMemory>
-    ensures { IfOk result (λ twice. twice ≡ repeats K.cmp (map (λ e. e.0) entries.now)) }
+/// Whether an account delegates to a pool or a DRep that is not listed.
+fn names_an_unknown(alloc: Global, genesis: &Genesis) -> Result<bool, NoMemory>
+    ensures { IfOk result (λ found. found ≡ names_an_unknown genesis.now) }
 {
-    let mut seen = BTreeSet::new(alloc);
-    for (name, _, _) in entries {
-        if !seen.insert(*name)? {
-            return Ok(true);
-        }
-    }
-    Ok(false)
+    let pools = names_of(alloc, genesis.pools.as_slice())?;
+    let dreps = names_of(alloc, genesis.dreps.as_slice())?;
+    let accounts = genesis.accounts.as_slice();
+    Ok(
+        accounts.iter().any(|(_, _, _, pool, drep)| {
+            is_unknown_pool(&pools, pool) || is_unknown_drep(&dreps, drep)
+        }),
+    )
+}
+
+/// Whether an output or a pool's account is of another network.
+fn names_another_network(genesis: &Genesis) -> bool
+    ensures { result ≡ names_another_network genesis.now }
+{
+    are_elsewhere(genesis.outputs.as_slice(), genesis.network)
+        || pools_are_elsewhere(genesis.pools.as_slice(), genesis.network)
 }
 
 /// Whether an output is of another network than this one.
-fn names_another_network(outputs: &[(OutRef, Address, u64)], network: u8) -> bool
+fn are_elsewhere(outputs: &[(OutRef, Address, u64)], network: u8) -> bool
     ensures { result ≡ list_any (λ o. not (o.1.network == network)) outputs.now }
 {
     outputs
@@ -77,21 +104,24 @@ fn names_another_network(outputs: &[(OutRef, Address, u64)], network: u8) -> boo
         .any(|(_, address, _)| address.network != network)
 }
 
-/// What the outputs of a genesis hold, in lovelace.
-fn lovelace_of(outputs: &[(OutRef, Address, u64)]) -> u128
-    ensures sum { result ≡ sum_by (λ o. o.2) outputs.now }
-    ensures fits { result ≤ u64.MAX * u64.MAX }
+/// Whether a pool's account is of another network than this one.
+fn pools_are_elsewhere(pools: &[GenesisPool], network: u8) -> bool
+    ensures { result ≡ list_any (λ p. not (p.account.network == network)) pools.now }
 {
-    let mut sum = 0;
-    for (_, _, lovelace) in outputs {
-        sum += u128::from(*lovelace);
-    }
-    sum
+    pools.iter().any(|pool| pool.account.network != network)
 }
 
-/// What the outputs of a genesis and two of its pots hold, in lovelace.
-fn lovelace_with_pots(outputs: &[(OutRef, Address, u64)], treasury: u64, reserves: u64) -> u128
-    ensures { result ≡ sum_by (λ o. o.2) outputs.now + treasury + reserves }
+/// All lovelace of a genesis.
+fn sum_of(genesis: &Genesis) -> u128
+    requires { is_within_limits genesis.now ≡ true }
+    ensures { result ≡ genesis_sum genesis.now }
 {
-    lovelace_of(outputs) + u128::from(treasury) + u128::from(reserves)
+    let treasury = genesis.treasury;
+    let reserves = genesis.reserves;
+    lovelace_in(genesis.outputs.as_slice())
+        + lovelace_in(genesis.accounts.as_slice())
+        + lovelace_in(genesis.pools.as_slice())
+        + lovelace_in(genesis.dreps.as_slice())
+        + u128::from(treasury)
+        + u128::from(reserves)
 }

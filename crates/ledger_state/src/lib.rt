@@ -1,14 +1,18 @@
-//! The ledger that the program holds, and what an allowed transaction leaves of it.
+//! The ledger that the program holds: what a genesis gives, drafts of transactions, and what an allowed transaction leaves.
 #![tactic(auto)]
 
 mod books;
+mod built;
+mod committee;
+mod draft;
+mod entries;
 mod fault;
 mod genesis_rules;
-mod laws;
 mod state;
 
+pub use built::is_built_genesis;
+pub use draft::{Changes, Draft};
 pub use fault::GenesisFault;
-pub use laws::parts_stay_apart;
 pub use state::LedgerState;
 
 #[cfg(test)]

@@ -1,64 +1,46 @@
 ghost use Rattle.std.specs.Prelude.{◌≡◌};
-ghost use Rattle.ledger_model.specs.World.{World};
+ghost use Rattle.ledger_model.specs.Ledger.{params_of};
 ghost use Rattle.ledger_model.specs.Supply.{pots_of};
-ghost use Rattle.ledger_state.specs.Held.{world_of};
-ghost use Rattle.utxo_set.specs.Utxos.{IsInOrder};
 
 mod commit;
 mod genesis;
 
+use committee_book::HotBook;
+use gov_actions::EnactState;
 use pparams::Params;
 use std::marker::Model;
 use tx_records::Pots;
 use utxo_set::UtxoSet;
 
-/// The ledger after some records, as far as the records that are built ask or change it. (LState of the formal specification)
+/// The ledger after some records. Its pots hold the supply, and its maps are maps. (LState of the formal specification)
 #[derive(Drop)]
 pub struct LedgerState {
     network: u8,
+    epoch_length: u32,
     supply: u64,
     slot: u64,
+    epoch: u64,
     reserves: u64,
-    treasury: u64,
     fees: u64,
     donations: u64,
-    params: Params,
+    state: EnactState,
     utxo: UtxoSet,
+    hot: HotBook,
 }
 
 impl Model for LedgerState {
     ghost use Rattle.std.specs.Coded.{codes};
-    ghost use Rattle.ledger_state.specs.Held.{Held, IsSound};
+    ghost use Rattle.ledger_model.specs.Ledger.{Ledger};
 
-    ghost Value = { Held };
+    ghost Value = { Ledger };
 
     ghost coded = { Prim.hlevel codes };
 
-    ghost view = { λ a. record {
-      network = a.network;
-      supply = a.supply;
-      slot = a.slot;
-      reserves = a.reserves;
-      treasury = a.treasury;
-      fees = a.fees;
-      donations = a.donations;
-      params = a.params;
-      outputs = a.utxo.outputs;
-      used = a.utxo.used;
-    } };
+    ghost use Rattle.ledger_state.specs.Kept.{IsKept, ledger_view};
 
-    ghost invariant = { λ a. IsSound (record {
-      network = a.network;
-      supply = a.supply;
-      slot = a.slot;
-      reserves = a.reserves;
-      treasury = a.treasury;
-      fees = a.fees;
-      donations = a.donations;
-      params = a.params;
-      outputs = a.utxo.outputs;
-      used = a.utxo.used;
-    }) };
+    ghost view = { ledger_view };
+
+    ghost invariant = { λ a. IsKept (ledger_view a) };
 }
 
 impl LedgerState {
@@ -69,11 +51,11 @@ impl LedgerState {
         self.network
     }
 
-    /// The last slot. (Own)
-    pub fn slot(&self) -> u64
-        ensures { result ≡ self.now.slot }
+    /// Slots in an epoch. (Own)
+    pub fn epoch_length(&self) -> u32
+        ensures { result ≡ self.now.epoch_length }
     {
-        self.slot
+        self.epoch_length
     }
 
     /// The supply, in lovelace. (Own)
@@ -83,18 +65,25 @@ impl LedgerState {
         self.supply
     }
 
+    /// The last slot. (Own)
+    pub fn slot(&self) -> u64
+        ensures { result ≡ self.now.slot }
+    {
+        self.slot
+    }
+
+    /// The epoch of the last slot. (NewEpochState of the formal specification)
+    pub fn epoch(&self) -> u64
+        ensures { result ≡ self.now.epoch }
+    {
+        self.epoch
+    }
+
     /// The reserves, in lovelace. (Acnt of the formal specification)
     pub fn reserves(&self) -> u64
         ensures { result ≡ self.now.reserves }
     {
         self.reserves
-    }
-
-    /// The treasury, in lovelace. (Acnt of the formal specification)
-    pub fn treasury(&self) -> u64
-        ensures { result ≡ self.now.treasury }
-    {
-        self.treasury
     }
 
     /// The fee pot, in lovelace. (UTxOState of the formal specification)
@@ -111,11 +100,18 @@ impl LedgerState {
         self.donations
     }
 
+    /// Parameters, version, committee, constitution, last enacted ids and the treasury in lovelace. (EnactState of the formal specification)
+    pub fn state(&self) -> &EnactState
+        ensures { result.now ≡ self.now.state }
+    {
+        &self.state
+    }
+
     /// The protocol parameters. (PParams of the formal specification)
     pub fn params(&self) -> &Params
-        ensures { result.now ≡ self.now.params }
+        ensures { result.now ≡ params_of self.now }
     {
-        &self.params
+        &self.state.params
     }
 
     /// The unspent outputs and the used transaction ids. (UTxOState of the formal specification; that used ids are kept is own)
@@ -126,9 +122,16 @@ impl LedgerState {
         &self.utxo
     }
 
+    /// The hot keys and resignations of cold keys. (GState of the formal specification)
+    pub fn hot(&self) -> &HotBook
+        ensures { result.now ≡ self.now.hot }
+    {
+        &self.hot
+    }
+
     /// The seven pots, in lovelace. (The preservation of value of the formal specification)
     pub fn pots(&self) -> Pots
-        ensures { (start : World) → result ≡ pots_of (world_of self.now start) }
+        ensures { result ≡ pots_of self.now }
     {
         Pots {
             outputs: self.utxo.total(),
@@ -136,7 +139,7 @@ impl LedgerState {
             rewards: 0,
             fees: self.fees,
             donations: self.donations,
-            treasury: self.treasury,
+            treasury: self.state.treasury,
             reserves: self.reserves,
         }
     }

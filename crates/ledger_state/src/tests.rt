@@ -1,14 +1,15 @@
-ghost use Rattle.std.specs.Prelude.{◌≡◌, ◌∷◌, [], true, IfOk};
+ghost use Rattle.std.specs.Prelude.{◌≡◌, true, IfOk};
 ghost use Rattle.ledger_state.specs.Built.{is_built_genesis};
 
 use super::*;
 use coin_frac::{FracFault, NoMemory, Ratio, Unit};
+use gov_actions::HotState;
 use gov_ids::{Address, CredKind, Credential, OutRef, TxId};
 use listed::Listed;
 use pparams::Params;
 use std::alloc::Global;
 use std::test::Fail;
-use tx_records::{Genesis, GenesisCommittee, GenesisRule, Pots, Scripts, Tx, TxOutput};
+use tx_records::{Genesis, GenesisCommittee, GenesisRule, Pots};
 
 fn key(byte: u8) -> Credential {
     Credential {
@@ -32,12 +33,7 @@ fn address(network: u8) -> Address {
     }
 }
 
-fn params() -> Result<Params, FracFault>
-    ensures size { IfOk result (λ p. p.max_tx_size ≡ 16384) }
-    ensures fee { IfOk result (λ p. (p.min_fee_a ≡ 0) × (p.min_fee_b ≡ 2)) }
-    ensures outputs { IfOk result (λ p. p.coins_per_utxo_byte ≡ 0) }
-    ensures collateral { IfOk result (λ p. (p.max_collateral_inputs ≡ 3) × (p.collateral_percentage ≡ 150)) }
-{
+fn params() -> Result<Params, FracFault> {
     let half = Unit::new(1, 2)?;
     let none = Ratio::new(0, 1)?;
     Ok(Params {
@@ -86,15 +82,15 @@ fn genesis(
     ensures { IfOk result (λ g. is_built_genesis g ≡ true) }
 {
     let mut members = Listed::new(alloc);
-    members.push((key(1), 9, None))?;
-    members.push((key(member), 9, None))?;
+    members.push((key(member), 9, Some(key(5))))?;
+    members.push((key(1), 8, None))?;
     let mut outputs = Listed::new(alloc);
     outputs.push((at(8, 0), address(0), 60))?;
     outputs.push((at(8, output), address(network), 30))?;
     Ok(Genesis {
         network: 0,
         slot: 3,
-        epoch_length: 10,
+        epoch_length: 2,
         version: (10, 0),
         supply,
         reserves: 7,
@@ -116,6 +112,7 @@ fn genesis(
 #[test]
 fn starts_from_a_genesis_that_breaks_no_rule(rt: HostRuntime) -> Result<(), Fail> {
     let genesis = genesis(rt.alloc(), params()?, 100, 2, 1, 0)?;
+    assert!(rt; genesis.is_within_limits());
     let ledger = LedgerState::from_genesis(rt.alloc(), &genesis)?;
     let want = Pots {
         outputs: 90,
@@ -131,9 +128,18 @@ fn starts_from_a_genesis_that_breaks_no_rule(rt: HostRuntime) -> Result<(), Fail
         (ledger.network(), ledger.slot(), ledger.supply()),
         (0, 3, 100)
     );
-    assert_eq!(rt; (ledger.reserves(), ledger.treasury()), (7, 3));
+    assert_eq!(rt; (ledger.epoch_length(), ledger.epoch()), (2, 1));
+    assert_eq!(rt; (ledger.reserves(), ledger.state().treasury), (7, 3));
     assert_eq!(rt; (ledger.fees(), ledger.donations()), (0, 0));
     assert_eq!(rt; ledger.params().e_max, 18);
+    let members = ledger
+        .state()
+        .committee
+        .as_ref()
+        .map(|c| c.members.as_slice());
+    assert_eq!(rt; members, Some([(key(1), 8), (key(2), 9)].as_slice()));
+    assert_eq!(rt; ledger.hot().get(&key(2)), Some(HotState::Hot(key(5))));
+    assert_eq!(rt; ledger.hot().get(&key(1)), None);
     assert_eq!(rt;
         ledger.outputs().get(&at(8, 1)).map(|o| o.lovelace),
         Some(30)
@@ -154,102 +160,21 @@ fn tells_the_first_rule_that_a_genesis_breaks(rt: HostRuntime) -> Result<(), Fai
     ];
     for (supply, member, output, network, rule) in rows {
         let genesis = genesis(rt.alloc(), params()?, supply, member, output, network)?;
+        assert!(rt; genesis.is_within_limits());
         let fault = LedgerState::from_genesis(rt.alloc(), &genesis).err();
         assert_eq!(rt; fault, Some(GenesisFault::Broken(rule)));
     }
     Ok(())
 }
 
-/// A list of one item.
-fn one<T: Drop>(alloc: Global, item: T) -> Result<Listed<T>, NoMemory>
-    ensures { IfOk result (λ items. items ≡ item ∷ []) }
-{
-    let mut items = Listed::new(alloc);
-    items.push(item)?;
-    Ok(items)
-}
-
-/// A ledger of one output of 60 lovelace, after a transaction that spends it, or loses it as collateral, of which 20 come back.
-fn committed(alloc: Global, scripts: Scripts) -> Result<LedgerState, Fail> {
-    let params = params()?;
-    let there = OutRef {
-        tx: TxId([8; 32]),
-        index: 0,
-    };
-    let address = Address {
-        network: 0,
-        payment: Credential {
-            hash: [1; 28],
-            kind: CredKind::Key,
-        },
-        stake: None,
-    };
-    let first = one(alloc, (there, address, 60))?;
-    let genesis = Genesis {
-        network: 0,
-        slot: 3,
-        epoch_length: 10,
-        version: (10, 0),
-        supply: 100,
-        reserves: 30,
-        treasury: 10,
-        params,
-        document: [0; 32],
-        script: None,
-        committee: None,
-        outputs: first,
-        accounts: Listed::new(alloc),
-        pools: Listed::new(alloc),
-        dreps: Listed::new(alloc),
-    };
-    let ledger = LedgerState::from_genesis(alloc, &genesis)?;
-    let inputs = one(alloc, there)?;
-    let collateral = one(alloc, there)?;
-    let output = TxOutput {
-        address,
-        lovelace: 50,
-        bytes: 1,
-    };
-    let outputs = one(alloc, output)?;
-    let tx = Tx {
-        id: TxId([9; 32]),
-        inputs,
-        outputs,
-        fee: 8,
-        size: 100,
-        script_fee: 0,
-        witnessed: true,
-        scripts,
-        from: None,
-        until: None,
-        collateral,
-        collateral_return: Some(TxOutput {
-            lovelace: 20,
-            ..output
-        }),
-        treasury: None,
-        donation: 2,
-        withdrawals: Listed::new(alloc),
-        certs: Listed::new(alloc),
-        proposals: Listed::new(alloc),
-        votes: Listed::new(alloc),
-    };
-    Ok(ledger.commit(&tx)?)
-}
-
 #[test]
-fn commits_a_transaction(rt: HostRuntime) -> Result<(), Fail> {
-    for (scripts, index, lovelace, fees, donations) in [
-        (Scripts::Absent, 0, 50, 8, 2),
-        (Scripts::Passed, 0, 50, 8, 2),
-        (Scripts::Failed, 1, 20, 40, 0),
-    ] {
-        let ledger = committed(rt.alloc(), scripts)?;
-        assert_eq!(rt; (ledger.fees(), ledger.donations()), (fees, donations));
-        assert_eq!(rt; ledger.outputs().total(), lovelace);
-        assert!(rt; ledger.outputs().get(&at(9, index)).is_some());
-        assert!(rt; ledger.outputs().used(&TxId([9; 32])));
-        assert_eq!(rt; ledger.supply(), 100);
-    }
+fn a_new_draft_changes_nothing(rt: HostRuntime) -> Result<(), Fail> {
+    let genesis = genesis(rt.alloc(), params()?, 100, 2, 1, 0)?;
+    assert!(rt; genesis.is_within_limits());
+    let ledger = LedgerState::from_genesis(rt.alloc(), &genesis)?;
+    let draft = Draft::new(rt.alloc(), &ledger);
+    assert_eq!(rt; draft.start().supply(), 100);
+    assert_eq!(rt; draft.moved(), (0, 0));
+    drop(draft.into_changes());
     Ok(())
 }

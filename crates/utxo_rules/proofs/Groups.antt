@@ -1,26 +1,13 @@
 -- The answer of all groups of checks, from the answers of the groups.
-use Rattle.std.proofs.Common.{◌≡◌, List, ◌++◌, Result, Ok, Err, sym, ap, ◌∙◌, append_assoc}
+use Rattle.std.proofs.Common.{◌≡◌, List, ◌++◌, Result, sym, ap, ◌∙◌, append_assoc}
 use Rattle.std.specs.Prelude.{⊤, option_to_list}
 use Rattle.tx_records.specs.declared.reply.Rule.{Rule}
 use Rattle.tx_records.specs.declared.tx.Tx.{Tx}
-use Rattle.ledger_model.specs.World.{World}
+use Rattle.ledger_model.specs.Ledger.{Ledger}
 use Rattle.ledger_model.specs.Checks.{Check, answer_of, per_place}
-use Rattle.ledger_model.specs.OutputRules.{id_checks, input_checks, fee_checks, output_checks, collateral_list_checks, collateral_checks, collateral_sum_checks, treasury_checks, unless_failed, utxo_checks}
-use Rattle.ledger_model.proofs.CheckLaws.{answer_then, answer-append}
-
--- the answer of these checks, or else the one that follows
-unfoldable pub before : List Check → Result ⊤ Rule → Result ⊤ Rule
-before xs answer = answer_then (answer_of xs) answer
-
--- a rule of the group is broken
-pub now : (xs : List Check) (r : Rule) (rest : Result ⊤ Rule) → Err r ≡ answer_of xs → Err r ≡ before xs rest
-unfolding before
-now xs r rest e = ap (λ (a : Result ⊤ Rule). answer_then a rest) e
-
--- none is
-pub later : (xs : List Check) (answer rest : Result ⊤ Rule) → Ok tt ≡ answer_of xs → answer ≡ rest → answer ≡ before xs rest
-unfolding before
-later xs answer rest e f = f ∙ ap (λ (a : Result ⊤ Rule). answer_then a rest) e
+use Rattle.ledger_model.specs.UtxoRules.{id_checks, input_checks, fee_checks, output_checks, collateral_list_checks, collateral_checks, collateral_sum_checks, treasury_checks, unless_failed, utxo_checks}
+use Rattle.ledger_model.proofs.CheckLaws.{answer-append}
+use Rattle.rule_checks.proofs.Groups.{before}
 
 eight : (a b c d e f g h : List Check) → before a (before b (before c (before d (before e (before f (before g (answer_of h))))))) ≡ answer_of (a ++ b ++ c ++ d ++ e ++ f ++ g ++ h)
 unfolding before
@@ -35,7 +22,7 @@ eight a b c d e f g h =
     ∙ ap (before e) (answer-append f (g ++ h)
     ∙ ap (before f) (answer-append g h)))))))
 
-pub utxo_answer : (w : World) (tx : Tx) (answer : Result ⊤ Rule)
+pub utxo_answer : (w : Ledger) (tx : Tx) (answer : Result ⊤ Rule)
     → answer ≡ before (id_checks w tx) (before (per_place (input_checks w tx) tx.inputs) (before (fee_checks w tx)
     (before (per_place (output_checks w tx) (tx.outputs ++ option_to_list tx.collateral_return)) (before (collateral_list_checks w tx)
     (before (per_place (collateral_checks w tx) tx.collateral) (before (collateral_sum_checks w tx) (answer_of (unless_failed tx.scripts (treasury_checks w tx)))))))))

@@ -1,3 +1,2 @@
-pub mod Built
-pub mod Firsts
+pub mod Balances
 pub mod Groups

@@ -1,15 +1,13 @@
-ghost use Rattle.std.specs.Prelude.{◌≡◌, ◌<◌, true, length};
-ghost use Rattle.ledger_model.specs.World.{World};
+ghost use Rattle.std.specs.Prelude.{◌≡◌, true};
 ghost use Rattle.ledger_model.specs.Checks.{answer_of, per_place};
-ghost use Rattle.ledger_model.specs.OutputRules.{collateral_checks, collateral_list_checks, collateral_sum_checks, has_scripts};
-ghost use Rattle.ledger_state.specs.Held.{world_of};
-ghost use Rattle.run_model.specs.Limits.{is_tx};
+ghost use Rattle.ledger_model.specs.UtxoRules.{collateral_checks, collateral_list_checks, collateral_sum_checks, has_scripts};
+ghost use Rattle.tx_records.specs.TxLimits.{is_within_limits};
 
 use crate::amounts::lovelace_spent;
-use crate::inputs::stands_in;
-use crate::places::at_place;
+use crate::inputs::stands_before;
 use gov_ids::{CredKind, OutRef};
 use ledger_state::LedgerState;
+use rule_checks::{ItemRules, check_each};
 use tx_records::rules::{
     COLLATERAL_MISSING, COLLATERAL_NOT_KEY, COLLATERAL_TOO_SMALL, NO_COLLATERAL,
     TOO_MANY_COLLATERAL,
@@ -25,7 +23,7 @@ fn has_scripts(tx: &Tx) -> bool
 
 /// The rules on the list of collateral.
 pub fn check_collateral_list(s: &LedgerState, tx: &Tx) -> Result<(), Rule>
-    ensures { (start : World) → result ≡ answer_of (collateral_list_checks (world_of s.now start) tx.now) }
+    ensures { result ≡ answer_of (collateral_list_checks s.now tx.now) }
 {
     let most = s.params().max_collateral_inputs;
     if tx.collateral.len() > usize::from(most) {
@@ -38,38 +36,45 @@ pub fn check_collateral_list(s: &LedgerState, tx: &Tx) -> Result<(), Rule>
 }
 
 /// The rules on each collateral input.
-pub fn check_collateral(s: &LedgerState, tx: &Tx) -> Result<(), Rule>
-    requires { is_tx tx.now ≡ true }
-    ensures { (start : World) → result ≡ answer_of (per_place (collateral_checks (world_of s.now start) tx.now) tx.now.collateral) }
-{
-    let collateral = tx.collateral.as_slice();
-    for (i, at) in collateral.iter().enumerate() {
-        at_place(check_collateral_input(s, tx, i, at), i)?;
-    }
-    Ok(())
+#[derive(Drop)]
+struct Collateral<'a> {
+    s: &'a LedgerState,
+    tx: &'a Tx,
 }
 
-/// The rules on the collateral input at the place `i`.
-fn check_collateral_input(s: &LedgerState, tx: &Tx, i: usize, at: &OutRef) -> Result<(), Rule>
-    requires { i < length tx.now.collateral }
-    ensures { (start : World) → result ≡ answer_of (collateral_checks (world_of s.now start) tx.now i at.now) }
+impl<'a> ItemRules for Collateral<'a> {
+    ghost use Rattle.ledger_model.specs.UtxoRules.{collateral_checks};
+
+    type Item = OutRef;
+
+    ghost checks = { λ r i at. collateral_checks r.s.now r.tx.now i at };
+
+    fn check(&self, place: usize, at: &OutRef) -> Result<(), Rule> {
+        let Some(output) = self.s.outputs().get(at) else {
+            return Err(Rule::new(COLLATERAL_MISSING));
+        };
+        if stands_before(self.tx.collateral.as_slice(), place, at) {
+            return Err(Rule::new(COLLATERAL_MISSING));
+        }
+        if has_scripts(self.tx) && matches!(output.address.payment.kind, CredKind::Script) {
+            return Err(Rule::new(COLLATERAL_NOT_KEY));
+        }
+        Ok(())
+    }
+}
+
+/// The rules on each collateral input.
+pub fn check_collateral(s: &LedgerState, tx: &Tx) -> Result<(), Rule>
+    requires { is_within_limits tx.now ≡ true }
+    ensures { result ≡ answer_of (per_place (collateral_checks s.now tx.now) tx.now.collateral) }
 {
-    let Some(output) = s.outputs().get(at) else {
-        return Err(Rule::new(COLLATERAL_MISSING));
-    };
-    if stands_in(&tx.collateral.as_slice()[..i], at) {
-        return Err(Rule::new(COLLATERAL_MISSING));
-    }
-    if has_scripts(tx) && matches!(output.address.payment.kind, CredKind::Script) {
-        return Err(Rule::new(COLLATERAL_NOT_KEY));
-    }
-    Ok(())
+    check_each(&Collateral { s, tx }, tx.collateral.as_slice())
 }
 
 /// The rule on what the collateral holds. The return is taken off, and the rest must cover its part of the fee.
 pub fn check_collateral_sum(s: &LedgerState, tx: &Tx) -> Result<(), Rule>
-    requires { is_tx tx.now ≡ true }
-    ensures { (start : World) → result ≡ answer_of (collateral_sum_checks (world_of s.now start) tx.now) }
+    requires { is_within_limits tx.now ≡ true }
+    ensures { result ≡ answer_of (collateral_sum_checks s.now tx.now) }
 {
     let sum = lovelace_spent(s, tx.collateral.as_slice());
     let returned = tx

@@ -2,34 +2,31 @@
 #![tactic(auto)]
 
 ghost use Rattle.std.specs.Prelude.{◌≡◌, true};
-ghost use Rattle.ledger_model.specs.World.{World};
 ghost use Rattle.ledger_model.specs.Checks.{answer_of};
-ghost use Rattle.ledger_model.specs.OutputRules.{utxo_checks};
+ghost use Rattle.ledger_model.specs.UtxoRules.{utxo_checks};
 ghost use Rattle.ledger_model.specs.Broken.{balance_checks};
-ghost use Rattle.ledger_state.specs.Built.{is_built_tx};
-ghost use Rattle.ledger_state.specs.Held.{world_of};
-ghost use Rattle.run_model.specs.Limits.{is_tx};
+ghost use Rattle.ledger_model.specs.Flows.{flows_of_certs, hand, sink, source, sum_at};
+ghost use Rattle.tx_records.specs.TxLimits.{is_within_limits};
 
 mod amounts;
 mod collateral;
 mod inputs;
 mod limits;
 mod outputs;
-mod places;
 
-use crate::amounts::{lovelace_made, lovelace_spent};
+use crate::amounts::{lovelace_made, lovelace_proposed, lovelace_spent, lovelace_withdrawn};
 use crate::collateral::{check_collateral, check_collateral_list, check_collateral_sum};
 use crate::inputs::{check_id, check_inputs};
 use crate::limits::{check_fee, check_treasury};
 use crate::outputs::check_outputs;
-use ledger_state::LedgerState;
+use ledger_state::{Draft, LedgerState};
 use tx_records::rules::NOT_BALANCED;
 use tx_records::{Rule, Tx};
 
 /// The first of the rules on id, inputs, size, time, fee, outputs, collateral and treasury value that the transaction breaks, if there is one. (UTXO and UTXOW of the formal specification)
 pub fn check(s: &LedgerState, tx: &Tx) -> Result<(), Rule>
-    requires { is_tx tx.now ≡ true }
-    ensures { (start : World) → result ≡ answer_of (utxo_checks (world_of s.now start) tx.now) }
+    requires { is_within_limits tx.now ≡ true }
+    ensures { result ≡ answer_of (utxo_checks s.now tx.now) }
 {
     check_id(s, tx)?;
     check_inputs(s, tx)?;
@@ -41,16 +38,22 @@ pub fn check(s: &LedgerState, tx: &Tx) -> Result<(), Rule>
     check_treasury(s, tx)
 }
 
-/// Whether what a transaction takes is what it gives, in lovelace; else NotBalanced with both sums. A transaction whose scripts failed need not keep it. (UTXO of the formal specification, the preservation of value)
-pub fn balance(s: &LedgerState, tx: &Tx) -> Result<(), Rule>
-    requires built { is_built_tx tx.now ≡ true }
-    requires readable { is_tx tx.now ≡ true }
-    ensures { (start : World) → result ≡ answer_of (balance_checks (world_of s.now start) tx.now) }
+/// Whether what a transaction takes is what it gives, in lovelace, with what its certificates gave back and paid in the draft; else NotBalanced with both sums. A transaction whose scripts failed need not keep it. (UTXO of the formal specification, the preservation of value)
+pub fn balance(d: &Draft, tx: &Tx) -> Result<(), Rule>
+    requires within { is_within_limits tx.now ≡ true }
+    requires refunds { d.now.refunds ≡ sum_at sink hand (flows_of_certs d.now.start tx.now) }
+    requires deposits { d.now.deposits ≡ sum_at source hand (flows_of_certs d.now.start tx.now) }
+    ensures { result ≡ answer_of (balance_checks d.now.start tx.now) }
 {
-    let consumed = lovelace_spent(s, tx.inputs.as_slice());
+    let (refunds, deposits) = d.moved();
+    let consumed = lovelace_spent(d.start(), tx.inputs.as_slice())
+        + lovelace_withdrawn(tx.withdrawals.as_slice())
+        + refunds;
     let produced = lovelace_made(tx.outputs.as_slice())
         + u128::from(tx.fee)
-        + u128::from(tx.donation);
+        + u128::from(tx.donation)
+        + deposits
+        + lovelace_proposed(tx.proposals.as_slice());
     if consumed != produced {
         return Err(Rule::keeping_two(NOT_BALANCED, consumed, produced));
     }

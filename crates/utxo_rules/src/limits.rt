@@ -1,8 +1,7 @@
 ghost use Rattle.std.specs.Prelude.{◌≡◌, true};
-ghost use Rattle.ledger_model.specs.World.{World};
 ghost use Rattle.ledger_model.specs.Checks.{answer_of};
-ghost use Rattle.ledger_model.specs.OutputRules.{fee_checks, is_outside, least_fee, treasury_checks, unless_failed};
-ghost use Rattle.ledger_state.specs.Held.{world_of};
+ghost use Rattle.ledger_model.specs.Ledger.{Ledger};
+ghost use Rattle.ledger_model.specs.UtxoRules.{fee_checks, is_outside, least_fee, treasury_checks, unless_failed};
 
 use ledger_state::LedgerState;
 use tx_records::rules::{FEE_TOO_SMALL, OUTSIDE_VALIDITY, TREASURY_VALUE_WRONG, TX_TOO_LARGE};
@@ -10,7 +9,7 @@ use tx_records::{Rule, Scripts, Tx};
 
 /// The rules on size, time and fee.
 pub fn check_fee(s: &LedgerState, tx: &Tx) -> Result<(), Rule>
-    ensures { (start : World) → result ≡ answer_of (fee_checks (world_of s.now start) tx.now) }
+    ensures { result ≡ answer_of (fee_checks s.now tx.now) }
 {
     let most = s.params().max_tx_size;
     if tx.size > most {
@@ -28,14 +27,14 @@ pub fn check_fee(s: &LedgerState, tx: &Tx) -> Result<(), Rule>
 
 /// Whether the transaction may not stand at this slot.
 fn is_outside(slot: u64, tx: &Tx) -> bool
-    ensures { (w : World) → w.slot ≡ slot → result ≡ is_outside w tx.now }
+    ensures { (l : Ledger) → l.slot ≡ slot → result ≡ is_outside l tx.now }
 {
     tx.from.is_some_and(|from| slot < from) || tx.until.is_some_and(|until| slot >= until)
 }
 
 /// The least fee, in lovelace.
 fn least_fee(s: &LedgerState, tx: &Tx) -> u128
-    ensures { (start : World) → result ≡ least_fee (world_of s.now start) tx.now }
+    ensures { result ≡ least_fee s.now tx.now }
 {
     let params = s.params();
     let fixed = params.min_fee_b;
@@ -45,9 +44,9 @@ fn least_fee(s: &LedgerState, tx: &Tx) -> u128
 
 /// The rule on the treasury value, which a transaction whose scripts failed need not keep.
 pub fn check_treasury(s: &LedgerState, tx: &Tx) -> Result<(), Rule>
-    ensures { (start : World) → result ≡ answer_of (unless_failed tx.now.scripts (treasury_checks (world_of s.now start) tx.now)) }
+    ensures { result ≡ answer_of (unless_failed tx.now.scripts (treasury_checks s.now tx.now)) }
 {
-    let treasury = s.treasury();
+    let treasury = s.state().treasury;
     if !matches!(tx.scripts, Scripts::Failed) && tx.treasury.is_some_and(|said| said != treasury) {
         return Err(Rule::keeping(TREASURY_VALUE_WRONG, u128::from(treasury)));
     }

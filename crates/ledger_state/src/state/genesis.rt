@@ -1,18 +1,24 @@
-ghost use Rattle.std.specs.Prelude.{◌≡◌, true};
+ghost use Rattle.std.specs.Prelude.{◌≡◌, true, IfOk};
+ghost use Rattle.run_model.specs.Genesis.{state_of_genesis};
+ghost use Rattle.tx_records.specs.GenesisLimits.{is_within_limits};
 ghost use Rattle.ledger_state.specs.Built.{is_built_genesis};
 ghost use Rattle.ledger_state.specs.Starts.{StartsAs};
 
 use super::LedgerState;
 use crate::books::first_outputs;
+use crate::committee::{first_committee, first_hot, members_of};
 use crate::fault::GenesisFault;
 use crate::genesis_rules::broken_rule;
+use coin_frac::NoMemory;
+use gov_actions::{EnactState, LastIds};
 use std::alloc::Global;
 use tx_records::Genesis;
 
 impl LedgerState {
     /// The ledger of a genesis that is built and breaks no genesis rule; otherwise the first rule that it breaks, or `NoMemory`, which may come at any time. (Own)
     pub fn from_genesis(alloc: Global, genesis: &Genesis) -> Result<LedgerState, GenesisFault>
-        requires { is_built_genesis genesis.now ≡ true }
+        requires built { is_built_genesis genesis.now ≡ true }
+        requires within { is_within_limits genesis.now ≡ true }
         ensures { StartsAs result genesis.now }
     {
         if let Some(rule) = broken_rule(alloc, genesis)? {
@@ -20,14 +26,36 @@ impl LedgerState {
         }
         Ok(LedgerState {
             network: genesis.network,
+            epoch_length: genesis.epoch_length,
             supply: genesis.supply,
             slot: genesis.slot,
+            epoch: genesis.slot / u64::from(genesis.epoch_length),
             reserves: genesis.reserves,
-            treasury: genesis.treasury,
             fees: 0,
             donations: 0,
-            params: genesis.params,
+            state: first_state(alloc, genesis)?,
             utxo: first_outputs(alloc, genesis.outputs.as_slice())?,
+            hot: first_hot(alloc, members_of(&genesis.committee))?,
         })
     }
+}
+
+/// What can be enacted, at the start.
+fn first_state(alloc: Global, genesis: &Genesis) -> Result<EnactState, NoMemory>
+    ensures { IfOk result (λ state. state ≡ state_of_genesis genesis.now) }
+{
+    Ok(EnactState {
+        params: genesis.params,
+        version: genesis.version,
+        committee: first_committee(alloc, &genesis.committee)?,
+        document: genesis.document,
+        script: genesis.script,
+        last: LastIds {
+            committee: None,
+            constitution: None,
+            hardfork: None,
+            parameters: None,
+        },
+        treasury: genesis.treasury,
+    })
 }

@@ -5,8 +5,7 @@ use Rattle.gov_ids.specs.declared.OutRef.{OutRef}
 use Rattle.gov_ids.specs.Orders.{outref_cmp}
 use Rattle.maps.specs.Maps.{value_at}
 use Rattle.maps.specs.Words.{amount}
-use Rattle.ledger_model.specs.OutputRules.{lovelace_at}
-use Rattle.ledger_state.specs.Held.{world_of}
+use Rattle.ledger_model.specs.UtxoRules.{lovelace_at}
 use Rattle.utxo_rules.proofs.amounts.lovelace_spent.Goals as goal
 
 abbrev lovelace_of : Output → ℕ
@@ -22,9 +21,9 @@ loop-at-preserved c =
     let less : c.map_or-sum.result < 2 ^ 64 = search rules in
     record {
       bound = omega arith;
-      rest = λ start.
+      rest =
           let none : OutRef = record { tx = record { 0 = [] }; index = 0 } in
-          step (lovelace_at (world_of c.args.s.now start)) c.args.refs.now c.loop-at.at-index none c.loop-at.sum c.map_or-sum.result _ c.loop-at-test.true (c.loop-at.invariant.rest start)
+          step (lovelace_at c.args.s.now) c.args.refs.now c.loop-at.at-index none c.loop-at.sum c.map_or-sum.result _ c.loop-at-test.true c.loop-at.invariant.rest
           (is
           ∙ ap (λ (o : Option Output). amount lovelace_of o) c.get.ensures.value
           ∙ ap (λ (outputs : List (OutRef × Output)). amount lovelace_of (value_at outref_cmp outputs (get_or c.args.refs.now c.loop-at.at-index none))) c.outputs-outputs.ensures.outputs);

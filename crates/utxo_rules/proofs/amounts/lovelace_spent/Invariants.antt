@@ -1,12 +1,10 @@
 use Rattle.std.proofs.Common.{◌≡◌, ◌≤◌, ◌*◌, ◌^◌, ◌+◌, ◌-◌, drop, sum_by}
-use Rattle.ledger_model.specs.World.{World}
-use Rattle.ledger_model.specs.OutputRules.{lovelace_at}
-use Rattle.ledger_state.specs.Held.{world_of}
+use Rattle.ledger_model.specs.UtxoRules.{lovelace_at}
 use Rattle.utxo_rules.proofs.amounts.lovelace_spent.Given as goal
 
 -- the sum so far and the sum of what is left are the sum of all
 abbrev pub invariant-loop-at : goal.invariant-loop-at
 invariant-loop-at l = record {
   bound : l.sum ≤ l.at-index * (2 ^ 64 - 1);
-  rest : (start : World) → l.sum + sum_by (lovelace_at (world_of l.s start)) (drop l.at-index l.refs) ≡ sum_by (lovelace_at (world_of l.s start)) l.refs;
+  rest : l.sum + sum_by (lovelace_at l.s) (drop l.at-index l.refs) ≡ sum_by (lovelace_at l.s) l.refs;
 }

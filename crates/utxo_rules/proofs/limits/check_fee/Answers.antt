@@ -1,17 +1,16 @@
 use Rattle.std.proofs.Common.{arith, rules}
 use Rattle.std.proofs.lemmas.Grind.{common_steps}
 use Rattle.std.proofs.lemmas.Bool.Decides.{nat_tests}
-use Rattle.ledger_state.specs.Held.{world_of}
 use Rattle.utxo_rules.proofs.limits.check_fee.Goals as goal
 
 pub returns-then-from-least : goal.returns-then-from-least
-returns-then-from-least c = λ start.
-    let least = c.least_fee-least.ensures start in
-    let outside = c.is_outside.ensures (world_of c.args.s.now start) in
+returns-then-from-least c =
+    let least = c.least_fee-least.ensures in
+    let outside = c.is_outside.ensures c.args.s.now in
     search rules
 
 pub returns : goal.returns
-returns c = λ start.
-    let least = c.least_fee-least.ensures start in
-    let outside = c.is_outside.ensures (world_of c.args.s.now start) in
+returns c =
+    let least = c.least_fee-least.ensures in
+    let outside = c.is_outside.ensures c.args.s.now in
     grind (arith, common_steps, nat_tests)

@@ -1,0 +1,42 @@
+//! What every crate of rules does: it tries the rules on each item of a list, place after place.
+#![tactic(auto)]
+
+ghost use Rattle.std.specs.Prelude.{◌≡◌, ◌<◌, ◌≤◌, ◌^◌, length};
+ghost use Rattle.ledger_model.specs.Checks.{answer_of, per_place};
+ghost use Rattle.rule_checks.specs.Places.{answer_at};
+
+use tx_records::Rule;
+
+/// The rules on the items of a list, with what they look at. (Own)
+pub trait ItemRules {
+    ghost use Rattle.std.specs.Prelude.{◌≡◌, ℕ, List};
+    ghost use Rattle.ledger_model.specs.Checks.{Check, answer_of};
+
+    /// What the list has.
+    type Item;
+
+    ghost checks: { Self → ℕ → Self.Item → List Check };
+
+    /// The first rule that an item at a place of the list breaks, if there is one; the place is not told yet. (Own)
+    fn check(&self, place: usize, item: &Self::Item) -> Result<(), Rule>
+        ensures { result ≡ answer_of (checks self.now place item.now) };
+}
+
+/// The first rule that an item breaks, with its place: the first item that breaks one, and of its rules the first. (Own)
+pub fn check_each<R: ItemRules>(rules: &R, items: &[R::Item]) -> Result<(), Rule>
+    requires { length items.now ≤ 2 ^ 32 }
+    ensures { result ≡ answer_of (per_place (R.checks rules.now) items.now) }
+{
+    for (place, item) in items.iter().enumerate() {
+        at_place(rules.check(place, item), place)?;
+    }
+    Ok(())
+}
+
+/// The same answer, its rule at this place. (Own)
+pub fn at_place(answer: Result<(), Rule>, place: usize) -> Result<(), Rule>
+    requires { place < 2 ^ 32 }
+    ensures { result ≡ answer_at place answer }
+{
+    answer.map_err(|rule| rule.at(place as u32))
+}
