@@ -38,6 +38,11 @@ def pots(outputs, treasury, reserves, supply):
     return f"genesis outputs {outputs} deposits 0 rewards 0 fees 0 donations 0 treasury {treasury} reserves {reserves} supply {supply}"
 
 
+def printed(outputs, treasury, reserves, supply, fees=0, donations=0):
+    """What a print of these pots is answered."""
+    return f"pots outputs {outputs} deposits 0 rewards 0 fees {fees} donations {donations} treasury {treasury} reserves {reserves} supply {supply}"
+
+
 START = pots(2000, 100, 900, 3000)
 SMALL_START = pots(200, 100, 700, 1000)
 

@@ -4,7 +4,7 @@ import json
 from os.path import commonprefix
 from typing import NamedTuple
 
-from cases import AGAIN, NOT_BUILT, USED, begins, malformed, missing, no_genesis, over_small, pots
+from cases import AGAIN, NOT_BUILT, USED, begins, malformed, missing, no_genesis, over_small, pots, printed
 from records import ref, small, tx_id
 from tables import kinds
 from tables.kinds import ADDRESS, HASH28, HASH32, ONE_NAME, REF, SLOT, U32, U64, UNIT, VALUES, Kind, entry, listing, or_null, spelled, thing, without
@@ -84,6 +84,8 @@ def answer_of(record, name, value):
     """What a record is answered that reads, with this value of the field."""
     if record == "genesis":
         return AGAIN
+    if record == "print" and value != '"state"':
+        return printed(200, 100, 700, 1000)
     if record != "tx" or (name in PARTS and value not in ("[]", "null")):
         return NOT_BUILT
     return missing() if name == "id" else USED

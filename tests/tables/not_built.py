@@ -45,7 +45,6 @@ def records():
     proposals = [{"deposit": 10, "return": key(12), "action": it} for it in EACH_ACTION]
     yield answered(
         "records that are not built",
-        (b'{"kind":"print","what":"pots"}', NOT_BUILT),
         (b'{"kind":"print","what":"state"}', NOT_BUILT),
         (b'{"kind":"block","slot":1,"pulse":1}', NOT_BUILT),
         (b'{"kind":"block","slot":0,"pulse":0}', NOT_BUILT, "whatever its numbers"),

@@ -9,13 +9,13 @@ from cases import (
     NO_INPUTS,
     NO_JSON,
     NO_RECORD,
-    NOT_BUILT,
     NOT_WITNESSED,
     SMALL_START,
     TOO_LONG,
     answered,
     malformed,
     over_small,
+    printed,
     unbalanced,
 )
 from records import GENESIS, LINE_LIMIT, credential, key, ref, script, small, transfer
@@ -45,16 +45,18 @@ def one_rule_each():
 
 def several():
     most = 2**64 - 1
-    yield over_small("a donation", (transfer(2, treasury=100, fee=15, donation=5), ACCEPTED), (PRINT, NOT_BUILT))
+    yield over_small("a donation", (transfer(2, treasury=100, fee=15, donation=5), ACCEPTED), (PRINT, printed(180, 100, 700, 1000, fees=15, donations=5)))
     yield over_small(
         "balances",
         (transfer(2, outputs=[[key(1), 21, 0]], fee=0), unbalanced(20, 21)),
         (transfer(3, outputs=[[key(1), most, 0], [key(1), most, 0]], fee=0), unbalanced(20, 36893488147419103230)),
         (transfer(4, outputs=[[key(1), 19, 0]], fee=1), ACCEPTED),
+        (PRINT, printed(199, 100, 700, 1000, fees=1)),
     )
     yield over_small(
         "failed scripts",
         (transfer(2, scripts="failed", fee=4, collateral=[ref(1, 3)], collateralReturn=[key(1), 14, 0]), FAILED_SCRIPTS),
+        (PRINT, printed(194, 100, 700, 1000, fees=6)),
         (transfer(4, scripts="failed", fee=4, collateral=[ref(1, 5)], collateralReturn=[key(1), 15, 0]), "refused 44 CollateralTooSmall have 5"),
     )
     certs = [{"cert": "drep-update", "cred": credential(30)}, {"cert": "x"}]

@@ -1,23 +1,23 @@
 -- A run that meets no fault is done, unless memory runs out.
-use Rattle.std.proofs.Common.{◌≡◌, ℕ, ◌+◌, ◌<◌, ◌≤◌, ◌⊎◌, List, Option, Some, None, length, refl, sym, ap, ◌∙◌, arith, inl, inr}
+use Rattle.std.proofs.Common.{◌≡◌, ℕ, ◌+◌, ◌<◌, ◌≤◌, ◌⊎◌, List, Option, Some, None, length, refl, sym, ap, ◌∙◌, arith, inr}
 use Rattle.std.proofs.lemmas.List.{length-append}
-use Rattle.conway.specs.declared.status.Status.{Status}
+use Rattle.conway.specs.declared.fault.ReplayFault.{ReplayFault}
+use Rattle.conway.specs.declared.fault.ReplayFault.TheVariants as faults
 use Rattle.conway.specs.declared.status.Status.TheVariants as statuses
-use Rattle.conway.specs.Endings.{HasEnded, start_fault}
-use Rattle.conway.specs.Limits.{stream_limit}
+use Rattle.conway.specs.Endings.{IsReplayed}
 use Rattle.conway.specs.Records.{records_of}
+use Rattle.conway.specs.Runs.{start_fault}
+use Rattle.conway.specs.Statuses.{status_of_fault}
+use Rattle.tx_records.specs.declared.limits.TheConstants.{STREAM_LIMIT}
 
-pub done_or_memory : (status : Status) (bytes : List ℕ) (left : Option (List ℕ)) (written : List ℕ) → HasEnded status bytes left written
-    → start_fault (records_of bytes) ≡ None → length bytes ≤ stream_limit
-    → (status ≡ statuses.ReadFault → ⊥) → (status ≡ statuses.WriteFault → ⊥)
-    → (status ≡ statuses.Done) ⊎ (status ≡ statuses.NoMemory)
-done_or_memory statuses.Done bytes left written ended good short read write = inl refl
-done_or_memory statuses.NoMemory bytes left written ended good short read write = inr refl
-done_or_memory statuses.Usage bytes left written ended good short read write = absurd ended.ending
-done_or_memory (statuses.BadGenesis cause) bytes left written ended good short read write = let is : Some cause ≡ None = sym ended.ending.0 ∙ good in cc
-done_or_memory statuses.ReadFault bytes left written ended good short read write = absurd (read refl)
-done_or_memory statuses.WriteFault bytes left written ended good short read write = absurd (write refl)
-done_or_memory statuses.TooMuch bytes left written ended good short read write =
-    let over : stream_limit < length ended.came = ended.too_much.0 refl in
-    let all : length bytes ≡ length ended.came + length ended.rest = ap length ended.cut ∙ length-append ended.came ended.rest in
+pub done_or_memory : (fault : ReplayFault) (bytes : List ℕ) (left had has : Option (List ℕ)) → IsReplayed (status_of_fault fault) bytes left had has
+    → start_fault (records_of bytes) ≡ None → length bytes ≤ STREAM_LIMIT → (fault ≡ faults.ReadFault → ⊥) → (fault ≡ faults.WriteFault → ⊥)
+    → (status_of_fault fault ≡ statuses.Done) ⊎ (status_of_fault fault ≡ statuses.NoMemory)
+done_or_memory faults.NoMemory bytes left had has replayed good short read write = inr refl
+done_or_memory (faults.BadGenesis cause) bytes left had has replayed good short read write = let is : Some cause ≡ None = sym replayed.ending.fault ∙ good in cc
+done_or_memory faults.ReadFault bytes left had has replayed good short read write = absurd (read refl)
+done_or_memory faults.WriteFault bytes left had has replayed good short read write = absurd (write refl)
+done_or_memory faults.TooMuch bytes left had has replayed good short read write =
+    let over : STREAM_LIMIT < length replayed.come.came = replayed.too_much.0 refl in
+    let all : length bytes ≡ length replayed.come.came + length replayed.come.rest = ap length replayed.come.cut ∙ length-append replayed.come.came replayed.come.rest in
     absurd (omega arith)

@@ -1,21 +1,23 @@
 -- The records of a stream, as a reader of lines gives them.
-use Rattle.std.proofs.Common.{◌≡◌, ◌≢◌, ℕ, ◌+◌, ◌-◌, ◌<◌, ◌≤◌, ◌⊎◌, ◌↔◌, List, [], ◌∷◌, ◌++◌, Bool, true, false, Option, Some, None, Result, Ok, Err, length, take, refl, sym, ap, subst, ◌∙◌, arith, append_assoc, inl, inr}
-use Rattle.std.specs.Prelude.{IsTrue, IsSome, IsErr, IfSome, option_map}
+use Rattle.std.proofs.Common.{◌≡◌, ◌≢◌, ℕ, ◌+◌, ◌<◌, ◌≤◌, ◌⊎◌, List, [], ◌∷◌, ◌++◌, false, Option, Some, None, Result, Ok, Err, length, refl, sym, ap, subst, ◌∙◌, append_assoc, arith, inl, inr}
+use Rattle.std.specs.Prelude.{IsTrue, option_map}
 use Rattle.std.specs.List.{cons_option}
-use Rattle.std.proofs.lemmas.List.{append-nil, length-append}
-use Rattle.byte_lines.specs.Answers.{HasGiven, GivesNext, IsDone, line_given}
-use Rattle.byte_lines.specs.Faults.{before_bytes, given}
-use Rattle.byte_lines.specs.Reader.{Reader}
+use Rattle.std.proofs.lemmas.List.{append-nil, take_all}
+use Rattle.byte_lines.specs.Answers.{Advances, IsAnswer, line_given}
+use Rattle.byte_lines.specs.Laws.{EndGivesAll, BreakGivesWhole, GivesFirst, GivesFirstOfAll, NothingBeyond}
+use Rattle.byte_lines.specs.Pieces.{lines_of, whole_of}
+use Rattle.byte_lines.specs.Progress.{HasRead}
+use Rattle.byte_lines.specs.Reader.{Reader, heeded, part_max}
 use Rattle.byte_lines.specs.declared.lines.Line.{Line}
-use Rattle.byte_lines.specs.declared.lines.Line.TheVariants.{Whole, TooLong, End}
+use Rattle.byte_lines.specs.declared.lines.Line.TheVariants.{End, TooLong, Whole}
 use Rattle.byte_lines.specs.declared.lines.LineFault.{LineFault}
 use Rattle.byte_lines.specs.declared.lines.LineFault.TheVariants as faults
-use Rattle.byte_lines.proofs.TurnLemmas.{HasGiven-more}
 use Rattle.tx_records.specs.declared.record.Reading.{Reading}
 use Rattle.tx_records.specs.declared.record.Reading.TheVariants as readings
-use Rattle.conway.specs.Heard.{HasHeard, HadHeard, Hears}
-use Rattle.conway.specs.Limits.{line_limit, stream_limit}
-use Rattle.conway.specs.Records.{records_from, record_of, reading_of_line}
+use Rattle.conway.specs.Endings.{HasCome}
+use Rattle.conway.specs.Heard.{AreAll, AreWhole, Begin, HasHeard, HearsNext, HearsRecord, StandFirst}
+use Rattle.tx_records.specs.declared.limits.TheConstants.{STREAM_LIMIT}
+use Rattle.conway.specs.Records.{reading_of_line, record_of, records_from, records_of}
 
 -- what is found first stands before others
 cons_option-append : (o : Option (ℕ × Reading)) (rs xs ys : List (ℕ × Reading)) → rs ≡ xs ++ ys → cons_option o rs ≡ cons_option o xs ++ ys
@@ -30,195 +32,159 @@ records_from-append n (x ∷ xs) ys =
     records_from-append (n + 1) xs ys ∙ ap (λ m. records_from (n + 1) xs ++ records_from m ys) (omega arith) in
     cons_option-append (record_of (n, x)) (records_from (n + 1) (xs ++ ys)) (records_from (n + 1) xs) (records_from (n + length (x ∷ xs)) ys) rest
 
--- at the start nothing was read
-pub hears_nothing : (bytes : List ℕ) (r : Reader) → HasGiven r [] [] → r.number ≡ 0 → r.ended ≡ false → r.line_max ≡ line_limit → r.stream_max ≡ stream_limit
-    → HasHeard bytes r (Some bytes) []
-hears_nothing bytes r given number ended max stream = record {
-  came = [];
-  rest = bytes;
-  cut = refl;
-  told = refl;
-  drained = λ ends. cc;
-  lines = [];
-  given = given;
-  numbered = number;
-  read = refl;
-  line_max = max;
-  stream_max = stream;
-}
-
--- a source that told its bytes gave a front of them, and tells the rest
-pub gave_front : (left left' : Option (List ℕ)) (rest : List ℕ) → left ≡ Some rest → left ≡ before_bytes (given left left') left'
-    → (rest' : List ℕ) × (rest ≡ given left left' ++ rest') × (left' ≡ Some rest')
-gave_front left None rest told gave = cc
-gave_front left (Some rest') rest told gave = (rest', cc, refl)
-
--- what stays as it is gave nothing
-pub given_same : (left : Option (List ℕ)) → given left left ≡ []
-given_same None = refl
-given_same (Some bytes) = let none : length bytes - length bytes ≡ 0 = omega arith in ap (λ n. take n bytes) none
-
-some_only : (left : Option (List ℕ)) (rest : List ℕ) → left ≡ Some rest → IfSome left (λ b. b ≡ []) → rest ≡ []
-some_only None rest told empty = cc
-some_only (Some bytes) rest told empty = cc
-
--- nothing is left behind the end
-still_drained : (b : Bool) (old new : Reader) (left left' : Option (List ℕ)) (rest rest' : List ℕ) → old.ended ≡ b → left ≡ Some rest → left' ≡ Some rest'
-    → (IsTrue old.ended → rest ≡ [])
-    → (IsTrue old.ended → left' ≡ left)
-    → (old.ended ≡ false → IsTrue new.ended → IfSome left' (λ b. b ≡ []))
-    → IsTrue new.ended → rest' ≡ []
-still_drained true old new left left' rest rest' e told told' drained stopped ends ended =
-    let empty : rest ≡ [] = drained e in
-    let same : left' ≡ left = stopped e in
-    let equal : Some rest' ≡ Some rest = sym told' ∙ same ∙ told in
-    cc
-still_drained false old new left left' rest rest' e told told' drained stopped ends ended = some_only left' rest' told' (ends e ended)
-
--- the next line, or none
-pub hears_line : (bytes : List ℕ) (old new : Reader) (left left' : Option (List ℕ)) (records : List (ℕ × Reading)) (result : Result Line LineFault)
+-- one call more
+pub heard_on : (bytes : List ℕ) (old new : Reader) (left left' : Option (List ℕ)) (records : List (ℕ × Reading)) (result : Result Line LineFault)
     → HasHeard bytes old left records
-    → left ≡ before_bytes (given left left') left'
-    → (IsSome left → new.taken ≡ old.taken + length (given left left'))
-    → (IsSome left → GivesNext old new (given left left') result)
-    → new.number ≡ old.number + length (line_given result new)
-    → new.line_max ≡ old.line_max
-    → new.stream_max ≡ old.stream_max
-    → (old.ended ≡ false → IsTrue new.ended → IfSome left' (λ b. b ≡ []))
-    → (IsTrue old.ended → (new ≡ old) × (left' ≡ left))
-    → result ≢ Err faults.NoMemory
+    → ((given : List (Option (List ℕ))) → HasRead bytes old left given → HasRead bytes new left' (given ++ line_given result new))
+    → Advances old new result
     → HasHeard bytes new left' (records ++ records_from (old.number + 1) (line_given result new))
-hears_line bytes old new left left' records result heard gave taken lines number max stream ends stopped memory =
-    let is_told : IsSome left = subst (λ (o : Option (List ℕ)). IsSome o) (sym heard.told) refl in
-    let front = gave_front left left' heard.rest heard.told gave in
-    let more : List ℕ = given left left' in
-    let nothing : IsTrue old.ended → more ≡ [] = λ ended. ap (λ (o : Option (List ℕ)). given left o) (stopped ended).1 ∙ given_same left in
-    record {
-      came = heard.came ++ more;
-      rest = front.0;
-      cut = heard.cut ∙ ap (λ (l : List ℕ). heard.came ++ l) front.1 ∙ sym (append_assoc heard.came more front.0);
-      told = front.2;
-      drained = still_drained old.ended old new left left' heard.rest front.0 refl heard.told front.2 heard.drained (λ ended. (stopped ended).1) ends;
-      lines = heard.lines ++ line_given result new;
-      given = HasGiven-more old new heard.came more heard.lines result heard.given record {
-        line_max = max;
-        stream_max = stream;
-        taken = taken is_told;
-        lines = lines is_told;
-        memory = memory;
-        stopped = λ ended. ((stopped ended).0, nothing ended);
-      };
-      numbered = omega (arith, number, heard.numbered, length-append heard.lines (line_given result new));
-      read =
-          ap (λ (rs : List (ℕ × Reading)). rs ++ records_from (old.number + 1) (line_given result new)) heard.read
-          ∙ ap (λ n. records_from 1 heard.lines ++ records_from n (line_given result new)) (omega (arith, heard.numbered))
-          ∙ sym (records_from-append 1 heard.lines (line_given result new));
-      line_max = max ∙ heard.line_max;
-      stream_max = stream ∙ heard.stream_max;
-    }
-
--- where memory ran out, the records are those of before
-pub had_heard : (bytes : List ℕ) (old new : Reader) (left left' : Option (List ℕ)) (records : List (ℕ × Reading))
-    → HasHeard bytes old left records
-    → left ≡ before_bytes (given left left') left'
-    → (IsSome left → new.taken ≡ old.taken + length (given left left'))
-    → new.taken ≤ stream_limit
-    → HadHeard bytes left' records
-had_heard bytes old new left left' records heard gave taken within =
-    let is_told : IsSome left = subst (λ (o : Option (List ℕ)). IsSome o) (sym heard.told) refl in
-    let front = gave_front left left' heard.rest heard.told gave in
-    record {
-      reader = old;
-      then_left = left;
-      heard = heard;
-      more = given left left';
-      rest = front.0;
-      since = heard.told ∙ ap Some front.1;
-      told = front.2;
-      within = omega (arith, taken is_told, within);
-    }
-
--- records that were read now were read
-pub heard_now : (bytes : List ℕ) (r : Reader) (left : Option (List ℕ)) (records : List (ℕ × Reading)) → HasHeard bytes r left records → r.taken ≤ stream_limit → HadHeard bytes left records
-heard_now bytes r left records heard within = record {
-  reader = r;
-  then_left = left;
-  heard = heard;
-  more = [];
-  rest = heard.rest;
-  since = heard.told;
-  told = heard.told;
-  within = omega (arith, within);
+heard_on bytes old new left left' records result heard reads advances = record {
+  lines = heard.lines ++ line_given result new;
+  read = reads heard.lines heard.read;
+  says =
+      ap (λ (rs : List (ℕ × Reading)). rs ++ records_from (old.number + 1) (line_given result new)) heard.says
+      ∙ ap (λ n. records_from 1 heard.lines ++ records_from n (line_given result new)) (omega (arith, heard.read.numbered))
+      ∙ sym (records_from-append 1 heard.lines (line_given result new));
+  line_max = advances.line_max ∙ heard.line_max;
+  stream_max = advances.stream_max ∙ heard.stream_max;
 }
 
--- what is not above is at most that
-not_above : (m n : ℕ) → (n < m → ⊥) → m ≤ n
-not_above m n h = omega arith
+module _ (bytes : List ℕ) (r : Reader) (left : Option (List ℕ)) (records : List (ℕ × Reading)) (heard : HasHeard bytes r left records) where
+  -- what came
+  abbrev come : HasCome bytes left
+  come = record { came = heard.read.came; rest = heard.read.rest; cut = heard.read.cut; told = heard.read.told }
 
--- but where the answer says so, no more bytes were taken than the limit
-within : (old new : Reader) (result : Result Line LineFault) → old.stream_max ≡ stream_limit → ((result ≡ Err faults.TooMuch) ↔ (old.stream_max < new.taken)) → result ≢ Err faults.TooMuch → new.taken ≤ stream_limit
-within old new result limit over other = not_above new.taken stream_limit (λ above. other (over.1 (subst (λ n. n < new.taken) (sym limit) above)))
+  come_within : r.taken ≤ STREAM_LIMIT → length heard.read.came ≤ STREAM_LIMIT
+  come_within within = omega (arith, heard.read.taken, within)
 
--- a call for the next line
-pub hears : (bytes : List ℕ) (old new : Reader) (left left' : Option (List ℕ)) (records : List (ℕ × Reading)) (result : Result Line LineFault)
-    → HasHeard bytes old left records
-    → left ≡ before_bytes (given left left') left'
-    → (IsSome left → new.taken ≡ old.taken + length (given left left'))
-    → (IsSome left → GivesNext old new (given left left') result)
-    → new.number ≡ old.number + length (line_given result new)
-    → new.line_max ≡ old.line_max
-    → new.stream_max ≡ old.stream_max
-    → (old.ended ≡ false → IsTrue new.ended → IfSome left' (λ b. b ≡ []))
-    → (IsTrue old.ended → (new ≡ old) × (left' ≡ left))
-    → ((result ≡ Err faults.TooMuch) ↔ (old.stream_max < new.taken))
-    → (result ≡ Ok End → IsTrue new.ended)
-    → (IsTrue new.ended → IsDone new)
-    → (IsErr result → new.ended ≡ false)
-    → ((result ≡ Err faults.ReadFault) ⊎ (result ≡ Err faults.TooMuch) → new.ahead ≡ [])
-    → Hears bytes new left' records result
-hears bytes old new left left' records (Ok Whole) heard gave taken lines number max stream ends stopped over end done going looked =
-    let next = hears_line bytes old new left left' records (Ok Whole) heard gave taken lines number max stream ends stopped (λ is. cc) in
-    let same : old.number + 1 ≡ new.number = sym number in (
-      subst (λ n. HasHeard bytes new left' (records ++ records_from n (Some new.text ∷ []))) same next,
-      within old new (Ok Whole) heard.stream_max over (λ is. cc),
-      had_heard bytes old new left left' records heard gave taken (within old new (Ok Whole) heard.stream_max over (λ is. cc)),
-    )
-hears bytes old new left left' records (Ok TooLong) heard gave taken lines number max stream ends stopped over end done going looked =
-    let next = hears_line bytes old new left left' records (Ok TooLong) heard gave taken lines number max stream ends stopped (λ is. cc) in
-    let same : old.number + 1 ≡ new.number = sym number in (
-      subst (λ n. HasHeard bytes new left' (records ++ (n, readings.TooLong) ∷ [])) same next,
-      within old new (Ok TooLong) heard.stream_max over (λ is. cc),
-    )
-hears bytes old new left left' records (Ok End) heard gave taken lines number max stream ends stopped over end done going looked =
-    let next = hears_line bytes old new left left' records (Ok End) heard gave taken lines number max stream ends stopped (λ is. cc) in
-    let ended : IsTrue new.ended = end refl in (
-      subst (λ (rs : List (ℕ × Reading)). HasHeard bytes new left' rs) (append-nil records) next,
-      within old new (Ok End) heard.stream_max over (λ is. cc),
-      ended,
-      (done ended).ahead,
-      (done ended).begun,
-    )
-hears bytes old new left left' records (Err faults.ReadFault) heard gave taken lines number max stream ends stopped over end done going looked =
-    let next = hears_line bytes old new left left' records (Err faults.ReadFault) heard gave taken lines number max stream ends stopped (λ is. cc) in (
-      subst (λ (rs : List (ℕ × Reading)). HasHeard bytes new left' rs) (append-nil records) next,
-      within old new (Err faults.ReadFault) heard.stream_max over (λ is. cc),
-      going refl,
-      looked (inl refl),
-    )
-hears bytes old new left left' records (Err faults.TooMuch) heard gave taken lines number max stream ends stopped over end done going looked =
-    let next = hears_line bytes old new left left' records (Err faults.TooMuch) heard gave taken lines number max stream ends stopped (λ is. cc) in (
-      subst (λ (rs : List (ℕ × Reading)). HasHeard bytes new left' rs) (append-nil records) next,
-      subst (λ n. n < new.taken) heard.stream_max (over.0 refl),
-      going refl,
-      looked (inr refl),
-    )
-hears bytes old new left left' records (Err faults.NoMemory) heard gave taken lines number max stream ends stopped over end done going looked =
-    had_heard bytes old new left left' records heard gave taken (within old new (Err faults.NoMemory) heard.stream_max over (λ is. cc))
+  all_heeded : r.taken ≤ STREAM_LIMIT → heeded r.stream_max heard.read.came ≡ heard.read.came
+  all_heeded within = ap (λ m. heeded m heard.read.came) heard.stream_max ∙ take_all STREAM_LIMIT heard.read.came (come_within within)
 
--- a whole line that says nothing gives no record, and one that says something gives that one
-pub whole_gives : (bytes : List ℕ) (new : Reader) (left : Option (List ℕ)) (records : List (ℕ × Reading)) (said : Option Reading)
-    → said ≡ reading_of_line (Some new.text)
-    → Hears bytes new left records (Ok Whole)
-    → HasHeard bytes new left (records ++ cons_option (option_map (λ r. (new.number, r)) said) []) × (new.taken ≤ stream_limit)
-whole_gives bytes new left records said is heard =
-    (subst (λ (o : Option Reading). HasHeard bytes new left (records ++ cons_option (option_map (λ r. (new.number, r)) o) [])) (sym is) heard.0, heard.1)
+  -- the lines given are those of these bytes
+  are_of : (given : List ℕ) → heard.lines ≡ lines_of r.line_max given → records ≡ records_of given
+  are_of given e = heard.says ∙ ap (λ (ls : List (Option (List ℕ))). records_from 1 ls) (e ∙ ap (λ m. lines_of m given) heard.line_max)
+
+  -- they are the first of them
+  begin_of : (given : List ℕ) (later : List (Option (List ℕ))) → lines_of r.line_max given ≡ heard.lines ++ later → Begin records (records_of given)
+  begin_of given later e = (
+    records_from (1 + length heard.lines) later,
+    ap (λ m. records_from 1 (lines_of m given)) (sym heard.line_max)
+        ∙ ap (λ (ls : List (Option (List ℕ))). records_from 1 ls) e
+        ∙ records_from-append 1 heard.lines later
+        ∙ ap (λ (rs : List (ℕ × Reading)). rs ++ records_from (1 + length heard.lines) later) (sym heard.says),
+  )
+
+  pub are_all : EndGivesAll → IsTrue r.ended → r.taken ≤ STREAM_LIMIT → AreAll bytes left records
+  are_all law ended within =
+      let all = law bytes r left heard.lines heard.read ended (omega (arith, heard.stream_max, within)) in record {
+        told = heard.read.told ∙ ap Some all.2;
+        within = omega (arith, heard.read.taken, ap length all.1, within);
+        all = are_of bytes all.0;
+      }
+
+  pub are_whole : BreakGivesWhole → (IsMany : ℕ → Type 0) → IsMany (length heard.read.came) → r.ended ≡ false → r.ahead ≡ [] → AreWhole bytes left records IsMany
+  are_whole law IsMany many going looked = record {
+    come = come;
+    many = many;
+    whole =
+        are_of (whole_of (heeded r.stream_max heard.read.came)) (law bytes r left heard.lines heard.read going looked)
+        ∙ ap (λ m. records_of (whole_of (heeded m heard.read.came))) heard.stream_max;
+  }
+
+  stand_by : r.taken ≤ STREAM_LIMIT
+      → ((later : List (Option (List ℕ))) × (lines_of r.line_max (whole_of heard.read.came) ≡ heard.lines ++ later)) ⊎ ((heard.read.rest ≡ []) × (lines_of r.line_max heard.read.came ≡ heard.lines))
+      → Begin records (records_of (whole_of heard.read.came)) ⊎ ((heard.read.rest ≡ []) × Begin records (records_of heard.read.came))
+  stand_by within (inl h) = inl (begin_of (whole_of heard.read.came) h.0 h.1)
+  stand_by within (inr h) = inr (h.0, begin_of heard.read.came [] (h.1 ∙ sym (append-nil heard.lines)))
+
+  pub stand_first : GivesFirst → GivesFirstOfAll → r.taken ≤ STREAM_LIMIT → StandFirst bytes left records
+  stand_first law law_of_all within =
+      let of_all = law_of_all bytes r left heard.lines heard.read (omega (arith, heard.stream_max, within)) in record {
+        come = come;
+        within = come_within within;
+        stand = stand_by within (subst (λ (came : List ℕ).
+            ((later : List (Option (List ℕ))) × (lines_of r.line_max (whole_of came) ≡ heard.lines ++ later)) ⊎ ((heard.read.rest ≡ []) × (lines_of r.line_max came ≡ heard.lines)))
+            (all_heeded within) (law bytes r left heard.lines heard.read));
+        stream = begin_of bytes of_all.0 of_all.1;
+      }
+
+  pub hears_record : GivesFirst → GivesFirstOfAll → NothingBeyond → r.taken ≤ STREAM_LIMIT → r.begun ≡ Some [] → length r.ahead < part_max → HearsRecord bytes r left records
+  unfolding stand_first
+  hears_record law law_of_all law_beyond within begun ahead =
+      let h = law_beyond bytes r left heard.lines heard.read begun (omega (arith, heard.stream_max, within)) in record {
+        heard = heard;
+        first = stand_first law law_of_all within;
+        read = record { upto = h.0; ahead = r.ahead; cut = h.1; less = ahead; whole = h.3; all = are_of h.0 h.2 };
+      }
+
+-- ---- a call for the next line
+
+-- what it leaves
+abbrev pub Hears : List ℕ → Reader → Option (List ℕ) → List (ℕ × Reading) → Result Line LineFault → Type 0
+Hears bytes new left records (Ok End) = HearsNext bytes new left records (Ok None)
+Hears bytes new left records (Ok Whole) = HearsRecord bytes new left (records ++ records_from new.number (Some new.text ∷ []))
+Hears bytes new left records (Ok TooLong) = HearsNext bytes new left records (Ok (Some readings.TooLong))
+Hears bytes new left records (Err fault) = HearsNext bytes new left records (Err fault)
+
+module _ (all : EndGivesAll) (whole : BreakGivesWhole) (first : GivesFirst) (first_of_all : GivesFirstOfAll) (beyond : NothingBeyond)
+    (bytes : List ℕ) (old new : Reader) (left left' : Option (List ℕ)) (records : List (ℕ × Reading)) (heard : HasHeard bytes old left records) where
+  not_above : (m n : ℕ) → (n < m → ⊥) → m ≤ n
+  not_above m n h = omega arith
+
+  within_by : (result : Result Line LineFault) → Advances old new result → IsAnswer old new result → result ≢ Err faults.TooMuch → new.taken ≤ STREAM_LIMIT
+  within_by result advances answer other =
+      not_above new.taken STREAM_LIMIT (λ over. other (answer.too_much.1 (subst (λ n. n < new.taken) (sym (advances.stream_max ∙ heard.stream_max)) over)))
+
+  -- no line was given
+  heard_no_line : HasHeard bytes new left' (records ++ []) → HasHeard bytes new left' records
+  heard_no_line h = subst (λ (rs : List (ℕ × Reading)). HasHeard bytes new left' rs) (append-nil records) h
+
+  -- one was
+  heard_line : (given : Option (List ℕ)) → old.number + 1 ≡ new.number → HasHeard bytes new left' (records ++ records_from (old.number + 1) (given ∷ []))
+      → HasHeard bytes new left' (records ++ records_from new.number (given ∷ []))
+  heard_line given e h = subst (λ n. HasHeard bytes new left' (records ++ records_from n (given ∷ []))) e h
+
+  pub hears : (result : Result Line LineFault)
+      → ((given : List (Option (List ℕ))) → HasRead bytes old left given → HasRead bytes new left' (given ++ line_given result new))
+      → Advances old new result → IsAnswer old new result → Hears bytes new left' records result
+  hears (Ok End) reads advances answer =
+      are_all bytes new left' records (heard_no_line (heard_on bytes old new left left' records (Ok End) heard reads advances)) all (answer.end refl) (within_by (Ok End) advances answer (λ e. cc))
+  hears (Ok Whole) reads advances answer =
+      hears_record bytes new left' _ (heard_line (Some new.text) (sym advances.number) (heard_on bytes old new left left' records (Ok Whole) heard reads advances))
+      first first_of_all beyond (within_by (Ok Whole) advances answer (λ e. cc)) (answer.begun refl) (answer.ahead refl)
+  hears (Ok TooLong) reads advances answer =
+      hears_record bytes new left' _ (heard_line None (sym advances.number) (heard_on bytes old new left left' records (Ok TooLong) heard reads advances))
+      first first_of_all beyond (within_by (Ok TooLong) advances answer (λ e. cc)) (answer.begun refl) (answer.ahead refl)
+  hears (Err faults.ReadFault) reads advances answer =
+      let h = heard_no_line (heard_on bytes old new left left' records (Err faults.ReadFault) heard reads advances) in
+      are_whole bytes new left' records h whole (λ n. n ≤ STREAM_LIMIT) (omega (arith, h.read.taken, within_by (Err faults.ReadFault) advances answer (λ e. cc)))
+      (answer.unfinished refl) (answer.looked (inl refl))
+  hears (Err faults.TooMuch) reads advances answer =
+      let h = heard_no_line (heard_on bytes old new left left' records (Err faults.TooMuch) heard reads advances) in
+      are_whole bytes new left' records h whole (λ n. STREAM_LIMIT < n) (omega (arith, h.read.taken, h.stream_max, answer.too_much.0 refl))
+      (answer.unfinished refl) (answer.looked (inr refl))
+  hears (Err faults.NoMemory) reads advances answer =
+      stand_first bytes new left' records (heard_no_line (heard_on bytes old new left left' records (Err faults.NoMemory) heard reads advances))
+      first first_of_all (within_by (Err faults.NoMemory) advances answer (λ e. cc))
+
+-- what stands first, and less of it
+begin_before : (records more all : List (ℕ × Reading)) → Begin (records ++ more) all → Begin records all
+begin_before records more all b = (more ++ b.0, b.1 ∙ append_assoc records more b.0)
+
+begins_before : (records more : List (ℕ × Reading)) (came rest : List ℕ) → Begin (records ++ more) (records_of (whole_of came)) ⊎ ((rest ≡ []) × Begin (records ++ more) (records_of came))
+    → Begin records (records_of (whole_of came)) ⊎ ((rest ≡ []) × Begin records (records_of came))
+begins_before records more came rest (inl b) = inl (begin_before records more (records_of (whole_of came)) b)
+begins_before records more came rest (inr b) = inr (b.0, begin_before records more (records_of came) b.1)
+
+pub stand_before : (bytes : List ℕ) (left : Option (List ℕ)) (records more : List (ℕ × Reading)) → StandFirst bytes left (records ++ more) → StandFirst bytes left records
+stand_before bytes left records more first = record {
+  come = first.come;
+  within = first.within;
+  stand = begins_before records more first.come.came first.come.rest first.stand;
+  stream = begin_before records more (records_of bytes) first.stream;
+}
+
+-- what a whole line says
+pub whole_says : (bytes : List ℕ) (new : Reader) (left : Option (List ℕ)) (records : List (ℕ × Reading)) (said : Option Reading) → said ≡ reading_of_line (Some new.text)
+    → HearsRecord bytes new left (records ++ records_from new.number (Some new.text ∷ [])) → HearsRecord bytes new left (records ++ cons_option (option_map (λ r. (new.number, r)) said) [])
+whole_says bytes new left records said is h = subst (λ (o : Option Reading). HearsRecord bytes new left (records ++ cons_option (option_map (λ r. (new.number, r)) o) [])) (sym is) h

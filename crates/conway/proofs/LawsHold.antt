@@ -3,12 +3,13 @@ use Rattle.std.proofs.Common.{◌≡◌, ℕ, ◌+◌, true, false, ◌&&◌, Li
 use Rattle.std.proofs.lemmas.Bool.{and_parts}
 use Rattle.std.specs.Prelude.{IfOk, filter_map, option_map}
 use Rattle.std.specs.List.{cons_option, list_all}
-use Rattle.ledger_model.specs.World.{World}
 use Rattle.run_model.specs.Genesis.{genesis_fault, world_of_genesis}
 use Rattle.run_model.specs.Laws as laws
-use Rattle.run_model.specs.Limits.{is_readable}
+use Rattle.tx_records.specs.RecordLimits.{is_within_limits}
 use Rattle.run_model.specs.Runs as whole
-use Rattle.run_model.specs.Step.{acceptance_of, accepted_as, refusal_of, step, step_by}
+use Rattle.run_model.specs.Step.{acceptance_of, refusal_of, step, step_by}
+use Rattle.run_model.specs.World.{World}
+use Rattle.ledger_model.specs.Transaction.{accepted_as}
 use Rattle.text_model.specs.Replies.{reply_words}
 use Rattle.text_model.specs.Runs as text
 use Rattle.text_model.specs.Runs.{text_of_lines}
@@ -29,10 +30,10 @@ use Rattle.record_read.specs.Lines.{record_of_line}
 use Rattle.record_read.specs.declared.fault.RecordFault.{RecordFault}
 use Rattle.record_read.specs.declared.fault.RecordFault.TheVariants as faults
 use Rattle.conway.specs.Built.{is_built, is_built_reading}
-use Rattle.conway.specs.Laws.{LinesAreWithin, LinesReach, RunsAreOfTheWhole, TextIsOfTheWhole, SupplyStays, RefusedChangesNothing, built_record, is_within, world_after_all}
-use Rattle.conway.specs.Limits.{line_limit}
-use Rattle.conway.specs.Records.{is_blank, reading_by, records_from}
-use Rattle.conway.specs.Runs.{genesis_text, not_built, text_by_cause, text_from}
+use Rattle.conway.specs.Laws.{LinesAreWithin, LinesReach, RunsAreOfTheWhole, TextIsOfTheWhole, SupplyStays, RefusedChangesNothing, are_within, built_record, world_after_all}
+use Rattle.tx_records.specs.declared.limits.TheConstants.{LINE_LIMIT}
+use Rattle.conway.specs.Records.{is_blank, is_within, reading_by, records_from}
+use Rattle.conway.specs.Runs.{genesis_lines, not_built, text_by_cause, text_from}
 
 -- ---- the ledger
 
@@ -72,51 +73,51 @@ refused w r rule e =
 
 -- ---- what records reach
 
-module _ (law : (line : List ℕ) → IfOk (record_of_line line) (λ r. is_readable r ≡ true)) where
-  line_within : (n : ℕ) (found : Result Record RecordFault) → IfOk found (λ r. is_readable r ≡ true) → is_within (n, reading_by found) ≡ true
-  line_within n (Ok r) e = e
-  line_within n (Err faults.BadJson) e = refl
-  line_within n (Err faults.UnknownKind) e = refl
-  line_within n (Err (faults.BadField name place)) e = refl
-  line_within n (Err faults.NoMemory) e = refl
+module _ (law : (line : List ℕ) → IfOk (record_of_line line) (λ r. is_within_limits r ≡ true)) where
+  line_within : (found : Result Record RecordFault) → IfOk found (λ r. is_within_limits r ≡ true) → is_within (reading_by found) ≡ true
+  line_within (Ok r) e = e
+  line_within (Err faults.BadJson) e = refl
+  line_within (Err faults.UnknownKind) e = refl
+  line_within (Err (faults.BadField name place)) e = refl
+  line_within (Err faults.NoMemory) e = refl
 
-  lines_within : (n : ℕ) (lines : List (Option (List ℕ))) → list_all is_within (records_from n lines) ≡ true
+  lines_within : (n : ℕ) (lines : List (Option (List ℕ))) → are_within (records_from n lines) ≡ true
   lines_within n [] = refl
   lines_within n (None ∷ lines) = lines_within (n + 1) lines
   lines_within n (Some line ∷ lines) =
-      elim (is_blank line) as (λ b. list_all is_within (cons_option (option_map (λ r. (n, r)) (if b then None else Some (reading_by (record_of_line line)))) (records_from (n + 1) lines)) ≡ true) [
+      elim (is_blank line) as (λ b. are_within (cons_option (option_map (λ r. (n, r)) (if b then None else Some (reading_by (record_of_line line)))) (records_from (n + 1) lines)) ≡ true) [
         | true ↦ lines_within (n + 1) lines
-        | false ↦ ap (λ b. b && list_all is_within (records_from (n + 1) lines)) (line_within n (record_of_line line) (law line)) ∙ lines_within (n + 1) lines
+        | false ↦ ap (λ b. b && are_within (records_from (n + 1) lines)) (line_within (record_of_line line) (law line)) ∙ lines_within (n + 1) lines
       ]
 
   pub within : LinesAreWithin
-  within bytes = lines_within 1 (lines_of line_limit bytes)
+  within bytes = lines_within 1 (lines_of LINE_LIMIT bytes)
 
 -- the records that are built are within the limits, where all that was read is
-built_within : (rs : List (ℕ × Reading)) → list_all is_within rs ≡ true → list_all is_readable (filter_map built_record rs) ≡ true
+built_within : (rs : List (ℕ × Reading)) → are_within rs ≡ true → list_all is_within_limits (filter_map built_record rs) ≡ true
 built_within [] e = refl
 built_within ((n, Malformed field place) ∷ rs) e = built_within rs e
 built_within ((n, TooLong) ∷ rs) e = built_within rs e
 built_within ((n, Read r) ∷ rs) e =
-    let h = and_parts (is_readable r) (list_all is_within rs) e in
-    elim (is_built r) as (λ b. list_all is_readable (cons_option (if b then Some r else None) (filter_map built_record rs)) ≡ true) [
-      | true ↦ ap (λ b. b && list_all is_readable (filter_map built_record rs)) h.0 ∙ built_within rs h.1
+    let h = and_parts (is_within_limits r) (are_within rs) e in
+    elim (is_built r) as (λ b. list_all is_within_limits (cons_option (if b then Some r else None) (filter_map built_record rs)) ≡ true) [
+      | true ↦ ap (λ b. b && list_all is_within_limits (filter_map built_record rs)) h.0 ∙ built_within rs h.1
       | false ↦ built_within rs h.1
     ]
 
 pub reached : LinesReach
-reached g rs readable sound all = record {
+reached g rs within no_fault all = record {
   genesis = g;
   records = filter_map built_record rs;
-  readable = readable;
-  all_readable = built_within rs all;
-  sound = sound;
+  within = within;
+  all_within = built_within rs all;
+  no_fault = no_fault;
   reached = sym (runs (world_of_genesis g) rs);
 }
 
 pub supply : laws.SupplyStays → SupplyStays
 unfolding reached
-supply law g rs readable sound all = law (world_after_all (world_of_genesis g) rs) (reached g rs readable sound all)
+supply law g rs within no_fault all = law (world_after_all (world_of_genesis g) rs) (reached g rs within no_fault all)
 
 -- ---- the text
 
@@ -124,13 +125,13 @@ all_text : (w : World) (rs : List (ℕ × Reading)) → list_all (λ (r : ℕ ×
 all_text w [] e = refl
 all_text w (r ∷ rs) e =
     let h = and_parts (is_built_reading r.1) (list_all (λ (q : ℕ × Reading). is_built_reading q.1) rs) e in
-    ap (λ b. text_of_lines r.0 (if b then text.lines_of w r.1 else reply_words not_built ∷ []) ++ text_from (if b then text.world_after_reading w r.1 else w) rs) h.0
-    ∙ ap (λ (t : Text). text_of_lines r.0 (text.lines_of w r.1) ++ t) (all_text (text.world_after_reading w r.1) rs h.1)
+    ap (λ b. text_of_lines r.0 (if b then text.reading_lines w r.1 else reply_words not_built ∷ []) ++ text_from (if b then text.world_after_reading w r.1 else w) rs) h.0
+    ∙ ap (λ (t : Text). text_of_lines r.0 (text.reading_lines w r.1) ++ t) (all_text (text.world_after_reading w r.1) rs h.1)
 
 by_rule : (n : ℕ) (g : Genesis) (rs : List (ℕ × Reading)) (found : Option GenesisRule) → list_all (λ (r : ℕ × Reading). is_built_reading r.1) rs ≡ true
-    → text_by_cause n g (option_map causes.Broken found) rs ≡ text.text_of_genesis n g found rs
+    → text_by_cause (option_map causes.Broken found) n (Read (records.Genesis g)) rs ≡ text.text_of_genesis n g found rs
 by_rule n g rs (Some rule) e = refl
-by_rule n g rs None e = ap (λ (t : Text). Some (genesis_text n g ++ t)) (all_text (world_of_genesis g) rs e)
+by_rule n g rs None e = ap (λ (t : Text). Some (text_of_lines n (genesis_lines g) ++ t)) (all_text (world_of_genesis g) rs e)
 
 pub text_is : TextIsOfTheWhole
 text_is [] s e = refl
@@ -141,5 +142,5 @@ text_is ((n, Read (records.Rewards u)) ∷ rs) s e = refl
 text_is ((n, Read (records.Tx tx)) ∷ rs) s e = refl
 text_is ((n, Read (records.Print _)) ∷ rs) s e = refl
 text_is ((n, Read (records.Genesis g)) ∷ rs) s e =
-    ap (λ b. text_by_cause n g (if b then option_map causes.Broken (genesis_fault g) else Some causes.NotBuilt) rs) s
+    ap (λ b. text_by_cause (if b then option_map causes.Broken (genesis_fault g) else Some causes.NotBuilt) n (Read (records.Genesis g)) rs) s
     ∙ by_rule n g rs (genesis_fault g) e

@@ -1,8 +1,6 @@
-pub mod Answering
-pub mod Starting
+pub mod Numbers
+pub mod Judging
 pub mod Complete
-pub mod Ends
-pub mod Fronts
 pub mod Heard
 pub mod LawsHold
-pub mod Judging
+pub mod Turns

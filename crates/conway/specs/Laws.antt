@@ -2,12 +2,12 @@
 use Rattle.std.specs.Prelude.{◌≡◌, ℕ, Bool, true, List, ◌∷◌, Option, Some, None, filter_map, fold, if◌then◌else◌}
 use Rattle.std.specs.List.{list_all}
 use Rattle.ledger_model.specs.Supply.{supply_of}
-use Rattle.ledger_model.specs.World.{World}
 use Rattle.ledger_state.specs.Built.{is_built_genesis}
 use Rattle.run_model.specs.Genesis.{genesis_fault, world_of_genesis}
-use Rattle.run_model.specs.Limits.{is_genesis, is_readable}
+use Rattle.tx_records.specs.GenesisLimits as genesis_limits
 use Rattle.run_model.specs.Runs as whole
 use Rattle.run_model.specs.Step.{step}
+use Rattle.run_model.specs.World.{World}
 use Rattle.text_model.specs.Runs as text
 use Rattle.tx_records.specs.declared.genesis.Genesis.{Genesis}
 use Rattle.tx_records.specs.declared.record.Reading.{Reading}
@@ -17,8 +17,8 @@ use Rattle.tx_records.specs.declared.record.Record.TheVariants as records
 use Rattle.tx_records.specs.declared.reply.Reply.TheVariants.{Refused}
 use Rattle.tx_records.specs.declared.reply.Rule.{Rule}
 use Rattle.conway.specs.Built.{is_built, is_built_reading}
-use Rattle.conway.specs.Records.{records_of}
-use Rattle.conway.specs.Runs.{text_of_records, world_after}
+use Rattle.conway.specs.Records.{is_within, records_of}
+use Rattle.conway.specs.Runs.{text_of_records, world_left}
 
 -- the record that was read, where it is built
 abbrev pub built_record : ℕ × Reading → Option Record
@@ -28,11 +28,12 @@ built_record (n, TooLong) = None
 
 -- the ledger after what was read
 abbrev pub world_after_all : World → List (ℕ × Reading) → World
-world_after_all w rs = fold (λ (v : World) (r : ℕ × Reading). world_after v r.1) w rs
+world_after_all w rs = fold (λ (v : World) (r : ℕ × Reading). world_left v r.1) w rs
 
 -- the ledger is the one that the records that are built leave, by the rules of the whole ledger
 abbrev pub RunsAreOfTheWhole : Type 0
-RunsAreOfTheWhole = (w : World) (rs : List (ℕ × Reading)) → world_after_all w rs ≡ whole.world_after_all w (filter_map built_record rs)
+RunsAreOfTheWhole = (w : World) (rs : List (ℕ × Reading)) →
+    world_after_all w rs ≡ whole.world_after_all w (filter_map built_record rs)
 
 -- the genesis is built, where the first record is one
 abbrev pub starts_built : List (ℕ × Reading) → Bool
@@ -41,29 +42,31 @@ starts_built _ = true
 
 -- where all that was read is built, the text is that of the whole ledger
 abbrev pub TextIsOfTheWhole : Type 0
-TextIsOfTheWhole = (rs : List (ℕ × Reading)) → starts_built rs ≡ true → list_all (λ (r : ℕ × Reading). is_built_reading r.1) rs ≡ true
-    → text_of_records rs ≡ text.text_of_run rs
+TextIsOfTheWhole = (rs : List (ℕ × Reading)) → starts_built rs ≡ true
+    → list_all (λ (r : ℕ × Reading). is_built_reading r.1) rs ≡ true
+    → text_of_records rs ≡ text.text_of_readings rs
 
--- what was read is within the limits of records
-abbrev pub is_within : ℕ × Reading → Bool
-is_within (n, Read r) = is_readable r
-is_within (n, Malformed field place) = true
-is_within (n, TooLong) = true
+-- all that was read is within the limits of records
+abbrev pub are_within : List (ℕ × Reading) → Bool
+are_within rs = list_all (λ (r : ℕ × Reading). is_within r.1) rs
 
 -- whatever the bytes are, what is read of them is so
 abbrev pub LinesAreWithin : Type 0
-LinesAreWithin = (bytes : List ℕ) → list_all is_within (records_of bytes) ≡ true
+LinesAreWithin = (bytes : List ℕ) → are_within (records_of bytes) ≡ true
 
--- whatever is read, the ledger is one that records reach from the genesis, by the rules of the whole ledger; so each law of runs holds of it
+-- whatever is read, the ledger is one that records reach from the genesis, by the rules of the whole ledger; so each law of
+-- runs holds of it
 abbrev pub LinesReach : Type 0
-LinesReach = (g : Genesis) (rs : List (ℕ × Reading)) → is_genesis g ≡ true → genesis_fault g ≡ None → list_all is_within rs ≡ true
+LinesReach = (g : Genesis) (rs : List (ℕ × Reading))
+    → genesis_limits.is_within_limits g ≡ true → genesis_fault g ≡ None → are_within rs ≡ true
     → whole.IsReached (world_after_all (world_of_genesis g) rs)
 
 -- the pots sum to the supply of the genesis
 abbrev pub SupplyStays : Type 0
-SupplyStays = (g : Genesis) (rs : List (ℕ × Reading)) → is_genesis g ≡ true → genesis_fault g ≡ None → list_all is_within rs ≡ true
-    → supply_of (world_after_all (world_of_genesis g) rs) ≡ g.supply
+SupplyStays = (g : Genesis) (rs : List (ℕ × Reading))
+    → genesis_limits.is_within_limits g ≡ true → genesis_fault g ≡ None → are_within rs ≡ true
+    → supply_of (world_after_all (world_of_genesis g) rs).ledger ≡ g.supply
 
 -- a refused record changes nothing
 abbrev pub RefusedChangesNothing : Type 0
-RefusedChangesNothing = (w : World) (r : Record) (rule : Rule) → (step w r).1 ≡ Refused rule → world_after w (Read r) ≡ w
+RefusedChangesNothing = (w : World) (r : Record) (rule : Rule) → (step w r).1 ≡ Refused rule → world_left w (Read r) ≡ w

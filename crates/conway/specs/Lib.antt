@@ -1,4 +1,3 @@
-pub mod Limits
 pub mod Built
 pub mod Records
 pub mod Runs
@@ -6,5 +5,7 @@ pub mod Laws
 pub mod Commands
 pub mod Statuses
 pub mod Endings
+pub mod Outcomes
+pub mod Answers
 pub mod Heard
 pub mod Turns

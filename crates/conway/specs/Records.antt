@@ -1,5 +1,5 @@
 -- What was read of each line of a stream. (Own)
-use Rattle.std.specs.Prelude.{◌≡◌, ℕ, ◌==◌, ◌||◌, Bool, true, List, Option, Some, None, Result, Ok, Err, filter_map, option_map, if◌then◌else◌}
+use Rattle.std.specs.Prelude.{ℕ, ◌==◌, ◌||◌, Bool, true, List, Option, Some, None, Result, Ok, Err, filter_map, option_map, if◌then◌else◌}
 use Rattle.std.specs.List.{list_all, enumerate_from}
 use Rattle.byte_lines.specs.Pieces.{lines_of}
 use Rattle.tx_records.specs.declared.field.FieldName.TheVariants as fields
@@ -9,8 +9,8 @@ use Rattle.tx_records.specs.declared.record.Record.{Record}
 use Rattle.record_read.specs.declared.fault.RecordFault.{RecordFault}
 use Rattle.record_read.specs.declared.fault.RecordFault.TheVariants as faults
 use Rattle.record_read.specs.Lines.{record_of_line}
-use Rattle.run_model.specs.Limits.{is_readable}
-use Rattle.conway.specs.Limits.{line_limit}
+use Rattle.tx_records.specs.RecordLimits.{is_within_limits}
+use Rattle.tx_records.specs.declared.limits.TheConstants.{LINE_LIMIT}
 
 -- a space, a tab or a carriage return
 abbrev pub is_blank_byte : ℕ → Bool
@@ -43,10 +43,10 @@ records_from n lines = filter_map record_of (enumerate_from n lines)
 
 -- the records of a stream: blank lines give none and are numbered
 abbrev pub records_of : List ℕ → List (ℕ × Reading)
-records_of bytes = records_from 1 (lines_of line_limit bytes)
+records_of bytes = records_from 1 (lines_of LINE_LIMIT bytes)
 
--- a record is within the limits of records
-abbrev pub IsWithin : Reading → Type 0
-IsWithin (Read r) = is_readable r ≡ true
-IsWithin (Malformed field place) = Unit {0}
-IsWithin TooLong = Unit {0}
+-- what was read is within the limits of records
+abbrev pub is_within : Reading → Bool
+is_within (Read r) = is_within_limits r
+is_within (Malformed field place) = true
+is_within TooLong = true

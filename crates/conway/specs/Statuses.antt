@@ -1,11 +1,15 @@
 -- The endings of a run. (Own)
-use Rattle.std.specs.Prelude.{ℕ, Result, Ok, Err}
+use Rattle.std.specs.Prelude.{ℕ, Result, Ok, Err, ⊤}
 use Rattle.byte_lines.specs.declared.lines.LineFault.{LineFault}
 use Rattle.byte_lines.specs.declared.lines.LineFault.TheVariants as line_faults
 use Rattle.byte_lines.specs.declared.sink.SinkFault.{SinkFault}
 use Rattle.byte_lines.specs.declared.sink.SinkFault.TheVariants as sink_faults
 use Rattle.ledger_state.specs.declared.fault.GenesisFault.{GenesisFault}
 use Rattle.ledger_state.specs.declared.fault.GenesisFault.TheVariants as genesis_faults
+use Rattle.conway.specs.declared.fault.AnswerFault.{AnswerFault}
+use Rattle.conway.specs.declared.fault.AnswerFault.TheVariants as answer_faults
+use Rattle.conway.specs.declared.fault.ReplayFault.{ReplayFault}
+use Rattle.conway.specs.declared.fault.ReplayFault.TheVariants as faults
 use Rattle.conway.specs.declared.status.GenesisCause.TheVariants.{Broken}
 use Rattle.conway.specs.declared.status.Status.{Status}
 use Rattle.conway.specs.declared.status.Status.TheVariants as statuses
@@ -20,23 +24,36 @@ status_number statuses.WriteFault = 5
 status_number statuses.NoMemory = 6
 status_number statuses.TooMuch = 7
 
--- how a run ends where there is no next line
-abbrev pub status_of_line_fault : LineFault → Status
-status_of_line_fault line_faults.ReadFault = statuses.ReadFault
-status_of_line_fault line_faults.TooMuch = statuses.TooMuch
-status_of_line_fault line_faults.NoMemory = statuses.NoMemory
+-- why a replay ends where there is no next line
+abbrev pub fault_of_line : LineFault → ReplayFault
+fault_of_line line_faults.ReadFault = faults.ReadFault
+fault_of_line line_faults.TooMuch = faults.TooMuch
+fault_of_line line_faults.NoMemory = faults.NoMemory
 
--- how a run ends where a text is not taken
-abbrev pub status_of_sink_fault : SinkFault → Status
-status_of_sink_fault sink_faults.WriteFault = statuses.WriteFault
-status_of_sink_fault sink_faults.NoMemory = statuses.NoMemory
+-- where a text is not taken
+abbrev pub fault_of_sink : SinkFault → ReplayFault
+fault_of_sink sink_faults.WriteFault = faults.WriteFault
+fault_of_sink sink_faults.NoMemory = faults.NoMemory
 
--- how a run ends where a genesis gives no ledger
-abbrev pub status_of_genesis_fault : GenesisFault → Status
-status_of_genesis_fault (genesis_faults.Broken rule) = statuses.BadGenesis (Broken rule)
-status_of_genesis_fault genesis_faults.NoMemory = statuses.NoMemory
+-- where there is no answer
+abbrev pub fault_of_answer : AnswerFault → ReplayFault
+fault_of_answer (answer_faults.BadGenesis cause) = faults.BadGenesis cause
+fault_of_answer answer_faults.NoMemory = faults.NoMemory
 
--- how a run ends that answers so
-abbrev pub status_by : {A : Type 0} → Result A Status → Status
-status_by (Ok x) = statuses.Done
-status_by (Err status) = status
+-- where a genesis gives no ledger
+abbrev pub fault_of_genesis : GenesisFault → AnswerFault
+fault_of_genesis (genesis_faults.Broken rule) = answer_faults.BadGenesis (Broken rule)
+fault_of_genesis genesis_faults.NoMemory = answer_faults.NoMemory
+
+-- how a run ends for such a fault
+abbrev pub status_of_fault : ReplayFault → Status
+status_of_fault (faults.BadGenesis cause) = statuses.BadGenesis cause
+status_of_fault faults.ReadFault = statuses.ReadFault
+status_of_fault faults.WriteFault = statuses.WriteFault
+status_of_fault faults.NoMemory = statuses.NoMemory
+status_of_fault faults.TooMuch = statuses.TooMuch
+
+-- how a run ends by what its replay answers
+abbrev pub status_by : Result ⊤ ReplayFault → Status
+status_by (Ok done) = statuses.Done
+status_by (Err fault) = status_of_fault fault

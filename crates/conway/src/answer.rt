@@ -1,82 +1,135 @@
-ghost use Rattle.std.specs.Prelude.{◌≡◌, ◌∷◌, [], true, IfOk};
-ghost use Rattle.conway.specs.Built.{is_built};
-ghost use Rattle.conway.specs.Records.{IsWithin};
-ghost use Rattle.conway.specs.Runs.{lines_of, world_after};
-ghost use Rattle.ledger_model.specs.World.{World};
-ghost use Rattle.ledger_state.specs.Built.{is_built_tx, is_built_genesis};
-ghost use Rattle.ledger_state.specs.Held.{world_of};
-ghost use Rattle.run_model.specs.Limits.{is_readable, is_tx};
-ghost use Rattle.text_model.specs.Replies.{reply_words};
+ghost use Rattle.std.specs.Prelude.{◌≡◌, true};
+ghost use Rattle.conway.specs.Answers.{Answers, Begins, BeginsWith, Judges};
+ghost use Rattle.conway.specs.Records.{is_within};
+ghost use Rattle.tx_records.specs.GenesisLimits as genesis_limits;
+ghost use Rattle.tx_records.specs.RecordLimits.{is_within_limits};
+ghost use Rattle.tx_records.specs.TxLimits as tx_limits;
 ghost use Rattle.text_model.specs.Runs.{line_rule};
 ghost use Rattle.tx_records.specs.declared.record.Reading.TheVariants.{Read};
-ghost use Rattle.tx_records.specs.declared.record.Record.TheVariants as records;
 ghost use Rattle.tx_records.specs.Rules.{plain_rule};
 
+use crate::fault::AnswerFault;
+use crate::outcome::Outcome;
+use crate::status::GenesisCause;
 use coin_frac::NoMemory;
-use ledger_state::LedgerState;
+use ledger_state::{LedgerState, is_built_genesis};
+use report::PotsWord;
+use std::alloc::Global;
 use tx_records::rules::{GENESIS_AGAIN, MALFORMED, NOT_BUILT, TOO_LONG};
-use tx_records::{FieldName, Genesis, Reading, Record, Reply, Rule, Tx};
-use tx_rule::apply_tx;
+use tx_records::{FieldName, Genesis, Reading, Record, Reply, Rule, Tx, What};
+use tx_rule::{apply_tx, is_built_tx};
 
-/// Whether a genesis has no account, no pool and no DRep.
-pub fn is_plain_genesis(genesis: &Genesis) -> bool
-    ensures { result ≡ is_built_genesis genesis.now }
+/// The ledger of a genesis and its pots, where it is built and breaks no rule.
+fn begin(alloc: Global, genesis: &Genesis) -> Result<(LedgerState, Outcome), AnswerFault>
+    requires within { genesis_limits.is_within_limits genesis.now ≡ true }
+    ensures { Begins genesis.now result }
 {
-    genesis.accounts.is_empty() && genesis.pools.is_empty() && genesis.dreps.is_empty()
+    if !is_built_genesis(genesis) {
+        return Err(AnswerFault::BadGenesis(GenesisCause::NotBuilt));
+    }
+    let ledger = LedgerState::from_genesis(alloc, genesis)?;
+    let pots = ledger.pots();
+    Ok((ledger, Outcome::Pots(PotsWord::Genesis, pots)))
 }
 
-/// Whether a transaction has no withdrawal, no certificate, no proposal and no vote.
-fn is_plain(tx: &Tx) -> bool
-    ensures { result ≡ is_built_tx tx.now }
+/// The same of what was read first.
+fn begin_with(alloc: Global, reading: &Reading) -> Result<(LedgerState, Outcome), AnswerFault>
+    requires within { is_within reading.now ≡ true }
+    ensures { BeginsWith reading.now result }
 {
-    tx.withdrawals.is_empty()
-        && tx.certs.is_empty()
-        && tx.proposals.is_empty()
-        && tx.votes.is_empty()
+    let cause = match reading {
+        Reading::Read(Record::Genesis(genesis)) => return begin(alloc, genesis),
+        Reading::Read(
+            Record::Block { .. } | Record::Rewards(_) | Record::Tx(_) | Record::Print(_),
+        ) => GenesisCause::NoGenesis,
+        Reading::Malformed { what, place } => GenesisCause::Malformed {
+            what: *what,
+            place: *place,
+        },
+        Reading::TooLong => GenesisCause::TooLong,
+    };
+    Err(AnswerFault::BadGenesis(cause))
 }
 
 /// The refusal by a rule that keeps nothing.
-fn refused(number: u16) -> Reply
-    ensures { result ≡ Reply.Refused (plain_rule number) }
+fn refused(number: u16) -> Outcome
+    ensures { result ≡ Outcome.Answered (Reply.Refused (plain_rule number)) }
 {
-    Reply::Refused(Rule::new(number))
+    Outcome::Answered(Reply::Refused(Rule::new(number)))
 }
 
-/// The ledger after a record, and the reply.
-fn judge_record(ledger: LedgerState, found: &Record) -> Result<(LedgerState, Reply), NoMemory>
-    requires { is_readable found.now ≡ true }
-    ensures ledger { (start : World) → IfOk result (λ r. world_of r.0 start ≡ world_after (world_of ledger start) (Read found.now)) }
-    ensures lines { (start : World) → IfOk result (λ r. lines_of (world_of ledger start) (Read found.now) ≡ reply_words r.1 ∷ []) }
+/// The refusal of a line that gave no record.
+fn malformed(what: FieldName, place: Option<u32>) -> Outcome
+    ensures { result ≡ Outcome.Answered (Reply.Refused (line_rule MALFORMED (Some what) place)) }
+{
+    Outcome::Answered(Reply::Refused(Rule {
+        what: Some(what),
+        place,
+        ..Rule::new(MALFORMED)
+    }))
+}
+
+/// The ledger after a transaction, and its reply.
+fn judge_tx(alloc: Global, ledger: LedgerState, tx: &Tx) -> Result<(LedgerState, Outcome), NoMemory>
+    requires within { tx_limits.is_within_limits tx.now ≡ true }
+    ensures { Judges ledger (Read (Record.Tx tx.now)) result }
+{
+    if !is_built_tx(tx) {
+        return Ok((ledger, refused(NOT_BUILT)));
+    }
+    let (after, reply) = apply_tx(alloc, ledger, tx)?;
+    Ok((after, Outcome::Answered(reply)))
+}
+
+/// The ledger after a record, and what it comes to.
+fn judge_record(
+    alloc: Global,
+    ledger: LedgerState,
+    found: &Record,
+) -> Result<(LedgerState, Outcome), NoMemory>
+    requires within { is_within_limits found.now ≡ true }
+    ensures { Judges ledger (Read found.now) result }
 {
     match found {
         Record::Genesis(_) => Ok((ledger, refused(GENESIS_AGAIN))),
-        Record::Tx(tx) if is_plain(tx) => apply_tx(ledger, tx),
-        Record::Tx(_) | Record::Block { .. } | Record::Rewards(_) | Record::Print(_) => {
+        Record::Tx(tx) => judge_tx(alloc, ledger, tx),
+        Record::Print(What::Pots) => {
+            let pots = ledger.pots();
+            Ok((ledger, Outcome::Pots(PotsWord::Pots, pots)))
+        }
+        Record::Block { .. } | Record::Rewards(_) | Record::Print(What::State) => {
             Ok((ledger, refused(NOT_BUILT)))
         }
     }
 }
 
-/// The refusal of a line that gave no record.
-fn malformed(what: FieldName, place: Option<u32>) -> Reply
-    ensures { result ≡ Reply.Refused (line_rule MALFORMED (Some what) place) }
-{
-    Reply::Refused(Rule {
-        what: Some(what),
-        place,
-        ..Rule::new(MALFORMED)
-    })
-}
-
-/// The ledger after what was read of a line, and the reply.
-pub fn judge(ledger: LedgerState, reading: &Reading) -> Result<(LedgerState, Reply), NoMemory>
-    requires { IsWithin reading.now }
-    ensures ledger { (start : World) → IfOk result (λ r. world_of r.0 start ≡ world_after (world_of ledger start) reading.now) }
-    ensures lines { (start : World) → IfOk result (λ r. lines_of (world_of ledger start) reading.now ≡ reply_words r.1 ∷ []) }
+/// The ledger after what was read of a line, and what that comes to.
+fn judge(
+    alloc: Global,
+    ledger: LedgerState,
+    reading: &Reading,
+) -> Result<(LedgerState, Outcome), NoMemory>
+    requires within { is_within reading.now ≡ true }
+    ensures { Judges ledger reading.now result }
 {
     match reading {
-        Reading::Read(record) => judge_record(ledger, record),
+        Reading::Read(record) => judge_record(alloc, ledger, record),
         Reading::Malformed { what, place } => Ok((ledger, malformed(*what, *place))),
         Reading::TooLong => Ok((ledger, refused(TOO_LONG))),
+    }
+}
+
+/// The ledger after what was read of a line, and what that comes to; before the genesis there is no ledger.
+pub fn answer(
+    alloc: Global,
+    ledger: Option<LedgerState>,
+    reading: Reading,
+) -> Result<(LedgerState, Outcome), AnswerFault>
+    requires within { is_within reading ≡ true }
+    ensures { Answers ledger reading result }
+{
+    match ledger {
+        None => begin_with(alloc, &reading),
+        Some(ledger) => Ok(judge(alloc, ledger, &reading)?),
     }
 }

@@ -1,5 +1,15 @@
-ghost use Rattle.std.specs.Prelude.{◌≡◌};
+ghost use Rattle.std.specs.Prelude.{◌≡◌, drop};
 ghost use Rattle.conway.specs.Commands.{is_replay_command};
+
+/// The words of the command line after the program's name.
+pub fn after_name(args: &[String]) -> &[String]
+    ensures { result.now ≡ drop 1 args.now }
+{
+    match args.split_first() {
+        Some((_program, words)) => words,
+        None => args,
+    }
+}
 
 /// Whether the words are those of the replay: the one word `replay`.
 pub fn is_replay(words: &[String]) -> bool

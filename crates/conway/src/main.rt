@@ -3,8 +3,10 @@
 
 mod answer;
 mod command;
+mod exit;
+mod fault;
 mod laws;
-mod limits;
+mod outcome;
 mod reading;
 mod replay;
 mod run;
@@ -13,24 +15,21 @@ mod status;
 mod tests;
 
 use byte_lines::{ReaderSource, WriterSink};
-use run::run;
+use exit::run_to_exit;
 use std::env;
 use std::process::ExitCode;
 use std::rt::Env;
 
-/// The words after the program's name, where the system gives them.
-fn words_of(rt: &(impl Env + AllocGlobal)) -> Option<Vec<String>> {
-    let mut words = env::args(rt).ok()?;
-    let _program = words.next();
-    words.collect(rt.alloc()).ok()
+/// The words of the command line, the program's name first, where the system gives them.
+fn args_of(rt: &(impl Env + AllocGlobal)) -> Option<Vec<String>> {
+    env::args(rt).ok()?.collect(rt.alloc()).ok()
 }
 
 fn main(rt: HostRuntime) -> ExitCode {
-    let Some(words) = words_of(&rt) else {
+    let Some(args) = args_of(&rt) else {
         return ExitCode::from(1);
     };
     let mut source = ReaderSource::new(rt.stdin());
     let mut sink = WriterSink::new(rt.stdout());
-    let status = run(rt.alloc(), words.as_slice(), &mut source, &mut sink);
-    ExitCode::from(status.number())
+    run_to_exit(rt.alloc(), args.as_slice(), &mut source, &mut sink)
 }

@@ -1,9 +1,10 @@
 ghost use Rattle.std.specs.Prelude.{◌≡◌, ◌⊎◌, ◌↔◌, ℕ, ◌≤◌, List, Some, None, false, length};
-ghost use Rattle.byte_lines.specs.Faults.{Rose};
+ghost use Rattle.byte_lines.specs.Faults.{CountsFaults, Rose};
 ghost use Rattle.conway.specs.Commands.{is_replay_command, IsReplayCommand};
-ghost use Rattle.conway.specs.Endings.{IsReplayed, start_fault};
-ghost use Rattle.conway.specs.Limits.{stream_limit};
+ghost use Rattle.conway.specs.Endings.{IsReplayed};
+ghost use Rattle.tx_records.specs.declared.limits.TheConstants.{STREAM_LIMIT};
 ghost use Rattle.conway.specs.Records.{records_of};
+ghost use Rattle.conway.specs.Runs.{start_fault};
 
 use crate::command::is_replay;
 use crate::replay::replay;
@@ -26,15 +27,13 @@ pub fn run<S: Source, K: Sink>(
     ensures replays { (bytes : List ℕ) → IsReplayCommand words.now → S.left source.old ≡ Some bytes →
         IsReplayed result bytes (S.left source.new) (K.taken sink.old) (K.taken sink.new) }
 
-    // A fault is answered only where its count rose.
-    ensures read_fault { result ≡ Status.ReadFault → Rose (S.faults source.old) (S.faults source.new) }
-    ensures write_fault { result ≡ Status.WriteFault → Rose (K.faults sink.old) (K.faults sink.new) }
-    ensures reads { S.faults source.old ≤ S.faults source.new }
-    ensures writes { K.faults sink.old ≤ K.faults sink.new }
+    // A fault is answered exactly where its count rose; at every other ending both counts are as they were.
+    ensures reads { CountsFaults (result ≡ Status.ReadFault) (S.faults source.old) (S.faults source.new) }
+    ensures writes { CountsFaults (result ≡ Status.WriteFault) (K.faults sink.old) (K.faults sink.new) }
 
     // A good stream of at most 2^48 bytes and no fault: all is done, or memory ran out.
     ensures complete { (bytes : List ℕ) → IsReplayCommand words.now → S.left source.old ≡ Some bytes →
-        start_fault (records_of bytes) ≡ None → length bytes ≤ stream_limit →
+        start_fault (records_of bytes) ≡ None → length bytes ≤ STREAM_LIMIT →
         (¬ Rose (S.faults source.old) (S.faults source.new)) → (¬ Rose (K.faults sink.old) (K.faults sink.new)) →
         (result ≡ Status.Done) ⊎ (result ≡ Status.NoMemory) }
 {
@@ -43,6 +42,6 @@ pub fn run<S: Source, K: Sink>(
     }
     match replay(alloc, source, sink) {
         Ok(()) => Status::Done,
-        Err(status) => status,
+        Err(fault) => Status::from(fault),
     }
 }

@@ -1,9 +1,6 @@
 ghost use Rattle.std.specs.Prelude.{◌≡◌};
 ghost use Rattle.conway.specs.Statuses.{status_number};
 
-use byte_lines::{LineFault, SinkFault};
-use coin_frac::NoMemory;
-use ledger_state::GenesisFault;
 use tx_records::{FieldName, GenesisRule};
 
 /// How a run ended.
@@ -55,57 +52,6 @@ impl Status {
             Status::WriteFault => 5,
             Status::NoMemory => 6,
             Status::TooMuch => 7,
-        }
-    }
-}
-
-impl From<NoMemory> for Status {
-    ghost use Rattle.std.specs.Prelude.{◌≡◌};
-    ghost use Rattle.conway.specs.declared.status.Status.TheVariants as statuses;
-
-    ghost from_gives = { λ _ s. s ≡ statuses.NoMemory };
-
-    fn from(_error: NoMemory) -> Status {
-        Status::NoMemory
-    }
-}
-
-impl From<LineFault> for Status {
-    ghost use Rattle.conway.specs.Statuses.{status_of_line_fault};
-
-    ghost from_gives = { λ fault s. s ≡ status_of_line_fault fault };
-
-    fn from(fault: LineFault) -> Status {
-        match fault {
-            LineFault::ReadFault => Status::ReadFault,
-            LineFault::TooMuch => Status::TooMuch,
-            LineFault::NoMemory => Status::NoMemory,
-        }
-    }
-}
-
-impl From<SinkFault> for Status {
-    ghost use Rattle.conway.specs.Statuses.{status_of_sink_fault};
-
-    ghost from_gives = { λ fault s. s ≡ status_of_sink_fault fault };
-
-    fn from(fault: SinkFault) -> Status {
-        match fault {
-            SinkFault::WriteFault => Status::WriteFault,
-            SinkFault::NoMemory => Status::NoMemory,
-        }
-    }
-}
-
-impl From<GenesisFault> for Status {
-    ghost use Rattle.conway.specs.Statuses.{status_of_genesis_fault};
-
-    ghost from_gives = { λ fault s. s ≡ status_of_genesis_fault fault };
-
-    fn from(fault: GenesisFault) -> Status {
-        match fault {
-            GenesisFault::Broken(rule) => Status::BadGenesis(GenesisCause::Broken(rule)),
-            GenesisFault::NoMemory => Status::NoMemory,
         }
     }
 }

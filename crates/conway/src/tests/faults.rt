@@ -71,7 +71,7 @@ fn each_line_fails(rt: HostRuntime) -> Result<(), Fail> {
         (3, 133),
         (4, 164),
         (5, 214),
-        (6, 235),
+        (6, 311),
     ] {
         let failing = [k];
         let mut source = MemorySource::new(bytes.as_slice(), 7);

@@ -1,10 +1,9 @@
 //! Runs over memory, where no read and no write fails.
 ghost use Rattle.std.specs.Prelude.{◌≡◌, ◌≢◌, ◌<◌, ◌≤◌, ◌⊎◌, IfOk, None, Some, length};
 ghost use Rattle.conway.specs.Commands.{IsReplayCommand};
-ghost use Rattle.conway.specs.Endings.{start_fault};
-ghost use Rattle.conway.specs.Limits.{stream_limit};
+ghost use Rattle.tx_records.specs.declared.limits.TheConstants.{STREAM_LIMIT};
 ghost use Rattle.conway.specs.Records.{records_of};
-ghost use Rattle.conway.specs.Runs.{text_of_run};
+ghost use Rattle.conway.specs.Runs.{start_fault, text_of_run};
 
 use crate::run::run;
 use crate::status::Status;
@@ -41,7 +40,7 @@ pub fn replayed_in_memory(
     ensures no_read_fault { IfOk result (λ r. r.0 ≢ Status.ReadFault) }
     ensures no_write_fault { IfOk result (λ r. r.0 ≢ Status.WriteFault) }
     ensures done { IfOk result (λ r. r.0 ≡ Status.Done → text_of_run bytes.now ≡ Some r.1) }
-    ensures complete { start_fault (records_of bytes.now) ≡ None → length bytes.now ≤ stream_limit →
+    ensures complete { start_fault (records_of bytes.now) ≡ None → length bytes.now ≤ STREAM_LIMIT →
         IfOk result (λ r. (r.0 ≡ Status.Done) ⊎ (r.0 ≡ Status.NoMemory)) }
 {
     let words = replay_words(alloc)?;

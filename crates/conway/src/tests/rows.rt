@@ -43,13 +43,13 @@ fn refuses_a_bad_genesis(rt: HostRuntime) -> Result<(), Fail> {
     Ok(())
 }
 
-/// Line ends, blank lines, a float that nobody names, and two equal names, of which the later counts.
+/// Line ends, blank lines, a float that nobody names, two equal names, of which the later counts, and prints.
 #[test]
 fn gives_these_texts(rt: HostRuntime) -> Result<(), Fail> {
     let table = [
         (
             "f\np\n",
-            "1 genesis outputs 0 deposits 0 rewards 0 fees 0 donations 0 treasury 0 reserves 9 supply 9\n2 refused 9 NotBuilt\n",
+            "1 genesis outputs 0 deposits 0 rewards 0 fees 0 donations 0 treasury 0 reserves 9 supply 9\n2 pots outputs 0 deposits 0 rewards 0 fees 0 donations 0 treasury 0 reserves 9 supply 9\n",
         ),
         (
             "e",
@@ -57,7 +57,15 @@ fn gives_these_texts(rt: HostRuntime) -> Result<(), Fail> {
         ),
         (
             "\n\r\ng\r\n \t\n p\r",
-            "3 genesis outputs 0 deposits 0 rewards 0 fees 0 donations 0 treasury 0 reserves 9 supply 9\n5 refused 9 NotBuilt\n",
+            "3 genesis outputs 0 deposits 0 rewards 0 fees 0 donations 0 treasury 0 reserves 9 supply 9\n5 pots outputs 0 deposits 0 rewards 0 fees 0 donations 0 treasury 0 reserves 9 supply 9\n",
+        ),
+        (
+            "G\n5\np\n",
+            "1 genesis outputs 200 deposits 0 rewards 0 fees 0 donations 0 treasury 100 reserves 700 supply 1000\n2 accepted\n3 pots outputs 180 deposits 0 rewards 0 fees 15 donations 5 treasury 100 reserves 700 supply 1000\n",
+        ),
+        (
+            "g\ns\n",
+            "1 genesis outputs 0 deposits 0 rewards 0 fees 0 donations 0 treasury 0 reserves 9 supply 9\n2 refused 9 NotBuilt\n",
         ),
         (
             "g\n2",

@@ -58,7 +58,12 @@ fn piece(letter: u8) -> Option<&'static [u8]> {
         b'4' => Some(
             b"{\"kind\":\"tx\",\"id\":\"0000000000000000000000000000000000000000000000000000000000000004\",\"inputs\":[\"0000000000000000000000000000000000000000000000000000000000000001#4\"],\"outputs\":[[\"1k00000000000000000000000000000000000000000000000000000001\",21,0]],\"fee\":0,\"size\":0}",
         ),
+        // it names the treasury, and gives
+        b'5' => Some(
+            b"{\"kind\":\"tx\",\"id\":\"0000000000000000000000000000000000000000000000000000000000000005\",\"inputs\":[\"0000000000000000000000000000000000000000000000000000000000000001#2\"],\"outputs\":[],\"fee\":15,\"size\":0,\"treasury\":100,\"donation\":5}",
+        ),
         b'p' => Some(b"{\"kind\":\"print\",\"what\":\"pots\"}"),
+        b's' => Some(b"{\"kind\":\"print\",\"what\":\"state\"}"),
         _ => None,
     }
 }
@@ -85,7 +90,7 @@ pub const ROW: &str = "G\n2\n2\n3\n4\np\n";
 
 /// Its text.
 pub fn row_text() -> &'static [u8] {
-    b"1 genesis outputs 200 deposits 0 rewards 0 fees 0 donations 0 treasury 100 reserves 700 supply 1000\n2 accepted\n3 refused 30 TxIdUsed\n4 refused 33 InputMissing at 0\n5 refused 110 NotBalanced consumed 20 produced 21\n6 refused 9 NotBuilt\n"
+    b"1 genesis outputs 200 deposits 0 rewards 0 fees 0 donations 0 treasury 100 reserves 700 supply 1000\n2 accepted\n3 refused 30 TxIdUsed\n4 refused 33 InputMissing at 0\n5 refused 110 NotBalanced consumed 20 produced 21\n6 pots outputs 200 deposits 0 rewards 0 fees 0 donations 0 treasury 100 reserves 700 supply 1000\n"
 }
 
 /// How many lines of these bytes are whole.

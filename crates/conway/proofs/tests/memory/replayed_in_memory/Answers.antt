@@ -1,18 +1,17 @@
-use Rattle.std.proofs.Common.{◌≡◌, ℕ, List, [], Option, Some, ap, subst, sym, ◌∙◌}
+use Rattle.std.proofs.Common.{◌≡◌, ℕ, List, [], ◌++◌, Option, Some, ap, subst, sym, ◌∙◌}
 use Rattle.byte_lines.specs.InMemory.{Given}
 use Rattle.conway.specs.declared.status.Status.{Status}
 use Rattle.conway.specs.declared.status.Status.TheVariants as statuses
-use Rattle.conway.specs.Endings.{HasEnded, IsReplayed}
+use Rattle.conway.specs.Endings.{IsReplayed}
 use Rattle.conway.specs.Runs.{text_of_run}
 use Rattle.conway.proofs.tests.memory.replayed_in_memory.Goals as goal
 
 -- what a sink that was empty holds at the end is the text of the run
 text_at_end : (status : Status) (bytes had has : List ℕ) (left : Option (List ℕ)) → had ≡ [] → IsReplayed status bytes left (Some had) (Some has)
     → status ≡ statuses.Done → text_of_run bytes ≡ Some has
-text_at_end status bytes had has left empty replay is =
-    let run = subst (λ (l : List ℕ). IsReplayed status bytes left (Some l) (Some has)) empty replay in
-    let ended : HasEnded statuses.Done bytes left run.written = subst (λ (s : Status). HasEnded s bytes left run.written) is run.ended in
-    ended.ending.1 ∙ sym run.wrote
+text_at_end status bytes had has left empty replayed is =
+    let done : IsReplayed statuses.Done bytes left (Some had) (Some has) = subst (λ (s : Status). IsReplayed s bytes left (Some had) (Some has)) is replayed in
+    done.ending.text ∙ ap Some (sym (done.wrote ∙ ap (λ (l : List ℕ). l ++ done.written) empty))
 
 pub returns-clause-done : goal.returns-clause-done
 returns-clause-done c =

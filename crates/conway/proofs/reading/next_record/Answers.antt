@@ -1,7 +1,12 @@
-use Rattle.std.proofs.Common.{Ok, subst}
-use Rattle.conway.specs.declared.replay.Found.{Found}
+use Rattle.std.proofs.Common.{◌≡◌, Ok, Err, subst, rules}
+use Rattle.conway.specs.declared.reading.Found.{Found}
 use Rattle.conway.specs.Heard.{HearsLine}
-use Rattle.conway.proofs.replay.next_record.Goals as goal
+use Rattle.conway.proofs.reading.next_record.Goals as goal
+
+pub returns-in_err-next_line-clause-heard : goal.returns-in_err-next_line-clause-heard
+returns-in_err-next_line-clause-heard g c = λ bytes records heard.
+    let is : c.from_residual.result ≡ Err c.in_err-next_line.field-0.0 = search rules in
+    rw is (c.in_err-next_line.ensures.heard bytes records (c.loop-reading.invariant.heard bytes records heard))
 
 pub returns-in-End-clause-heard : goal.returns-in-End-clause-heard
 returns-in-End-clause-heard g c = λ bytes records heard.
