@@ -1,0 +1,44 @@
+//! Whether a transaction will be accepted.
+ghost use Rattle.std.specs.Prelude.{◌≡◌, IfOk};
+ghost use Rattle.ledger_model.specs.Transaction.{tx_step};
+
+use coin_frac::NoMemory;
+use ledger_state::LedgerState;
+use std::alloc::Global;
+use tx_records::{Reply, Tx};
+use tx_rule::{apply_tx, is_built_tx};
+
+/// Why a transaction is not judged. (Own)
+#[derive(Clone, Copy, Debug, PartialEq, Eq)]
+pub enum AskFault {
+    /// A list is longer, or a number greater, than a record may have.
+    BeyondLimits,
+    /// It has a part whose rules are to come.
+    NotBuilt,
+    /// Memory ran out.
+    NoMemory,
+}
+
+impl From<NoMemory> for AskFault {
+    ghost use Rattle.wallet.specs.declared.ask.AskFault.TheVariants as faults;
+
+    ghost from_gives = { λ _ fault. fault ≡ faults.NoMemory };
+
+    fn from(_error: NoMemory) -> AskFault {
+        AskFault::NoMemory
+    }
+}
+
+/// The reply to a transaction, and the ledger after it, which is the one that was given where the reply is a refusal. (Own)
+pub fn ask(alloc: Global, ledger: LedgerState, tx: &Tx) -> Result<(LedgerState, Reply), AskFault>
+    ensures reply { IfOk result (λ r. r.1 ≡ (tx_step ledger tx.now).1) }
+    ensures ledger { IfOk result (λ r. r.0 ≡ (tx_step ledger tx.now).0) }
+{
+    if !tx.is_within_limits(alloc)? {
+        return Err(AskFault::BeyondLimits);
+    }
+    if !is_built_tx(tx) {
+        return Err(AskFault::NotBuilt);
+    }
+    Ok(apply_tx(alloc, ledger, tx)?)
+}
