@@ -84,7 +84,8 @@ impl AccountBook {
 
     /// The first frozen entry past a credential, or the first of all, in the order of credentials; none at the end. (Own)
     pub fn frozen_next(&self, after: Option<&Credential>) -> Option<(Credential, Entry)>
-        ensures { result ≡ entry_after credential_cmp (option_map (λ c. c.now) after.entry) (frozen_of credential_cmp self.now) }
+        ensures { result ≡
+            entry_after credential_cmp (option_map (λ c. c.now) after.entry) (frozen_of credential_cmp self.now) }
     {
         self.view.frozen_next(after)
     }

@@ -14,7 +14,8 @@ pool_after deposit terms (Some p) = record p { future = Some terms; retires = No
 
 -- the pools with this one registered
 abbrev pub with_registration : PoolId → PoolTerms → ℕ → List (PoolId × Pool) → List (PoolId × Pool)
-with_registration p terms deposit pools = with_value pool_cmp p (pool_after deposit terms (value_at pool_cmp pools p)) pools
+with_registration p terms deposit pools =
+    with_value pool_cmp p (pool_after deposit terms (value_at pool_cmp pools p)) pools
 
 -- a pool that retires
 abbrev pub retiring : ℕ → Pool → Pool

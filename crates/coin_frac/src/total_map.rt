@@ -1,5 +1,5 @@
-ghost use Rattle.std.specs.Prelude.{◌≡◌, ◌^◌, ◌<◌, [], OnOk, OnErr, unwrap_or};
-ghost use Rattle.maps.specs.Maps.{IsMap, value_at, with_value, without_key};
+ghost use Rattle.std.specs.Prelude.{◌≡◌, ◌^◌, ◌<◌, true, [], IfOk, OnOk, OnErr, unwrap_or};
+ghost use Rattle.maps.specs.Maps.{IsMap, value_at, has_key, with_value, without_key};
 ghost use Rattle.coin_frac.specs.Totals.{total_of};
 
 use super::NoMemory;
@@ -37,6 +37,20 @@ impl<K: Copy + Ord> TotalMap<K> {
         }
     }
 
+    /// The same entries once more. (Own)
+    pub fn copied(&self, alloc: Global) -> Result<TotalMap<K>, NoMemory>
+        ensures { IfOk result (λ copy. copy ≡ self.now) }
+    {
+        let mut amounts = BTreeMap::new(alloc);
+        for (k, v) in &self.amounts {
+            amounts.insert(*k, *v)?;
+        }
+        Ok(TotalMap {
+            amounts,
+            total: self.total,
+        })
+    }
+
     /// The amount at a key, 0 where there is none. (Own)
     pub fn get(&self, k: &K) -> u64
         ensures value { result ≡ unwrap_or (value_at K.cmp self.now k.now) 0 }
@@ -54,6 +68,19 @@ impl<K: Copy + Ord> TotalMap<K> {
         let before = self.amounts.insert(k, v)?.unwrap_or(0);
         self.total = self.total - before + v;
         Ok(())
+    }
+
+    /// Changes the amount of a key that is there. It takes no memory. (Own)
+    pub fn set(&mut self, k: &K, v: u64)
+        requires present { has_key K.cmp self.old k.now ≡ true }
+        requires fits { total_of (with_value K.cmp k.now v self.old) < 2 ^ 64 }
+        ensures { self.new ≡ with_value K.cmp k.now v self.old }
+    {
+        if let Some(amount) = self.amounts.get_mut(k) {
+            self.total -= *amount;
+            self.total += v;
+            *amount = v;
+        }
     }
 
     /// Takes the entry at a key away and gives its amount, 0 where there is none. (Own)
@@ -89,6 +116,11 @@ mod tests {
         map.put(7, 3)?;
         assert_eq!(rt; (map.get(&2), map.get(&7), map.get(&9)), (11, 3, 0));
         assert_eq!(rt; map.total(), 14);
+        let copy = map.copied(rt.alloc())?;
+        assert_eq!(rt; (copy.get(&2), copy.get(&7), copy.total()), (11, 3, 14));
+        map.set(&7, 4);
+        assert_eq!(rt; (map.get(&7), map.total()), (4, 15));
+        map.set(&7, 3);
         assert_eq!(rt; (map.take(&2), map.take(&2), map.total()), (11, 0, 3));
         Ok(())
     }

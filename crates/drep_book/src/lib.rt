@@ -111,7 +111,8 @@ impl DrepBook {
 
     /// The first DRep past a credential, or the first of all, in the order of credentials; none at the end. (GState of the formal specification)
     pub fn next(&self, after: Option<&Credential>) -> Option<(Credential, DrepState)>
-        ensures { result ≡ entry_after credential_cmp (option_map (λ c. c.now) after.entry) self.now.dreps }
+        ensures value { result ≡ entry_after credential_cmp (option_map (λ c. c.now) after.entry) self.now.dreps }
+        ensures in_order { IsMap credential_cmp self.now.dreps }
     {
         let (c, s) = self.dreps.range(keys_past(after)).next()?;
         Some((*c, *s))
@@ -120,7 +121,8 @@ impl DrepBook {
 
 // The DRep with the dormant epochs added, if it has not expired with them. A sum that does not fit stops at the last number.
 fn with_dormant(d: DrepState, epoch: u64, dormant: u64) -> DrepState
-    ensures { d.expiry + dormant < 2 ^ 64 → result ≡ (if is_kept_active epoch dormant d then extended dormant d else d) }
+    ensures { d.expiry + dormant < 2 ^ 64 →
+        result ≡ (if is_kept_active epoch dormant d then extended dormant d else d) }
 {
     let expiry = d.expiry.saturating_add(dormant);
     if expiry < epoch {

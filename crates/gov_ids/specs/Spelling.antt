@@ -47,7 +47,8 @@ network_of digit = if digit == 48 then Some 0 else if digit == 49 then Some 1 el
 
 -- decimal digits, of a number below 2 ^ 16
 abbrev pub number_of : List ℕ → Option ℕ
-number_of digits = if all_ascii_digits digits && nat_lt (digits_value 10 digits) 65536 then Some (digits_value 10 digits) else None
+number_of digits =
+    if all_ascii_digits digits && nat_lt (digits_value 10 digits) 65536 then Some (digits_value 10 digits) else None
 
 -- at least one digit, and no zero in front of others
 abbrev pub index_of : List ℕ → Option ℕ

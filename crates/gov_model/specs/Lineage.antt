@@ -13,7 +13,8 @@ use Rattle.gov_model.specs.Proposals.{proposal_of}
 
 -- the id is that of a live proposal of the purpose
 abbrev pub is_live_of : List Proposal → Purpose → ActionId → Bool
-is_live_of ps purpose id = some_and (λ (p : Proposal). holds same_purpose (purpose_of p.action) purpose) (proposal_of id ps)
+is_live_of ps purpose id =
+    some_and (λ (p : Proposal). holds same_purpose (purpose_of p.action) purpose) (proposal_of id ps)
 
 -- it is the last enacted one of the purpose
 abbrev pub is_last_enacted : LastIds → Purpose → Option ActionId → Bool
@@ -45,4 +46,5 @@ is_next_version old new = (new.0 == old.0 + 1 && new.1 == 0) || (new.0 == old.0 
 
 -- a hard fork goes one version on from the one that it follows
 abbrev pub follows_version : List Proposal → LastIds → ℕ × ℕ → Action → Bool
-follows_version ps last current a = none_or (λ new. none_or (λ old. is_next_version old new) (parent_version ps last current a)) (version_of a)
+follows_version ps last current a =
+    none_or (λ new. none_or (λ old. is_next_version old new) (parent_version ps last current a)) (version_of a)

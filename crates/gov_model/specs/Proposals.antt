@@ -18,7 +18,8 @@ proposal_of id ps = find (λ (p : Proposal). same_action p.id id) ps
 
 -- the proposal has this purpose, and names this action as the one before it
 abbrev pub is_child : Purpose → Option ActionId → Proposal → Bool
-is_child purpose previous p = holds same_purpose (purpose_of p.action) purpose && same_option same_action (previous_of p.action) previous
+is_child purpose previous p =
+    holds same_purpose (purpose_of p.action) purpose && same_option same_action (previous_of p.action) previous
 
 -- the ids of such proposals
 abbrev pub children_of : Purpose → Option ActionId → List Proposal → List ActionId

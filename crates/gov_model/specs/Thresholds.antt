@@ -75,4 +75,5 @@ Q5 p = threshold_at p.pool_voting_thresholds 4
 
 -- the greatest of the DRep thresholds of the groups that an update touches
 abbrev pub update_threshold : Params → Update → Fraction
-update_threshold p u = greatest_of (map (P5 p) (filter (λ g. touches g u) (network ∷ economic ∷ technical ∷ governance ∷ [])))
+update_threshold p u =
+    greatest_of (map (P5 p) (filter (λ g. touches g u) (network ∷ economic ∷ technical ∷ governance ∷ [])))

@@ -52,7 +52,8 @@ bool_in d = or_fault WrongKind (as_bool d)
 
 -- a number below a bound
 abbrev pub number_below : ℕ → Data → Result ℕ FieldFault
-number_below bound d = or_fault WrongKind (as_number d) >>= λ n. or_fault OutOfRange (as_u64 n) >>= λ k. if nat_lt k bound then Ok k else Err OutOfRange
+number_below bound d =
+    or_fault WrongKind (as_number d) >>= λ n. or_fault OutOfRange (as_u64 n) >>= λ k. if nat_lt k bound then Ok k else Err OutOfRange
 
 -- a number of 64 bits
 abbrev pub u64_in : Data → Result ℕ FieldFault

@@ -33,7 +33,8 @@ fn read_named_entries<K: Kind>(
 ) -> Result<Listed<K::Entry>, ListFault>
 where
     K::Entry: Named,
-    ensures { ReadsList result (entries_after K.reading (is_known_or_full K.Entry.Name.order K.Entry.name limit) [] (items_view items.now)) }
+    ensures { ReadsList result
+        (entries_after K.reading (is_known_or_full K.Entry.Name.order K.Entry.name limit) [] (items_view items.now)) }
 {
     let mut entries = Listed::new(alloc);
     let mut names = BTreeSet::new(alloc);

@@ -187,7 +187,8 @@ pub fn read_pair(v: &Value) -> Result<(&Value, &Value), FieldFault>
 /// An array of three entries. (Own)
 #[tactic(auto, using(crate::proofs::Items::not_three))]
 pub fn read_three(v: &Value) -> Result<(&Value, &Value, &Value), FieldFault>
-    ensures { result_map_both (λ t. (view t.0.now, view t.1.now, view t.2.now)) (λ e. e) result ≡ three_in (view v.now) }
+    ensures { result_map_both (λ t. (view t.0.now, view t.1.now, view t.2.now)) (λ e. e) result
+        ≡ three_in (view v.now) }
 {
     match read_items(v)? {
         [a, b, c] => Ok((a, b, c)),
@@ -198,7 +199,8 @@ pub fn read_three(v: &Value) -> Result<(&Value, &Value, &Value), FieldFault>
 /// An array of four entries. (Own)
 #[tactic(auto, using(crate::proofs::Items::not_four))]
 pub fn read_four(v: &Value) -> Result<(&Value, &Value, &Value, &Value), FieldFault>
-    ensures { result_map_both (λ t. (view t.0.now, view t.1.now, view t.2.now, view t.3.now)) (λ e. e) result ≡ four_in (view v.now) }
+    ensures { result_map_both (λ t. (view t.0.now, view t.1.now, view t.2.now, view t.3.now)) (λ e. e) result
+        ≡ four_in (view v.now) }
 {
     match read_items(v)? {
         [a, b, c, d] => Ok((a, b, c, d)),
@@ -209,7 +211,8 @@ pub fn read_four(v: &Value) -> Result<(&Value, &Value, &Value, &Value), FieldFau
 /// An array of five entries. (Own)
 #[tactic(auto, using(crate::proofs::Items::not_five))]
 pub fn read_five(v: &Value) -> Result<(&Value, &Value, &Value, &Value, &Value), FieldFault>
-    ensures { result_map_both (λ t. (view t.0.now, view t.1.now, view t.2.now, view t.3.now, view t.4.now)) (λ e. e) result ≡ five_in (view v.now) }
+    ensures { result_map_both (λ t. (view t.0.now, view t.1.now, view t.2.now, view t.3.now, view t.4.now)) (λ e. e) result
+        ≡ five_in (view v.now) }
 {
     match read_items(v)? {
         [a, b, c, d, e] => Ok((a, b, c, d, e)),
@@ -220,7 +223,8 @@ pub fn read_five(v: &Value) -> Result<(&Value, &Value, &Value, &Value, &Value), 
 /// An array of six entries. (Own)
 #[tactic(auto, using(crate::proofs::Items::not_six))]
 pub fn read_six(v: &Value) -> Result<(&Value, &Value, &Value, &Value, &Value, &Value), FieldFault>
-    ensures { result_map_both (λ t. (view t.0.now, view t.1.now, view t.2.now, view t.3.now, view t.4.now, view t.5.now)) (λ e. e) result ≡ six_in (view v.now) }
+    ensures { result_map_both (λ t. (view t.0.now, view t.1.now, view t.2.now, view t.3.now, view t.4.now, view t.5.now)) (λ e. e) result
+        ≡ six_in (view v.now) }
 {
     match read_items(v)? {
         [a, b, c, d, e, f] => Ok((a, b, c, d, e, f)),

@@ -57,7 +57,8 @@ impl Families {
 
     // One more child, at the end. Want of memory changes nothing.
     fn add(&mut self, parent: Parent, id: ActionId) -> Result<(), NoMemory>
-        ensures ok { OnOk result ((q : Parent) → ids_at self.new q ≡ (if eq_by_cmp parent_cmp parent q then ids_at self.old q ++ id ∷ [] else ids_at self.old q)) }
+        ensures ok { OnOk result ((q : Parent) → ids_at self.new q ≡
+            (if eq_by_cmp parent_cmp parent q then ids_at self.old q ++ id ∷ [] else ids_at self.old q)) }
         ensures err { OnErr result (self.new ≡ self.old) }
     {
         if let Some(ids) = self.index.get_mut(&parent) {
@@ -72,7 +73,8 @@ impl Families {
 
     // A proposal among the children of what it follows, if it has a purpose. Want of memory changes nothing.
     pub(crate) fn note(&mut self, p: &Proposal) -> Result<(), NoMemory>
-        ensures ok { OnOk result ((q : Parent) → ids_at self.new q ≡ ids_at self.old q ++ children_of q.purpose q.previous (p.now ∷ [])) }
+        ensures ok { OnOk result ((q : Parent) →
+            ids_at self.new q ≡ ids_at self.old q ++ children_of q.purpose q.previous (p.now ∷ [])) }
         ensures err { OnErr result (self.new ≡ self.old) }
     {
         let previous = p.action.previous();

@@ -51,7 +51,8 @@ fn push_what(
 
 /// Adds numbers, each after its word, as many as there are words.
 fn push_kept(line: &mut Vec<u8>, words: &[&str], numbers: &[u128]) -> Result<(), NoMemory>
-    ensures { OnOk result (line.new.items ≡ line.old.items ++ spaced (flat_map (λ k. amount_words k.0 k.1) (zip (map (λ w. w.now) words.now) numbers.now))) }
+    ensures { OnOk result (line.new.items ≡ line.old.items
+        ++ spaced (flat_map (λ k. amount_words k.0 k.1) (zip (map (λ w. w.now) words.now) numbers.now))) }
 {
     for (word, number) in words.iter().zip(numbers) {
         push_word(line, word)?;
@@ -62,7 +63,8 @@ fn push_kept(line: &mut Vec<u8>, words: &[&str], numbers: &[u128]) -> Result<(),
 
 /// Adds a rule's name, its place and the numbers that it keeps.
 fn push_refusal(line: &mut Vec<u8>, rule: &Rule, text: &RuleText) -> Result<(), NoMemory>
-    ensures { OnOk result (line.new.items ≡ line.old.items ++ spaced (refusal_words rule.now (Some (text_seen text.now)))) }
+    ensures { OnOk result (line.new.items ≡
+        line.old.items ++ spaced (refusal_words rule.now (Some (text_seen text.now)))) }
 {
     push_word(line, text.name)?;
     if rule.number == rules::MALFORMED {

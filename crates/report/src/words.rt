@@ -43,7 +43,8 @@ pub(crate) fn push_words(line: &mut Vec<u8>, words: &[&str]) -> Result<(), NoMem
 
 /// Adds amounts, each after its name.
 pub(crate) fn push_amounts(line: &mut Vec<u8>, amounts: &[(&str, u128)]) -> Result<(), NoMemory>
-    ensures { OnOk result (line.new.items ≡ line.old.items ++ spaced (flat_map (λ a. amount_words a.0.now a.1) amounts.now)) }
+    ensures { OnOk result (line.new.items ≡
+        line.old.items ++ spaced (flat_map (λ a. amount_words a.0.now a.1) amounts.now)) }
 {
     for (name, amount) in amounts {
         push_word(line, name)?;

@@ -11,7 +11,8 @@ use Rattle.snapshots.specs.declared.frozen.FrozenPool.{FrozenPool}
 
 -- a pool of mark: its reward account, none where it is not registered any more, its stake and its default vote
 abbrev pub frozen_pool : Snapshot → PoolId → FrozenPool
-frozen_pool s p = record { pool = p; account = value_at pool_cmp s.accounts p; stake = pool_stake s p; default_vote = default_vote s p }
+frozen_pool s p =
+    record { pool = p; account = value_at pool_cmp s.pool_accounts p; stake = pool_stake s p; default_vote = default_vote s p }
 
 -- what is held of a snapshot
 abbrev pub frozen_of : Snapshot → Frozen

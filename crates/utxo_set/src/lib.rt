@@ -32,7 +32,8 @@ impl Model for UtxoSet {
 
     ghost view = { λ a. record { outputs = a.outputs.entries; used = a.used.keys } };
 
-    ghost invariant = { λ a. (a.total ≡ lovelace_in a.outputs.entries) × IsInOrder (record { outputs = a.outputs.entries; used = a.used.keys }) };
+    ghost invariant = { λ a. (a.total ≡ lovelace_in a.outputs.entries)
+        × IsInOrder (record { outputs = a.outputs.entries; used = a.used.keys }) };
 }
 
 impl UtxoSet {

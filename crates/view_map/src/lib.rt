@@ -79,7 +79,9 @@ impl<K: Copy + Ord, V: Copy> ViewMap<K, V> {
 
     // Takes away what was saved for a first change that did not come to be.
     fn undo_save(&mut self, k: &K, first: bool)
-        ensures { self.new ≡ record self.old { saved = if first then without_key K.cmp k.now self.old.saved else self.old.saved } }
+        ensures { self.new ≡ record self.old {
+          saved = if first then without_key K.cmp k.now self.old.saved else self.old.saved;
+        } }
     {
         if first {
             self.saved.remove(k);
@@ -153,7 +155,8 @@ impl<K: Copy + Ord, V: Copy> ViewMap<K, V> {
 
     // The first live entry past a key, where it comes before another.
     fn next_before(&self, after: Option<&K>, end: &K) -> Option<(K, V)>
-        ensures { result ≡ where_before K.cmp end.now (entry_after K.cmp (option_map (λ k. k.now) after.entry) self.now.live) }
+        ensures { result ≡
+            where_before K.cmp end.now (entry_after K.cmp (option_map (λ k. k.now) after.entry) self.now.live) }
     {
         self.next(after).filter(|(k, _)| k.cmp(end).is_lt())
     }

@@ -10,15 +10,15 @@ use Rattle.maps.specs.Maps.{entry_after}
 use Rattle.drep_book.specs.Dreps.{Dreps}
 use Rattle.drep_book.proofs.DrepBook.next.Goals as goal
 
-pub returns-in_err-c : goal.returns-in_err-c
-returns-in_err-c c =
+pub returns-in_err-c-clause-value : goal.returns-in_err-c-clause-value
+returns-in_err-c-clause-value c =
     c.from_residual.ensures ∙ sym (ap (λ (es : List (Credential × DrepState)). slice_get es 0) c.in_err-c.ensures.steps.0)
     ∙ entry_after-range credential_ord.cmp-value.it _ _ _ _ _ c.keys_past.ensures.start (ap (bound_map (λ k. k.now)) c.keys_past.ensures.end) (c.range.ensures.between tt)
     ∙ (λ i. entry_after (credential_is i) (option_map (λ k. k.now) c.args.after) c.self.inside.dreps.entries)
     ∙ ap (λ (b : Dreps). entry_after credential_cmp (option_map (λ k. k.now) c.args.after) b.dreps) c.self.view_is
 
-pub returns : goal.returns
-returns c =
+pub returns-clause-value : goal.returns-clause-value
+returns-clause-value c =
     sym (ap (λ (es : List (Credential × DrepState)). slice_get es 0) c.in_ok-c.ensures.steps)
     ∙ entry_after-range credential_ord.cmp-value.it _ _ _ _ _ c.keys_past.ensures.start (ap (bound_map (λ k. k.now)) c.keys_past.ensures.end) (c.range.ensures.between tt)
     ∙ (λ i. entry_after (credential_is i) (option_map (λ k. k.now) c.args.after) c.self.inside.dreps.entries)
