@@ -1,21 +1,14 @@
 -- Lemmas on how the lines that a reader gave lie among those of its stream.
-use Rattle.std.proofs.Common.{◌≡◌, ℕ, ◌+◌, ◌-◌, ◌≤◌, ◌++◌, ◌⊎◌, inl, inr, true, false, List, [], Option, Some, None, length, take, drop, refl, sym, ap, subst, ◌∙◌, arith, append_assoc}
+use Rattle.std.proofs.Common.{◌≡◌, ℕ, ◌+◌, ◌-◌, ◌≤◌, ◌++◌, inl, inr, List, [], Option, Some, None, length, take, drop, refl, sym, ap, subst, ◌∙◌, arith, append_assoc}
 use Rattle.std.specs.Prelude.{IsTrue}
-use Rattle.std.specs.Io.KnownBytes.{Appends}
+use Rattle.std.specs.Io.KnownBytes.{append_known}
 use Rattle.std.proofs.lemmas.List.{append-nil, drop-take, take-append-drop, take-take, take_all, take_rest}
 use Rattle.byte_lines.specs.Laws.{BreakGivesWhole, EndGivesAll, GivesFirst, GivesFirstOfAll, NothingBeyond, TakesAddUp}
 use Rattle.byte_lines.specs.Pieces.{lines_of, open_of, whole_of}
 use Rattle.byte_lines.specs.Progress.{HasRead}
 use Rattle.byte_lines.specs.Reader.{Reader, heeded}
 use Rattle.byte_lines.proofs.PieceLemmas.{lines_of-append, lines_of-whole, whole_of-more, whole_of-whole}
-use Rattle.byte_lines.proofs.ProgressLemmas.{kept-none}
-
--- a reader goes on, or it has come to the end
-ended_cases : (r : Reader) → (r.ended ≡ false) ⊎ IsTrue r.ended
-ended_cases r = elim (r.ended) as (λ t. (t ≡ false) ⊎ IsTrue t) [
-  | true ↦ inr refl
-  | false ↦ inl refl
-]
+use Rattle.byte_lines.proofs.ProgressLemmas.{ended_cases, kept-none}
 
 -- all that came is heeded, as long as it is not too much
 came-heeded : (bytes : List ℕ) (r : Reader) (left : Option (List ℕ)) (given : List (Option (List ℕ))) (read : HasRead bytes r left given) →
@@ -82,12 +75,13 @@ nothing_beyond bytes r left given read begun within =
       | inr ended ↦ (read.looked, came, (read.through ended).lines, inr (read.through ended).drained)
     ]
 
+append_known-more : (first : Option (List ℕ)) (piece more : List ℕ) → append_known (append_known first piece) more ≡ append_known first (piece ++ more)
+append_known-more None piece more = refl
+append_known-more (Some xs) piece more = ap Some (append_assoc xs piece more)
+
 pub appends-append : TakesAddUp
-appends-append None mid last piece more one next = tt
-appends-append (Some xs) None last piece more one next = absurd one
-appends-append (Some xs) (Some ys) None piece more one next = absurd next
-appends-append (Some xs) (Some ys) (Some zs) piece more one next =
-    next ∙ ap (λ (l : List ℕ). l ++ more) one ∙ append_assoc xs piece more
+appends-append first mid last piece more one next =
+    next ∙ ap (λ (known : Option (List ℕ)). append_known known more) one ∙ append_known-more first piece more
 
 -- a front, and a front of what is behind it
 take-drop : (xs : List ℕ) (i n : ℕ) → take i xs ++ take n (drop i xs) ≡ take (i + n) xs
@@ -98,8 +92,8 @@ take-drop xs i n =
 
 -- more of the same bytes taken, from the slice of those that are left
 pub appends-slice : (first mid last : Option (List ℕ)) (xs : List ℕ) (i n : ℕ) →
-    Appends first mid (take i xs) → Appends mid last (take n (take (length xs - i) (drop i xs))) → Appends first last (take (i + n) xs)
+    mid ≡ append_known first (take i xs) → last ≡ append_known mid (take n (take (length xs - i) (drop i xs))) → last ≡ append_known first (take (i + n) xs)
 appends-slice first mid last xs i n one next =
     let more : take n (take (length xs - i) (drop i xs)) ≡ take n (drop i xs) = ap (λ (ys : List ℕ). take n ys) (take_rest xs i) in
-    subst (λ (ys : List ℕ). Appends first last ys) (ap (λ (ys : List ℕ). take i xs ++ ys) more ∙ take-drop xs i n)
+    subst (λ (ys : List ℕ). last ≡ append_known first ys) (ap (λ (ys : List ℕ). take i xs ++ ys) more ∙ take-drop xs i n)
     (appends-append first mid last (take i xs) (take n (take (length xs - i) (drop i xs))) one next)

@@ -2,3 +2,4 @@ pub mod LawLemmas
 pub mod PieceLemmas
 pub mod ProgressLemmas
 pub mod StepLemmas
+mod TakenLemmas

@@ -48,7 +48,7 @@ abbrev pub last_piece : List ℕ → List (List ℕ)
 last_piece [] = []
 last_piece (b ∷ bs) = (b ∷ bs) ∷ []
 
-with_first-last : (b : ℕ) (bs : List ℕ) → with_first b (last_piece bs) ≡ (b ∷ bs) ∷ []
+pub with_first-last : (b : ℕ) (bs : List ℕ) → with_first b (last_piece bs) ≡ (b ∷ bs) ∷ []
 with_first-last b [] = refl
 with_first-last b (c ∷ bs) = refl
 

@@ -1,18 +1,26 @@
 -- Lemmas on what a reader gave of a stream, step by step.
 use Rattle.std.proofs.Common.{◌≡◌, ℕ, ◌+◌, ◌<◌, ◌≤◌, ◌++◌, ◌⊎◌, inl, inr, true, false, List, [], ◌∷◌, Option, Some, None, length, map, refl, sym, ap, subst, ◌∙◌, arith, append_assoc}
-use Rattle.std.specs.Io.KnownBytes.{Consumes, IsAtEnd}
+use Rattle.std.specs.Prelude.{IsTrue}
+use Rattle.std.specs.Io.KnownBytes.{IsAtEnd, prepend_known}
 use Rattle.std.proofs.lemmas.Bool.{le-leb, lt-leb, cases_lt}
 use Rattle.std.proofs.lemmas.List.{append-nil, length-append, take_all, take_at}
 use Rattle.byte_lines.specs.Pieces.{has_feed, kept, line_feed, lines_of, open_of, whole_of}
 use Rattle.byte_lines.specs.Progress.{HasRead}
-use Rattle.byte_lines.specs.Reader.{Reader, with_run}
+use Rattle.byte_lines.specs.Reader.{last_line, Reader, with_run}
 use Rattle.byte_lines.specs.Turns.{Gives}
 use Rattle.byte_lines.proofs.PieceLemmas.{last_piece, lines_of-end, lines_of-feed, whole_of-run}
+
+-- a reader goes on, or it has come to the end
+pub ended_cases : (r : Reader) → (r.ended ≡ false) ⊎ IsTrue r.ended
+ended_cases r = elim (r.ended) as (λ t. (t ≡ false) ⊎ IsTrue t) [
+  | true ↦ inr refl
+  | false ↦ inl refl
+]
 
 -- ---- lines that are kept
 
 -- a piece is kept, or it is too long
-kept_cases : (max : ℕ) (piece : List ℕ) → ((length piece ≤ max) × (kept max piece ≡ Some piece)) ⊎ ((max < length piece) × (kept max piece ≡ None))
+pub kept_cases : (max : ℕ) (piece : List ℕ) → ((length piece ≤ max) × (kept max piece ≡ Some piece)) ⊎ ((max < length piece) × (kept max piece ≡ None))
 kept_cases max piece =
     elim (cases_lt max (length piece)) [
       | inl long ↦ inr (long, rw (lt-leb (length piece) max long) refl)
@@ -34,18 +42,12 @@ kept-none max piece is =
     ]
 
 -- a line begun and a run more
-with_run-kept : (max : ℕ) (front run : List ℕ) → with_run max (kept max front) run ≡ kept max (front ++ run)
+pub with_run-kept : (max : ℕ) (front run : List ℕ) → with_run max (kept max front) run ≡ kept max (front ++ run)
 with_run-kept max front run =
     elim (kept_cases max front) [
       | inl fits ↦ rw fits.1 refl
       | inr long ↦ rw long.1 (sym (kept-long max (front ++ run) (omega (arith, long.0, length-append front run))))
     ]
-
--- the line begun, where it is not empty
-abbrev pub last_line : Option (List ℕ) → List (Option (List ℕ))
-last_line None = None ∷ []
-last_line (Some []) = []
-last_line (Some (b ∷ bs)) = Some (b ∷ bs) ∷ []
 
 last_line-kept : (max : ℕ) (front : List ℕ) → last_line (kept max front) ≡ map (kept max) (last_piece front)
 last_line-kept max [] = rw (kept-nil max) refl
@@ -57,11 +59,10 @@ last_line-kept max (b ∷ bs) =
 
 -- ---- what a source that tells its bytes gave
 
-consumed : (left left' : Option (List ℕ)) (rest part : List ℕ) → left ≡ Some rest → Consumes left left' part →
+consumed : (left left' : Option (List ℕ)) (rest part : List ℕ) → left ≡ Some rest → left ≡ prepend_known part left' →
     (rest' : List ℕ) × (left' ≡ Some rest') × (rest ≡ part ++ rest')
-consumed None left' rest part told gave = cc
-consumed (Some xs) None rest part told gave = absurd gave
-consumed (Some xs) (Some ys) rest part told gave = (ys, refl, cc)
+consumed left None rest part told gave = let no : None ≡ Some rest = sym gave ∙ told in cc
+consumed left (Some ys) rest part told gave = let same : Some rest ≡ Some (part ++ ys) = sym told ∙ gave in (ys, refl, cc)
 
 none_left : (left : Option (List ℕ)) (rest : List ℕ) → left ≡ Some rest → IsAtEnd left → rest ≡ []
 none_left None rest told end = cc
@@ -71,7 +72,7 @@ none_left (Some xs) rest told end = cc
 
 -- a part came
 pub gives-part : (old : Reader) (part : List ℕ) (held : ℕ) (left left' : Option (List ℕ)) → old.ended ≡ false → old.ahead ≡ [] →
-    old.taken + length part ≤ old.stream_max → Consumes left left' part →
+    old.taken + length part ≤ old.stream_max → left ≡ prepend_known part left' →
     Gives old (record old { taken = old.taken + length part; ahead = part; held = held }) left left' []
 gives-part old part held left left' going looked within gave bytes given read =
     let rest = consumed left left' read.rest part read.told gave in
@@ -94,7 +95,7 @@ gives-part old part held left left' going looked within gave bytes given read =
 
 -- a byte beyond the limit came
 pub gives-over : (old : Reader) (byte held : ℕ) (left left' : Option (List ℕ)) → old.ended ≡ false →
-    old.taken ≡ old.stream_max → Consumes left left' (byte ∷ []) → Gives old (record old { taken = old.taken + 1; held = held }) left left' []
+    old.taken ≡ old.stream_max → left ≡ prepend_known (byte ∷ []) left' → Gives old (record old { taken = old.taken + 1; held = held }) left left' []
 gives-over old byte held left left' going full gave bytes given read =
     let rest = consumed left left' read.rest (byte ∷ []) read.told gave in
     let length_is : length read.came ≡ old.stream_max = omega (arith, read.taken) in

@@ -1,30 +1,34 @@
 -- Lemmas on the steps of a reader as values.
-use Rattle.std.proofs.Common.{◌≡◌, ◌≢◌, ℕ, ◌+◌, ◌<◌, ◌≤◌, ◌++◌, true, false, List, [], ◌∷◌, Option, Some, None, Ok, length, take, drop, refl, sym, ap, subst, ◌∙◌, arith, inl, inr}
-use Rattle.std.specs.Prelude.{slice_index}
-use Rattle.std.specs.Io.KnownBytes.{Consumes, IsAtEnd}
+use Rattle.std.proofs.Common.{◌≡◌, ◌≢◌, ℕ, ◌+◌, ◌<◌, ◌≤◌, ◌++◌, true, false, List, [], ◌∷◌, Option, Some, None, Result, Ok, Err, length, take, drop, refl, sym, ap, subst, ◌∙◌, arith, inl, inr}
+use Rattle.std.specs.Prelude.{slice_index, IsErr}
+use Rattle.std.specs.Io.KnownBytes.{IsAtEnd, prepend_known}
 use Rattle.std.proofs.lemmas.Bool.{cases_lt, eqb-true}
 use Rattle.std.proofs.lemmas.List.{take-append-drop, drop_more, get_or-take, length-take, length-drop}
 use Rattle.memchr.specs.Find.{IsFirstByte, is_byte}
-use Rattle.byte_lines.specs.Answers.{line_given, TextStays}
+use Rattle.byte_lines.specs.Answers.{HasTaken, line_given, TextStays}
 use Rattle.byte_lines.specs.Buffers.{Finishes}
 use Rattle.byte_lines.specs.Pieces.{has_feed, line_feed}
-use Rattle.byte_lines.specs.Reader.{Reader, with_run}
+use Rattle.byte_lines.specs.Reader.{FitsIn, last_line, Reader, with_run}
 use Rattle.byte_lines.specs.Progress.{HasRead}
-use Rattle.byte_lines.specs.Turns.{Ends, EndsLine, GoesOn, IsReading, TakesOver, TakesPart}
+use Rattle.byte_lines.specs.Turns.{Ends, EndsLine, GoesOn, IsReading, TakesMore, TakesOver, TakesPart}
 use Rattle.byte_lines.specs.declared.lines.Line.{Line}
 use Rattle.byte_lines.specs.declared.lines.Line.TheVariants.{Whole, TooLong, End}
+use Rattle.byte_lines.specs.declared.lines.LineFault.{LineFault}
+use Rattle.byte_lines.specs.declared.lines.LineFault.TheVariants.{ReadFault, TooMuch, NoMemory}
 use Rattle.byte_lines.proofs.PieceLemmas.{no_feed}
-use Rattle.byte_lines.proofs.ProgressLemmas.{gives-end, gives-line, gives-over, gives-part, gives-run, last_line}
+use Rattle.byte_lines.proofs.ProgressLemmas.{gives-end, gives-line, gives-over, gives-part, gives-run}
+use Rattle.byte_lines.proofs.TakenLemmas.{calls_add_up, takes_beyond, takes_bytes, takes_end, takes_line, takes_run}
 
 -- no line feed was found: what was ahead goes on the line begun
-pub looks_none : (old : Reader) (begun : Option (List ℕ)) (ahead : List ℕ) (held : ℕ) → IsReading old → IsFirstByte (is_byte line_feed) old.ahead None →
+pub looks_none : (old : Reader) (begun : Option (List ℕ)) (ahead : List ℕ) (held : ℕ) → IsReading old → FitsIn old.line_max old.begun → IsFirstByte (is_byte line_feed) old.ahead None →
     begun ≡ with_run old.line_max old.begun old.ahead → ahead ≡ [] → GoesOn old (record old { begun = begun; ahead = ahead; held = held })
-looks_none old begun ahead held reading none goes_on empty =
+looks_none old begun ahead held reading fits none goes_on empty =
     let without : has_feed old.ahead ≡ false = no_feed old.ahead (λ k below. none k (omega arith) below) in
     subst (λ (xs : List ℕ). GoesOn old (record old { begun = begun; ahead = xs; held = held })) (sym empty) (record {
       reader = refl;
       none = without;
       gives = λ left. gives-run old begun held left reading.ended without goes_on;
+      took = λ left. takes_run old begun held left reading.ended fits without goes_on;
     })
 
 -- how a line begun is given
@@ -63,6 +67,7 @@ looks_some old at mid begun ahead text held line reading found goes_on ends star
           let dropped : length ahead ≡ length (drop (at + 1) old.ahead) = ap length passed in
           omega (arith, length-drop (at + 1) old.ahead, found.0.high);
       gives = λ left. gives-line old new run ahead mid (line_given (Ok line) new) left reading.ended cut none goes_on gives.0 is;
+      took = λ left. takes_line old new run ahead mid (line_given (Ok line) new) left reading.ended cut none goes_on gives.0 is;
     }
 
 -- within the limit, no byte beyond it was taken
@@ -90,6 +95,7 @@ ends-with old taken number held begun ahead text line reading looked same starte
       text = text-text line old (record old { text = text }) new refl stays;
       number = count;
       gives = λ left end. gives-end old new (line_given (Ok line) new) left reading.ended looked end given_is count refl;
+      took = λ left end. takes_end old new (line_given (Ok line) new) left looked end given_is refl;
     }) where
       given-text : (l : Line) (a b : Reader) → b.text ≡ a.text → line_given (Ok l) b ≡ line_given (Ok l) a
       given-text Whole a b same = ap (λ (xs : List ℕ). Some xs ∷ []) same
@@ -127,7 +133,7 @@ ends_line old taken held begun ahead text line reading looked same started empty
 
 -- a part came
 pub takes_part : (old : Reader) (taken held count : ℕ) (part : List ℕ) (left left' : Option (List ℕ)) → IsReading old → old.ahead ≡ [] →
-    taken ≡ old.taken + count → length part ≡ count → old.taken + count ≤ old.stream_max → Consumes left left' part → (count ≡ 0 → IsAtEnd left') →
+    taken ≡ old.taken + count → length part ≡ count → old.taken + count ≤ old.stream_max → left ≡ prepend_known part left' → (count ≡ 0 → IsAtEnd left') →
     TakesPart old (record old { taken = taken; ahead = part; held = held }) left left' count
 takes_part old taken held count part left left' reading looked more came within gave end =
     let all : old.taken + length part ≤ old.stream_max = omega (arith, came) in
@@ -139,11 +145,13 @@ takes_part old taken held count part left left' reading looked more came within 
       end = end;
       gives = subst (λ (n : ℕ). (bytes : List ℕ) (given : List (Option (List ℕ))) → HasRead bytes old left given → HasRead bytes (record old { taken = n; ahead = part; held = held }) left' (given ++ []))
           (sym same) (gives-part old part held left left' reading.ended looked all gave);
+      took = subst (λ (n : ℕ). HasTaken old (record old { taken = n; ahead = part; held = held }) left left' []) (sym same)
+          (takes_bytes old part held left left' reading.ended looked all gave);
     }
 
 -- a byte beyond the limit came
 pub takes_over : (old : Reader) (taken held : ℕ) (ahead part : List ℕ) (left left' : Option (List ℕ)) → IsReading old → old.ahead ≡ [] →
-    taken ≡ old.taken + 1 → ahead ≡ [] → old.taken ≡ old.stream_max → length part ≡ 1 → Consumes left left' part →
+    taken ≡ old.taken + 1 → ahead ≡ [] → old.taken ≡ old.stream_max → length part ≡ 1 → left ≡ prepend_known part left' →
     TakesOver old (record old { taken = taken; ahead = ahead; held = held; ended = false; failed = false }) left left'
 takes_over old taken held ahead [] left left' reading looked more empty full one gave = absurd (omega arith)
 takes_over old taken held ahead (b ∷ c ∷ bs) left left' reading looked more empty full one gave = absurd (omega arith)
@@ -154,4 +162,60 @@ takes_over old taken held ahead (b ∷ []) left left' reading looked more empty 
       reader = refl;
       full = full;
       gives = gives-over old b held left left' reading.ended full gave;
+      took = takes_beyond old b held left left' reading.ended full gave;
     })
+
+-- ---- one step after another
+
+-- a step more before the end, with the lines that it gives
+then : (first start new : Reader) (left left' left'' : Option (List ℕ)) (given : List (Option (List ℕ))) → HasTaken first start left left' [] →
+    start.ended ≡ false → start.stream_max ≡ first.stream_max → HasTaken start new left' left'' given → HasTaken first new left left'' given
+then first start new left left' left'' given took going limit more =
+    calls_add_up first start new left left' left'' [] given took more limit (λ ended. cc)
+
+-- a look, after which no line was given yet
+pub took_look : (first start mid : Reader) (left left' : Option (List ℕ)) → HasTaken first start left left' [] →
+    start.ended ≡ false → start.stream_max ≡ first.stream_max → GoesOn start mid → HasTaken first mid left left' []
+took_look first start mid left left' took going limit on =
+    then first start mid left left' left' [] took going limit (on.took left')
+
+-- a line that was found
+pub took_line : (first start new : Reader) (left left' : Option (List ℕ)) (line : Line) → HasTaken first start left left' [] →
+    start.ended ≡ false → start.stream_max ≡ first.stream_max → EndsLine start new line → HasTaken first new left left' (line_given (Ok line) new)
+took_line first start new left left' line took going limit ends =
+    then first start new left left' left' (line_given (Ok line) new) took going limit (ends.took left')
+
+-- what a read took
+takes_of : (old new : Reader) (left left' : Option (List ℕ)) (result : Result ℕ LineFault) → TakesMore old new left left' result → HasTaken old new left left' []
+takes_of old new left left' (Ok count) more = more.took
+takes_of old new left left' (Err TooMuch) more = more.took
+takes_of old new left left' (Err ReadFault) more = more.took
+takes_of old new left left' (Err NoMemory) more = more.took
+
+-- a read more, once all that was ahead is looked at
+pub takes_more : (first start mid new : Reader) (left left' left'' : Option (List ℕ)) (result : Result ℕ LineFault) → HasTaken first start left left' [] → GoesOn start mid →
+    start.ended ≡ false → start.stream_max ≡ first.stream_max → TakesMore mid new left' left'' result → HasTaken first new left left'' []
+takes_more first start mid new left left' left'' result took on going limit more =
+    then first mid new left left' left'' [] (took_look first start mid left left' took going limit on)
+    (ap (λ (r : Reader). r.ended) on.reader ∙ going) (ap (λ (r : Reader). r.stream_max) on.reader ∙ limit) (takes_of mid new left' left'' result more)
+
+-- no line is given where a read failed
+given-error : (result : Result Line LineFault) (new : Reader) → IsErr result → line_given result new ≡ []
+given-error (Ok line) new failed = cc
+given-error (Err fault) new failed = refl
+
+pub took_error : (first start mid new : Reader) (left left' left'' : Option (List ℕ)) (read : Result ℕ LineFault) (result : Result Line LineFault) → HasTaken first start left left' [] → GoesOn start mid →
+    start.ended ≡ false → start.stream_max ≡ first.stream_max → TakesMore mid new left' left'' read → IsErr result → HasTaken first new left left'' (line_given result new)
+took_error first start mid new left left' left'' read result took on going limit more failed =
+    subst (λ (ls : List (Option (List ℕ))). HasTaken first new left left'' ls) (sym (given-error result new failed))
+    (takes_more first start mid new left left' left'' read took on going limit more)
+
+-- the end
+pub took_end : (first start mid read new : Reader) (left left' left'' : Option (List ℕ)) (count : ℕ) (line : Line) → HasTaken first start left left' [] → GoesOn start mid →
+    start.ended ≡ false → start.stream_max ≡ first.stream_max → TakesPart mid read left' left'' count → count ≡ 0 → Ends read new line → HasTaken first new left left'' (line_given (Ok line) new)
+took_end first start mid read new left left' left'' count line took on going limit part none ends =
+    then first read new left left'' left'' (line_given (Ok line) new)
+    (takes_more first start mid read left left' left'' (Ok count) took on going limit part)
+    (ap (λ (r : Reader). r.ended) part.reader ∙ ap (λ (r : Reader). r.ended) on.reader ∙ going)
+    (ap (λ (r : Reader). r.stream_max) part.reader ∙ ap (λ (r : Reader). r.stream_max) on.reader ∙ limit)
+    (ends.took left'' (part.end none))

@@ -1,5 +1,5 @@
 -- A reader of std as a source and a writer as a sink, as values.
-use Rattle.std.specs.Prelude.{ℕ, ◌-◌, List, Option, length, option_map, take}
+use Rattle.std.specs.Prelude.{ℕ, ◌-◌, List, Option, Some, None, IsSome, length, option_map, take}
 
 -- a source over a reader: the bytes that it will give, where the reader tells them, and how many reads failed
 pub record ReaderTells : Type 0 where
@@ -10,6 +10,15 @@ pub record ReaderTells : Type 0 where
 pub record WriterTells : Type 0 where
   pub taken : Option (List ℕ)
   pub faults : ℕ
+
+-- the bytes that a reader or a writer tells now, if it told them at first
+abbrev pub told_since : Option (List ℕ) → Option (List ℕ) → Option (List ℕ)
+told_since None now = None
+told_since (Some first) now = now
+
+-- one that told its bytes at first tells them now
+abbrev pub GoesOnTelling : Option (List ℕ) → Option (List ℕ) → Type 0
+GoesOnTelling first now = IsSome first → IsSome now
 
 -- the bytes that a writer holds, but for the last ones, whose flush failed
 abbrev pub flushed_of : Option (List ℕ) → ℕ → Option (List ℕ)

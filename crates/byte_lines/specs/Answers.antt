@@ -1,6 +1,7 @@
 -- What a call for the next line does.
-use Rattle.std.specs.Prelude.{◌≡◌, ℕ, ◌+◌, ◌≤◌, ◌<◌, ◌⊎◌, ◌↔◌, false, List, [], ◌∷◌, Option, Some, None, Result, Ok, Err, IsErr, IsOk, IsTrue, length, ⊤}
-use Rattle.byte_lines.specs.Reader.{Reader, part_max}
+use Rattle.std.specs.Prelude.{◌≡◌, ℕ, ◌+◌, ◌-◌, ◌++◌, ◌≤◌, ◌<◌, ◌⊎◌, ◌↔◌, false, List, [], ◌∷◌, Option, Some, None, Result, Ok, Err, IsErr, IsOk, IsTrue, length, ⊤}
+use Rattle.std.specs.Io.KnownBytes.{IsAtEnd, prepend_known}
+use Rattle.byte_lines.specs.Reader.{FitsIn, Reader, heeded, lines_left, part_max}
 use Rattle.byte_lines.specs.declared.lines.Line.{Line}
 use Rattle.byte_lines.specs.declared.lines.Line.TheVariants.{Whole, TooLong, End}
 use Rattle.byte_lines.specs.declared.lines.LineFault.{LineFault}
@@ -33,10 +34,23 @@ pub record Advances (old new : Reader) (result : Result Line LineFault) : Type 0
   pub grows : old.taken ≤ new.taken
   pub bound : new.taken ≤ new.stream_max + 1
 
+-- what a call takes of the source, and the lines that it gives of it: the bytes are the first of those that the source
+-- has left, where it tells them; one that tells nothing goes on to tell nothing
+pub record HasTaken (old new : Reader) (left left' : Option (List ℕ)) (given : List (Option (List ℕ))) : Type 0 where
+  pub bytes : List ℕ
+  pub count : new.taken ≡ old.taken + length bytes
+  pub told : left ≡ prepend_known bytes left'
+  -- once the end came, none is left
+  pub drained : old.ended ≡ false → IsTrue new.ended → IsAtEnd left'
+  -- whatever comes next, and nothing after the end, these lines and those still to come are those that were to come
+  pub lines : (rest : List ℕ) → (IsTrue new.ended → rest ≡ []) →
+      lines_left old (heeded (old.stream_max - old.taken) bytes ++ rest) ≡ given ++ lines_left new rest
+
 -- however long a line or a stream is
 pub record IsBounded (r : Reader) : Type 0 where
   -- it holds no more than a line and one part
   pub held : r.held ≤ r.line_max + part_max
+  pub begun : FitsIn r.line_max r.begun
   -- each line took a byte
   pub few : r.number ≤ r.taken
 
@@ -45,6 +59,8 @@ pub record IsAnswer (old new : Reader) (result : Result Line LineFault) : Type 0
   -- the end comes once all is looked at, and then again at each call
   pub end : result ≡ Ok End → IsTrue new.ended
   pub end_again : IsTrue old.ended → result ≡ Ok End
+  -- then nothing is ahead, and no line is begun
+  pub done : IsTrue new.ended → (new.ahead ≡ []) × (new.begun ≡ Some [])
   pub unfinished : IsErr result → new.ended ≡ false
   -- after a line or the end no line is begun, and less than one part is ahead
   pub begun : IsOk result → new.begun ≡ Some []

@@ -1,9 +1,10 @@
 -- Laws on lines.
 use Rattle.std.specs.Prelude.{◌≡◌, ℕ, ◌≤◌, ◌++◌, ◌⊎◌, false, List, [], ◌∷◌, Option, Some, IsTrue}
-use Rattle.std.specs.Io.KnownBytes.{Appends}
+use Rattle.std.specs.Io.KnownBytes.{append_known}
 use Rattle.byte_lines.specs.Pieces.{has_feed, line_feed, lines_of, open_of, pieces_of, whole_of}
 use Rattle.byte_lines.specs.Progress.{HasRead}
-use Rattle.byte_lines.specs.Reader.{Reader, heeded}
+use Rattle.byte_lines.specs.Reader.{Reader, heeded, lines_left}
+use Rattle.byte_lines.specs.Answers.{HasTaken}
 
 -- a piece goes up to the first line feed, and the others are those of the rest
 abbrev pub FeedEndsPiece : Type 0
@@ -60,8 +61,21 @@ NothingBeyond =
     (upto : List ℕ) × (read.came ≡ upto ++ r.ahead) × (given ≡ lines_of r.line_max upto)
     × ((open_of upto ≡ []) ⊎ (read.rest ≡ []))
 
+-- a reader that has begun no line, and looks at nothing, has all lines of what comes to give
+abbrev pub FreshGivesAll : Type 0
+FreshGivesAll =
+    (r : Reader) (bytes : List ℕ) → r.begun ≡ Some [] → r.ahead ≡ [] → lines_left r bytes ≡ lines_of r.line_max bytes
+
+-- what one call for a line takes and gives, and then the next, they take and give in all; after the end nothing comes
+abbrev pub CallsAddUp : Type 0
+CallsAddUp =
+    (first mid last : Reader) (left left' left'' : Option (List ℕ)) (given more : List (Option (List ℕ))) →
+    HasTaken first mid left left' given → HasTaken mid last left' left'' more →
+    mid.stream_max ≡ first.stream_max → (IsTrue mid.ended → (last ≡ mid) × (left'' ≡ left')) →
+    HasTaken first last left left'' (given ++ more)
+
 -- what a sink takes at one time and then at another, it takes in all
 abbrev pub TakesAddUp : Type 0
 TakesAddUp =
     (first mid last : Option (List ℕ)) (piece more : List ℕ) →
-    Appends first mid piece → Appends mid last more → Appends first last (piece ++ more)
+    mid ≡ append_known first piece → last ≡ append_known mid more → last ≡ append_known first (piece ++ more)

@@ -1,6 +1,6 @@
 -- What a write does, by what the sink tells.
 use Rattle.std.specs.Prelude.{◌≡◌, ℕ, ◌<◌, ◌≤◌, List, Option, Result, Err, IfOk, OnErr, length, take}
-use Rattle.std.specs.Io.KnownBytes.{Appends, Keeps}
+use Rattle.std.specs.Io.KnownBytes.{append_known}
 use Rattle.byte_lines.specs.Faults.{CountsFaults}
 use Rattle.byte_lines.specs.declared.sink.SinkFault.{SinkFault}
 use Rattle.byte_lines.specs.declared.sink.SinkFault.TheVariants.{WriteFault}
@@ -10,8 +10,8 @@ pub record IsWrite (taken taken' : Option (List ℕ)) (faults faults' : ℕ) (pi
   -- at least one byte, and no more than the piece has
   pub some : IfOk result (λ n. 0 < n)
   pub fits : IfOk result (λ n. n ≤ length piece)
-  -- they are its first
-  pub took : IfOk result (λ n. Appends taken taken' (take n piece))
+  -- they are its first; a sink that tells nothing goes on to tell nothing
+  pub took : IfOk result (λ n. taken' ≡ append_known taken (take n piece))
   -- an error takes none
-  pub stays : OnErr result (Keeps taken taken')
+  pub stays : OnErr result (taken' ≡ taken)
   pub counts : CountsFaults (result ≡ Err WriteFault) faults faults'

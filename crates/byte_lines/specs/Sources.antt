@@ -1,6 +1,6 @@
 -- What a read does, by what the source tells.
 use Rattle.std.specs.Prelude.{◌≡◌, ℕ, ◌≤◌, List, Option, Result, IfOk, OnErr, IsErr, length, take}
-use Rattle.std.specs.Io.KnownBytes.{Consumes, IsAtEnd, Keeps}
+use Rattle.std.specs.Io.KnownBytes.{IsAtEnd, prepend_known}
 use Rattle.byte_lines.specs.Faults.{CountsFaults}
 use Rattle.byte_lines.specs.declared.source.ReadFault.{ReadFault}
 
@@ -8,10 +8,10 @@ use Rattle.byte_lines.specs.declared.source.ReadFault.{ReadFault}
 pub record IsRead (left left' : Option (List ℕ)) (faults faults' : ℕ) (into : List ℕ) (result : Result ℕ ReadFault) : Type 0 where
   -- no more bytes than the slice has room for
   pub fits : IfOk result (λ n. n ≤ length into)
-  -- they are the first that were left
-  pub gave : IfOk result (λ n. Consumes left left' (take n into))
+  -- they are the first that were left; a source that tells nothing goes on to tell nothing
+  pub gave : IfOk result (λ n. left ≡ prepend_known (take n into) left')
   -- none at the end alone
   pub end : IfOk result (λ n. n ≡ 0 → IsAtEnd left')
   -- a fault loses none
-  pub stays : OnErr result (Keeps left left')
+  pub stays : OnErr result (left' ≡ left)
   pub counts : CountsFaults (IsErr result) faults faults'

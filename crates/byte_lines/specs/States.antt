@@ -1,7 +1,7 @@
 -- Where a reader of lines stands.
 use Rattle.std.specs.Prelude.{◌≡◌, ℕ, ◌+◌, ◌≤◌, ◌<◌, Bool, true, false, List, [], Option, Some, None, IsTrue, length}
 use Rattle.byte_lines.specs.Buffers.{BytesAhead, LineBegun}
-use Rattle.byte_lines.specs.Reader.{part_max}
+use Rattle.byte_lines.specs.Reader.{FitsIn, part_max}
 use Rattle.byte_lines.specs.declared.lines.State.{State}
 use Rattle.byte_lines.specs.declared.lines.State.TheVariants.{Reading, Ended, TooMuch, NoMemory}
 
@@ -38,6 +38,7 @@ pub record IsSound (state : State) (line_max stream_max taken number : ℕ) (beg
   pub within : taken ≤ stream_max
   pub text_fits : length text ≤ line_max
   pub holds : begun.held ≤ line_max
+  pub begun_fits : FitsIn line_max begun.line
   pub holds_ahead : ahead.held ≤ part_max
   pub part : length ahead.bytes ≤ ahead.held
   pub ended : IsTrue (is_ended state) → (ahead.bytes ≡ []) × (begun.line ≡ Some [])

@@ -2,7 +2,7 @@
 use Rattle.std.specs.Prelude.{◌≡◌, ℕ, ◌+◌, ◌≤◌, ◌<◌, ◌++◌, ◌⊎◌, ◌↔◌, true, false, IsTrue, IsOk, IsErr, List, [], Option, Some, None, Result, Ok, Err, length}
 use Rattle.std.specs.Io.KnownBytes.{IsAtEnd}
 use Rattle.coin_frac.specs.declared.NoMemory.{NoMemory as OutOfMemory}
-use Rattle.byte_lines.specs.Answers.{Advances, line_given, TextStays}
+use Rattle.byte_lines.specs.Answers.{Advances, HasTaken, line_given, TextStays}
 use Rattle.byte_lines.specs.Pieces.{has_feed}
 use Rattle.byte_lines.specs.Progress.{HasRead}
 use Rattle.byte_lines.specs.Reader.{Reader, part_max}
@@ -30,12 +30,14 @@ pub record EndsLine (old new : Reader) (line : Line) : Type 0 where
   pub text : TextStays old new (Ok line)
   pub ahead : length new.ahead < length old.ahead
   pub gives : (left : Option (List ℕ)) → Gives old new left left (line_given (Ok line) new)
+  pub took : (left : Option (List ℕ)) → HasTaken old new left left (line_given (Ok line) new)
 
 -- all that was ahead is looked at, and no line feed stands in it
 pub record GoesOn (old new : Reader) : Type 0 where
   pub reader : new ≡ record old { begun = new.begun; ahead = []; held = new.held }
   pub none : has_feed old.ahead ≡ false
   pub gives : (left : Option (List ℕ)) → Gives old new left left []
+  pub took : (left : Option (List ℕ)) → HasTaken old new left left []
 
 -- a line feed was found in what was ahead, or there is none there, or memory ran out
 abbrev pub LooksAhead : Reader → Reader → Result (Option Line) OutOfMemory → Type 0
@@ -49,6 +51,7 @@ pub record Ends (old new : Reader) (line : Line) : Type 0 where
   pub text : TextStays old new (Ok line)
   pub number : new.number ≡ old.number + length (line_given (Ok line) new)
   pub gives : (left : Option (List ℕ)) → IsAtEnd left → Gives old new left left (line_given (Ok line) new)
+  pub took : (left : Option (List ℕ)) → IsAtEnd left → HasTaken old new left left (line_given (Ok line) new)
 
 -- a read brought bytes, or the end
 pub record TakesPart (old new : Reader) (left left' : Option (List ℕ)) (count : ℕ) : Type 0 where
@@ -57,17 +60,20 @@ pub record TakesPart (old new : Reader) (left left' : Option (List ℕ)) (count 
   pub came : length new.ahead ≡ count
   pub end : count ≡ 0 → IsAtEnd left'
   pub gives : Gives old new left left' []
+  pub took : HasTaken old new left left' []
 
 -- a byte beyond the limit of the stream came
 pub record TakesOver (old new : Reader) (left left' : Option (List ℕ)) : Type 0 where
   pub reader : new ≡ record old { taken = old.taken + 1; held = new.held }
   pub full : old.taken ≡ old.stream_max
   pub gives : Gives old new left left' []
+  pub took : HasTaken old new left left' []
 
 -- nothing came
 pub record TakesNone (old new : Reader) (left left' : Option (List ℕ)) : Type 0 where
   pub reader : new ≡ record old { held = new.held }
   pub gives : Gives old new left left' []
+  pub took : HasTaken old new left left' []
 
 -- a read brought bytes, the end, one byte too much, or nothing
 abbrev pub TakesMore : Reader → Reader → Option (List ℕ) → Option (List ℕ) → Result ℕ LineFault → Type 0

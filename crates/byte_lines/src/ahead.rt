@@ -1,6 +1,6 @@
 //! A buffer of bytes taken from a source and not looked at yet.
 ghost use Rattle.std.specs.Prelude.{◌≡◌, ◌<◌, ◌≤◌, [], length, drop, IsErr, IfOk, OnErr};
-ghost use Rattle.std.specs.Io.KnownBytes.{Consumes, IsAtEnd, Keeps};
+ghost use Rattle.std.specs.Io.KnownBytes.{IsAtEnd, prepend_known};
 ghost use Rattle.byte_lines.specs.Faults.{CountsFaults};
 ghost use Rattle.byte_lines.specs.Reader.{part_max};
 ghost use Rattle.byte_lines.specs.Sources.{IsRead};
@@ -63,9 +63,9 @@ impl Ahead {
         requires empty { self.old.bytes ≡ [] }
         requires room { 0 < max }
         ensures came { IfOk result (λ n. (length self.new.bytes ≡ n) × (n ≤ max)) }
-        ensures gave { IfOk result (λ n. Consumes (S.left source.old) (S.left source.new) self.new.bytes) }
+        ensures gave { IfOk result (λ n. S.left source.old ≡ prepend_known self.new.bytes (S.left source.new)) }
         ensures end { IfOk result (λ n. n ≡ 0 → IsAtEnd (S.left source.new)) }
-        ensures nothing { OnErr result (Keeps (S.left source.old) (S.left source.new) × (self.new.bytes ≡ [])) }
+        ensures nothing { OnErr result ((S.left source.new ≡ S.left source.old) × (self.new.bytes ≡ [])) }
         ensures counts { CountsFaults (result ≡ Err LineFault.ReadFault) (S.faults source.old) (S.faults source.new) }
         ensures other { result ≡ Err LineFault.TooMuch → ⊥ }
         ensures holds { (length self.new.bytes ≤ self.new.held) × (self.new.held ≤ part_max) }

@@ -1,6 +1,6 @@
 //! The line that is being read.
 ghost use Rattle.std.specs.Prelude.{◌≡◌, ℕ, ◌≤◌, [], ◌↔◌, IsTrue, length, OnOk, OnErr};
-ghost use Rattle.byte_lines.specs.Reader.{with_run};
+ghost use Rattle.byte_lines.specs.Reader.{FitsIn, with_run};
 ghost use Rattle.byte_lines.specs.Buffers.{Finishes};
 
 use super::lines::Line;
@@ -50,6 +50,7 @@ impl Begun {
         ensures ok { OnOk result (self.new.line ≡ with_run max self.old.line run.now) }
         ensures err { OnErr result (self.new ≡ self.old) }
         ensures holds { self.new.held ≤ max }
+        ensures fits { FitsIn max self.new.line }
     {
         if self.is_too_long {
             return Ok(());

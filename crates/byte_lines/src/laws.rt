@@ -1,5 +1,5 @@
 //! Laws on lines, for proofs of what reads them.
-ghost use Rattle.byte_lines.specs.Laws.{FeedEndsPiece, CutsInTwo, LinesAddUp, EndGivesAll, BreakGivesWhole, GivesFirst, GivesFirstOfAll, NothingBeyond, TakesAddUp};
+ghost use Rattle.byte_lines.specs.Laws.{FeedEndsPiece, CutsInTwo, LinesAddUp, EndGivesAll, BreakGivesWhole, GivesFirst, GivesFirstOfAll, NothingBeyond, FreshGivesAll, CallsAddUp, TakesAddUp};
 
 /// Does nothing. Its clauses are laws: how bytes are cut into lines, and how the lines that a reader gave lie among
 /// those of its stream. (Own)
@@ -12,5 +12,7 @@ pub fn whole_lines()
     ensures first { GivesFirst }
     ensures first_of_all { GivesFirstOfAll }
     ensures nothing_beyond { NothingBeyond }
+    ensures fresh { FreshGivesAll }
+    ensures calls { CallsAddUp }
     ensures takes { TakesAddUp }
 {}

@@ -1,11 +1,11 @@
 //! The reader of lines.
 ghost use Rattle.std.specs.Prelude.{◌≡◌, ℕ, ◌≤◌, ◌++◌, List, [], Option, Some, length, false, true, IsTrue};
 ghost use Rattle.std.specs.Io.KnownBytes.{IsAtEnd};
-ghost use Rattle.byte_lines.specs.Answers.{Advances, IsAnswer, IsBounded, IsStopped, line_given};
+ghost use Rattle.byte_lines.specs.Answers.{Advances, HasTaken, IsAnswer, IsBounded, IsStopped, line_given};
 ghost use Rattle.byte_lines.specs.Faults.{CountsFaults};
-ghost use Rattle.byte_lines.specs.Pieces.{has_feed};
+ghost use Rattle.byte_lines.specs.Pieces.{has_feed, lines_of};
 ghost use Rattle.byte_lines.specs.Progress.{HasRead};
-ghost use Rattle.byte_lines.specs.Reader.{part_max};
+ghost use Rattle.byte_lines.specs.Reader.{lines_left, part_max};
 ghost use Rattle.byte_lines.specs.Turns.{IsReading, ReadsOn, LooksAhead, Ends, TakesMore};
 
 use super::ahead::Ahead;
@@ -134,6 +134,7 @@ impl Lines {
           failed = false;
         } }
         ensures reads { (bytes : List ℕ) → HasRead bytes result (Some bytes) [] }
+        ensures lines { (bytes : List ℕ) → lines_left result bytes ≡ lines_of line_max bytes }
     {
         Lines {
             line_max,
@@ -153,6 +154,8 @@ impl Lines {
         ensures reads { (bytes : List ℕ) (given : List (Option (List ℕ))) →
             HasRead bytes self.old (S.left source.old) given →
             HasRead bytes self.new (S.left source.new) (given ++ line_given result self.new) }
+        ensures took { HasTaken self.old self.new (S.left source.old) (S.left source.new)
+            (line_given result self.new) }
         ensures advances { Advances self.old self.new result }
         ensures bounded { IsBounded self.new }
         ensures answer { IsAnswer self.old self.new result }
@@ -192,6 +195,8 @@ impl Lines {
     fn read_line<S: Source>(&mut self, source: &mut S) -> Result<Line, LineFault>
         requires { IsReading self.old }
         ensures reads { ReadsOn self.old self.new (S.left source.old) (S.left source.new) result }
+        ensures took { HasTaken self.old self.new (S.left source.old) (S.left source.new)
+            (line_given result self.new) }
         ensures counts { CountsFaults (result ≡ Err LineFault.ReadFault) (S.faults source.old) (S.faults source.new) }
         ensures asks { has_feed self.old.ahead ≡ true → source.new ≡ source.old }
     {

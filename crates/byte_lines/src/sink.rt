@@ -1,6 +1,6 @@
 //! Where bytes go.
 ghost use Rattle.std.specs.Prelude.{◌≡◌, ℕ, ◌<◌, List, [], Option, length, take, OnOk, OnErr};
-ghost use Rattle.std.specs.Io.KnownBytes.{Appends};
+ghost use Rattle.std.specs.Io.KnownBytes.{append_known};
 ghost use Rattle.byte_lines.specs.Faults.{CountsFaults};
 ghost use Rattle.byte_lines.specs.Sinks.{IsWrite};
 
@@ -41,7 +41,7 @@ impl From<AllocError> for SinkFault {
 
 /// A sink for bytes. (Own)
 pub trait Sink {
-    // the bytes taken, where it tells them; once it tells them, it goes on to
+    // the bytes taken, where it tells them: it tells them for its whole life, or never
     ghost taken: { Self → Option (List ℕ) };
 
     // how many writes failed; it never falls
@@ -56,9 +56,9 @@ pub trait Sink {
 /// Hands the whole piece to the sink. After an error the sink has taken a prefix of it; an empty
 /// piece asks the sink for nothing. (Own)
 pub fn put_all<K: Sink>(sink: &mut K, piece: &[u8]) -> Result<(), SinkFault>
-    ensures ok { OnOk result (Appends (K.taken sink.old) (K.taken sink.new) piece.now) }
+    ensures ok { OnOk result (K.taken sink.new ≡ append_known (K.taken sink.old) piece.now) }
     ensures err { OnErr result ((n : ℕ) × (n < length piece.now)
-        × Appends (K.taken sink.old) (K.taken sink.new) (take n piece.now)) }
+        × (K.taken sink.new ≡ append_known (K.taken sink.old) (take n piece.now))) }
     ensures counts { CountsFaults (result ≡ Err SinkFault.WriteFault) (K.faults sink.old) (K.faults sink.new) }
     ensures empty { piece.now ≡ [] → (result ≡ Ok tt) × (sink.new ≡ sink.old) }
 {

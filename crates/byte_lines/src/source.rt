@@ -11,7 +11,7 @@ pub struct ReadFault;
 
 /// A source of bytes. (Own)
 pub trait Source {
-    // the bytes left, where it tells them; once it tells them, it goes on to
+    // the bytes left, where it tells them: it tells them for its whole life, or never
     ghost left: { Self → Option (List ℕ) };
 
     // how many reads failed; it never falls

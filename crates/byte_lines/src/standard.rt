@@ -1,6 +1,6 @@
 //! A reader of `std::io` as a source, and a writer as a sink.
 ghost use Rattle.std.specs.Prelude.{◌≡◌, ◌<◌, ◌≤◌, IfSome, IfNone, length, take, is_ok, if◌then◌else◌};
-ghost use Rattle.std.specs.Io.KnownBytes.{Appends, Keeps};
+ghost use Rattle.std.specs.Io.KnownBytes.{append_known};
 ghost use Rattle.byte_lines.specs.Sources.{IsRead};
 ghost use Rattle.byte_lines.specs.Sinks.{IsWrite};
 ghost use Rattle.byte_lines.specs.InMemory.{one_more};
@@ -9,21 +9,28 @@ use super::sink::{Sink, SinkFault};
 use super::source::{ReadFault, Source};
 use std::io::{Read, Write};
 use std::marker::Model;
+use std::snapshot::Snapshot;
 
-/// A source that reads from `reader`, with one read for each. It tells the bytes that the reader tells, and counts
-/// each error. (Own)
+/// A source that reads from `reader`, with one read for each. It tells the bytes that the reader tells, if the reader
+/// tells them when the source is made, and else none. It counts each error. (Own)
 #[derive(Drop)]
 pub struct ReaderSource<R: Read> {
     reader: R,
+    first: Snapshot<R>,
     faults: u64,
 }
 
 impl<R: Read> Model for ReaderSource<R> {
-    ghost use Rattle.byte_lines.specs.Adapters.{ReaderTells};
+    ghost use Rattle.byte_lines.specs.Adapters.{GoesOnTelling, ReaderTells, told_since};
 
     ghost Value = { ReaderTells };
 
-    ghost view = { λ a. record { left = R.remaining a.reader; faults = a.faults } };
+    ghost view = { λ a. record {
+      left = told_since (R.remaining a.first.value) (R.remaining a.reader);
+      faults = a.faults;
+    } };
+
+    ghost invariant = { λ a. GoesOnTelling (R.remaining a.first.value) (R.remaining a.reader) };
 }
 
 impl<R: Read> ReaderSource<R> {
@@ -31,7 +38,12 @@ impl<R: Read> ReaderSource<R> {
     pub fn new(reader: R) -> Self
         ensures { result ≡ record { left = R.remaining reader; faults = 0 } }
     {
-        ReaderSource { reader, faults: 0 }
+        let first = Snapshot::of(&reader);
+        ReaderSource {
+            reader,
+            first,
+            faults: 0,
+        }
     }
 }
 
@@ -55,21 +67,28 @@ impl<R: Read> Source for ReaderSource<R> {
     }
 }
 
-/// A sink that writes to `writer`, and flushes it each time. It tells the bytes that the writer tells, but for those
-/// whose flush failed, after which each write fails. It counts each error, and each write of nothing as one. (Own)
+/// A sink that writes to `writer`, and flushes it each time. It tells the bytes that the writer tells, if the writer
+/// tells them when the sink is made, and else none; but for those whose flush failed, after which each write fails. It
+/// counts each error, and each write of nothing as one. (Own)
 #[derive(Drop)]
 pub struct WriterSink<W: Write> {
     writer: W,
+    first: Snapshot<W>,
     unflushed: usize,
     faults: u64,
 }
 
 impl<W: Write> Model for WriterSink<W> {
-    ghost use Rattle.byte_lines.specs.Adapters.{WriterTells, flushed_of};
+    ghost use Rattle.byte_lines.specs.Adapters.{GoesOnTelling, WriterTells, flushed_of, told_since};
 
     ghost Value = { WriterTells };
 
-    ghost view = { λ a. record { taken = flushed_of (W.contents a.writer) a.unflushed; faults = a.faults } };
+    ghost view = { λ a. record {
+      taken = flushed_of (told_since (W.contents a.first.value) (W.contents a.writer)) a.unflushed;
+      faults = a.faults;
+    } };
+
+    ghost invariant = { λ a. GoesOnTelling (W.contents a.first.value) (W.contents a.writer) };
 }
 
 impl<W: Write> WriterSink<W> {
@@ -77,8 +96,10 @@ impl<W: Write> WriterSink<W> {
     pub fn new(writer: W) -> Self
         ensures { result ≡ record { taken = W.contents writer; faults = 0 } }
     {
+        let first = Snapshot::of(&writer);
         WriterSink {
             writer,
+            first,
             unflushed: 0,
             faults: 0,
         }
@@ -87,8 +108,8 @@ impl<W: Write> WriterSink<W> {
     /// Writes and flushes: how many bytes were written, none where either failed or nothing was.
     fn write_through(&mut self, piece: &[u8]) -> Option<usize>
         ensures count { IfSome result (λ n. (0 < n) × (n ≤ length piece.now)) }
-        ensures took { IfSome result (λ n. Appends self.old.taken self.new.taken (take n piece.now)) }
-        ensures stays { IfNone result (Keeps self.old.taken self.new.taken) }
+        ensures took { IfSome result (λ n. self.new.taken ≡ append_known self.old.taken (take n piece.now)) }
+        ensures stays { IfNone result (self.new.taken ≡ self.old.taken) }
         ensures faults { self.new.faults ≡ self.old.faults }
     {
         if self.unflushed > 0 {

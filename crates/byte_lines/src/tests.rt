@@ -142,6 +142,7 @@ fn adapts_readers_and_writers(rt: HostRuntime) {
     let mut bytes = Vec::new(rt.alloc());
     let mut sink = WriterSink::new(&mut bytes);
     assert_eq!(rt; put_all(&mut sink, b"ab"), Ok(()));
+    drop(sink);
     assert_eq!(rt; bytes.as_slice(), b"ab".as_slice());
     let mut stuck = WriterSink::new(Broken);
     assert_eq!(rt; put_all(&mut stuck, b"ab"), Err(SinkFault::WriteFault));
@@ -157,6 +158,7 @@ fn flushes_each_write(rt: HostRuntime) {
     assert_eq!(rt; put_all(&mut sink, b"ab"), Ok(()));
     assert_eq!(rt; put_all(&mut sink, b"cd"), Err(SinkFault::WriteFault));
     assert_eq!(rt; put_all(&mut sink, b"ef"), Err(SinkFault::WriteFault));
+    drop(sink);
     assert_eq!(rt; watched.flushes, 2);
 }
 
@@ -168,6 +170,7 @@ fn reads_on_after_an_error_of_the_reader(rt: HostRuntime) {
     assert_eq!(rt; lines.next(&mut source), Err(LineFault::ReadFault));
     assert_eq!(rt; lines.next(&mut source), Ok(Line::Whole));
     assert_eq!(rt; lines.text(), b"aa".as_slice());
+    drop(source);
     assert_eq!(rt; failing.calls, 4);
     assert_eq!(rt; failing.asked, 65_536);
 }

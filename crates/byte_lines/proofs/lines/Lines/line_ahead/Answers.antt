@@ -31,5 +31,6 @@ returns-in_ok-extend-in-None-clause-looks c =
     ap (λ (a : BytesAhead). a.bytes) c.pass-in-None.ensures
     ∙ drop_all (length c.as_slice-ahead.result.now) c.self.inside.ahead.bytes (omega (arith, ap length c.as_slice-ahead.ensures)) in
     let reading : IsReading (the_view c.self.inside) = rw c.self.view_is c.requires in
+    let fits = c.self.invariant.begun_fits in
     rw (← c.self.view_is) (looks_none (the_view c.self.inside) c.extend-in-None.new.self.line c.pass-in-None.new.self.bytes
-    (c.extend-in-None.new.self.held + c.pass-in-None.new.self.held) reading none goes_on empty)
+    (c.extend-in-None.new.self.held + c.pass-in-None.new.self.held) reading fits none goes_on empty)

@@ -1,4 +1,5 @@
 use Rattle.std.proofs.Common.{◌≡◌, ◌-◌, ◌≤◌, [], true}
+use Rattle.byte_lines.specs.Answers.{HasTaken}
 use Rattle.byte_lines.specs.Pieces.{has_feed}
 use Rattle.byte_lines.specs.Turns.{Gives}
 use Rattle.byte_lines.proofs.lines.Lines.read_line.Given as goal
@@ -10,6 +11,7 @@ invariant-loop-line g l = record {
   grows : l.fn.self.taken ≤ l.self.taken;
   within : l.self.taken ≤ l.self.stream_max;
   gives : Gives l.fn.self l.self (g.S.Source.left l.fn.source) (g.S.Source.left l.source) [];
+  took : HasTaken l.fn.self l.self (g.S.Source.left l.fn.source) (g.S.Source.left l.source) [];
   fresh : has_feed l.fn.self.ahead ≡ true → l.self ≡ l.fn.self;
   counts : g.S.Source.faults l.source ≡ g.S.Source.faults l.fn.source;
   asks : has_feed l.fn.self.ahead ≡ true → l.source ≡ l.fn.source;
