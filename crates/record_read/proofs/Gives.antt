@@ -1,5 +1,5 @@
 -- What a reading gives has a property: how a property of the parts becomes one of the whole, of a list and of a field.
-use Rattle.std.proofs.Common.{◌≡◌, ℕ, Bool, true, false, cond, List, Option, Some, None, Result, Ok, Err, refl, not, ◌||◌, [], ◌∷◌, ◌++◌, length, map, ap, ◌∙◌, arith, length-append}
+use Rattle.std.proofs.Common.{◌≡◌, ℕ, Bool, true, false, cond, List, Option, Some, None, Result, Ok, Err, refl, ◌||◌, [], ◌∷◌, ◌++◌, length, map, ap, ◌∙◌, arith, length-append}
 use Rattle.std.specs.Prelude.{IfOk, nat_le, unwrap_or}
 use Rattle.serde_json.specs.Data.{Data, Items, no_items, item}
 use Rattle.maps.specs.Words.{none_or, repeats}

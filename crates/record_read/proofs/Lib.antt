@@ -2,3 +2,4 @@ pub mod Json
 pub mod Gives
 pub mod KindsGive
 pub mod RecordsGive
+pub mod Walks

@@ -20,10 +20,10 @@ use Rattle.json_fields.specs.Entries.{needed_in}
 use Rattle.json_fields.specs.Kinds.{text_in, bool_in, u64_in, u32_in, hash28_in, hash32_in, credential_in, account_in, ref_in, tx_id_in}
 use Rattle.json_fields.specs.Steps.{or_fault}
 use Rattle.record_read.specs.declared.fault.RecordFault.{RecordFault}
-use Rattle.record_read.specs.declared.fault.RecordFault.TheVariants.{BadJson}
 use Rattle.record_read.specs.Entries.{scripts_in, genesis_output_in, genesis_account_in, genesis_pool_in, proposal_in, vote_record_in}
 use Rattle.record_read.specs.Certs.{cert_in}
 use Rattle.record_read.specs.Fields.{needed, optional, defaulted}
+use Rattle.record_read.specs.LineFaults.{BadJson}
 use Rattle.record_read.specs.Lines.{json_of, record_of_line}
 use Rattle.record_read.specs.Reads.{ReadsRecord}
 use Rattle.record_read.specs.Records.{genesis_in, block_in, rewards_in, tx_in, what_in, print_in, record_of_kind, record_by}

@@ -18,14 +18,13 @@ use Rattle.json_fields.specs.Entries.{needed_in, both_in}
 use Rattle.json_fields.specs.Kinds.{text_in, bool_in, u64_in, u32_in, hash28_in, hash32_in, credential_in, account_in, ref_in, tx_id_in}
 use Rattle.json_fields.specs.Steps.{◌>>=◌}
 use Rattle.action_read.specs.Params.{params_in}
-use Rattle.record_read.specs.declared.fault.RecordFault.{RecordFault}
-use Rattle.record_read.specs.declared.fault.RecordFault.TheVariants.{UnknownKind}
 use Rattle.record_read.specs.Certs.{cert_in}
 use Rattle.record_read.specs.Entries.{slot_in, network_in, epoch_length_in, genesis_version_in, scripts_in, committee_in, genesis_output_in, genesis_account_in, genesis_pool_in, genesis_drep_in, output_in, proposal_in, vote_record_in}
 use Rattle.record_read.specs.Fields.{needed, optional, defaulted, needed_list, needed_distinct_list, optional_list, optional_distinct_list}
+use Rattle.record_read.specs.LineFaults.{LineFault, UnknownKind}
 
 -- the ledger at the start
-unfoldable pub genesis_in : Data → Result Genesis RecordFault
+unfoldable pub genesis_in : Data → Result Genesis LineFault
 genesis_in d = do
   network ← needed fields.Network network_in d
   slot ← needed fields.Slot slot_in d
@@ -61,14 +60,14 @@ genesis_in d = do
   })
 
 -- a block
-unfoldable pub block_in : Data → Result Record RecordFault
+unfoldable pub block_in : Data → Result Record LineFault
 block_in d = do
   slot ← needed fields.Slot slot_in d
   pulse ← needed fields.Pulse u32_in d
   Ok (records.Block slot pulse)
 
 -- a reward update
-unfoldable pub rewards_in : Data → Result Rewards RecordFault
+unfoldable pub rewards_in : Data → Result Rewards LineFault
 rewards_in d = do
   epoch ← needed fields.Epoch u64_in d
   from_reserves ← needed fields.FromReserves u64_in d
@@ -78,7 +77,7 @@ rewards_in d = do
   Ok (record { epoch = epoch; from_reserves = from_reserves; from_fees = from_fees; to_treasury = to_treasury; rewards = rewards })
 
 -- a transaction
-unfoldable pub tx_in : Data → Result Tx RecordFault
+unfoldable pub tx_in : Data → Result Tx LineFault
 tx_in d = do
   id ← needed fields.Id tx_id_in d
   inputs ← needed_list fields.Inputs TX_LIST_LIMIT ref_in d
@@ -128,13 +127,13 @@ abbrev pub what_in : Data → Result What FieldFault
 what_in d = text_in d >>= what_of
 
 -- a print
-unfoldable pub print_in : Data → Result Record RecordFault
+unfoldable pub print_in : Data → Result Record LineFault
 print_in d = do
   what ← needed fields.What what_in d
   Ok (records.Print what)
 
 -- by the word of its kind
-abbrev pub record_of_kind : List ℕ → Data → Result Record RecordFault
+abbrev pub record_of_kind : List ℕ → Data → Result Record LineFault
 record_of_kind kind d =
     if bytes_eq kind (codes "genesis") then (genesis_in d >>= λ g. Ok (records.Genesis g)) else
     if bytes_eq kind (codes "block") then block_in d else
@@ -144,10 +143,10 @@ record_of_kind kind d =
     Err UnknownKind
 
 -- by what its kind reads as
-abbrev pub record_by : Result (List ℕ) FieldFault → Data → Result Record RecordFault
+abbrev pub record_by : Result (List ℕ) FieldFault → Data → Result Record LineFault
 record_by (Ok kind) d = record_of_kind kind d
 record_by (Err fault) d = Err UnknownKind
 
 -- a record of any kind
-abbrev pub record_in : Data → Result Record RecordFault
+abbrev pub record_in : Data → Result Record LineFault
 record_in d = record_by (needed_in (codes "kind") text_in d) d

@@ -1,6 +1,7 @@
 ghost use Rattle.std.specs.Prelude.{◌≡◌};
 
 use coin_frac::NoMemory;
+use std::alloc::AllocError;
 use tx_records::FieldName;
 
 /// Why a line gives no record. (Own)
@@ -22,6 +23,16 @@ impl From<NoMemory> for RecordFault {
     ghost from_gives = { λ _ e. e ≡ faults.NoMemory };
 
     fn from(_error: NoMemory) -> RecordFault {
+        RecordFault::NoMemory
+    }
+}
+
+impl From<AllocError> for RecordFault {
+    ghost use Rattle.record_read.specs.declared.fault.RecordFault.TheVariants as faults;
+
+    ghost from_gives = { λ _ e. e ≡ faults.NoMemory };
+
+    fn from(_error: AllocError) -> RecordFault {
         RecordFault::NoMemory
     }
 }

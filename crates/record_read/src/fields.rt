@@ -5,10 +5,10 @@ ghost use Rattle.record_read.specs.Fields.{needed, optional, defaulted, needed_l
 ghost use Rattle.record_read.specs.Reads.{ReadsRecord};
 
 use crate::fault::RecordFault;
+use crate::members::Members;
 use gov_ids::Named;
-use json_fields::{FieldFault, Kind, field, maybe, needed, read_distinct_list, read_list};
+use json_fields::{FieldFault, Kind, read_distinct_list, read_list};
 use listed::Listed;
-use serde_json::Value;
 use std::alloc::Global;
 use tx_records::FieldName;
 
@@ -25,29 +25,41 @@ fn fault_in(name: FieldName, place: Option<u32>, fault: FieldFault) -> RecordFau
 /// A field that has to be there.
 pub fn needed_field<K: Kind>(
     alloc: Global,
-    object: &Value,
+    object: &Members<'_>,
     name: FieldName,
 ) -> Result<K::Entry, RecordFault>
     ensures { ReadsRecord result (needed name K.reading (view object.now)) }
 {
-    needed::<K>(alloc, object, name.text()).map_err(|fault| fault_in(name, None, fault))
+    let value = object
+        .field(name)
+        .map_err(|fault| fault_in(name, None, fault))?;
+    K::read(alloc, value).map_err(|fault| fault_in(name, None, fault))
 }
 
 /// A field that may be absent or null.
 pub fn optional_field<K: Kind>(
     alloc: Global,
-    object: &Value,
+    object: &Members<'_>,
     name: FieldName,
 ) -> Result<Option<K::Entry>, RecordFault>
     ensures { ReadsRecord result (optional name K.reading (view object.now)) }
 {
-    maybe::<K>(alloc, object, name.text()).map_err(|fault| fault_in(name, None, fault))
+    let found = object
+        .optional_field(name)
+        .map_err(|fault| fault_in(name, None, fault))?;
+    match found {
+        Some(value) => {
+            let entry = K::read(alloc, value).map_err(|fault| fault_in(name, None, fault))?;
+            Ok(Some(entry))
+        }
+        None => Ok(None),
+    }
 }
 
 /// A field that counts as `default` where it is absent or null.
 pub fn defaulted_field<K: Kind>(
     alloc: Global,
-    object: &Value,
+    object: &Members<'_>,
     name: FieldName,
     default: K::Entry,
 ) -> Result<K::Entry, RecordFault>
@@ -60,20 +72,22 @@ pub fn defaulted_field<K: Kind>(
 /// A list of at most `limit` entries, in a field that has to be there.
 pub fn needed_list<K: Kind>(
     alloc: Global,
-    object: &Value,
+    object: &Members<'_>,
     name: FieldName,
     limit: u32,
 ) -> Result<Listed<K::Entry>, RecordFault>
     ensures { ReadsRecord result (needed_list name limit K.reading (view object.now)) }
 {
-    let value = field(object, name.text()).map_err(|fault| fault_in(name, None, fault))?;
+    let value = object
+        .field(name)
+        .map_err(|fault| fault_in(name, None, fault))?;
     read_list::<K>(alloc, limit, value).map_err(|error| fault_in(name, error.place, error.fault))
 }
 
 /// The same, each entry with a name of its own.
 pub fn needed_distinct_list<K: Kind>(
     alloc: Global,
-    object: &Value,
+    object: &Members<'_>,
     name: FieldName,
     limit: u32,
 ) -> Result<Listed<K::Entry>, RecordFault>
@@ -81,7 +95,9 @@ where
     K::Entry: Named,
     ensures { ReadsRecord result (needed_distinct_list name K.Entry.Name.order K.Entry.name limit K.reading (view object.now)) }
 {
-    let value = field(object, name.text()).map_err(|fault| fault_in(name, None, fault))?;
+    let value = object
+        .field(name)
+        .map_err(|fault| fault_in(name, None, fault))?;
     read_distinct_list::<K>(alloc, limit, value).map_err(|error| fault_in(
         name,
         error.place,
@@ -92,15 +108,15 @@ where
 /// A list of at most `limit` entries, in a field that may be absent or null.
 pub fn optional_list<K: Kind>(
     alloc: Global,
-    object: &Value,
+    object: &Members<'_>,
     name: FieldName,
     limit: u32,
 ) -> Result<Listed<K::Entry>, RecordFault>
     ensures { ReadsRecord result (optional_list name limit K.reading (view object.now)) }
 {
-    let found = json_fields::optional_field(object, name.text()).map_err(|fault| fault_in(
-        name, None, fault,
-    ))?;
+    let found = object
+        .optional_field(name)
+        .map_err(|fault| fault_in(name, None, fault))?;
     match found {
         Some(value) => {
             read_list::<K>(alloc, limit, value).map_err(|error| fault_in(
@@ -116,7 +132,7 @@ pub fn optional_list<K: Kind>(
 /// The same, each entry with a name of its own.
 pub fn optional_distinct_list<K: Kind>(
     alloc: Global,
-    object: &Value,
+    object: &Members<'_>,
     name: FieldName,
     limit: u32,
 ) -> Result<Listed<K::Entry>, RecordFault>
@@ -124,9 +140,9 @@ where
     K::Entry: Named,
     ensures { ReadsRecord result (optional_distinct_list name K.Entry.Name.order K.Entry.name limit K.reading (view object.now)) }
 {
-    let found = json_fields::optional_field(object, name.text()).map_err(|fault| fault_in(
-        name, None, fault,
-    ))?;
+    let found = object
+        .optional_field(name)
+        .map_err(|fault| fault_in(name, None, fault))?;
     match found {
         Some(value) => read_distinct_list::<K>(alloc, limit, value).map_err(|error| fault_in(
             name,

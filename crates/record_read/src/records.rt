@@ -16,9 +16,12 @@ use crate::fields::{
     defaulted_field, needed_distinct_list, needed_field, needed_list, optional_distinct_list,
     optional_field, optional_list,
 };
+use crate::members::Members;
 use action_read::ParamsField;
 use gov_ids::{Account, Credential, OutRef, TxId};
-use json_fields::{FieldFault, Kind, field, read_text};
+use json_fields::{FieldFault, Kind, read_text};
+use listed::Boxed;
+use out_refs::OutRefs;
 use serde_json::Value;
 use std::alloc::Global;
 use tx_records::limits::{LIST_LIMIT, OUTPUT_LIMIT, TX_LIST_LIMIT};
@@ -26,7 +29,7 @@ use tx_records::{FieldName, Genesis, Record, Rewards, Scripts, Tx, What};
 
 /// The ledger at the start.
 #[tactic(auto, unfolding(crate::specs::Records::genesis_in))]
-fn genesis(alloc: Global, object: &Value) -> Result<Genesis, RecordFault>
+fn genesis(alloc: Global, object: &Members<'_>) -> Result<Genesis, RecordFault>
     ensures { ReadsRecord result (genesis_in (view object.now)) }
 {
     let network = needed_field::<Network>(alloc, object, FieldName::Network)?;
@@ -65,7 +68,7 @@ fn genesis(alloc: Global, object: &Value) -> Result<Genesis, RecordFault>
 
 /// A block.
 #[tactic(auto, unfolding(crate::specs::Records::block_in))]
-fn block(alloc: Global, object: &Value) -> Result<Record, RecordFault>
+fn block(alloc: Global, object: &Members<'_>) -> Result<Record, RecordFault>
     ensures { ReadsRecord result (block_in (view object.now)) }
 {
     let slot = needed_field::<Slot>(alloc, object, FieldName::Slot)?;
@@ -75,7 +78,7 @@ fn block(alloc: Global, object: &Value) -> Result<Record, RecordFault>
 
 /// A reward update.
 #[tactic(auto, unfolding(crate::specs::Records::rewards_in))]
-fn rewards(alloc: Global, object: &Value) -> Result<Rewards, RecordFault>
+fn rewards(alloc: Global, object: &Members<'_>) -> Result<Rewards, RecordFault>
     ensures { ReadsRecord result (rewards_in (view object.now)) }
 {
     let epoch = needed_field::<u64>(alloc, object, FieldName::Epoch)?;
@@ -99,7 +102,7 @@ fn rewards(alloc: Global, object: &Value) -> Result<Rewards, RecordFault>
 
 /// A transaction.
 #[tactic(auto, unfolding(crate::specs::Records::tx_in))]
-fn tx(alloc: Global, object: &Value) -> Result<Tx, RecordFault>
+fn tx(alloc: Global, object: &Members<'_>) -> Result<Tx, RecordFault>
     ensures { ReadsRecord result (tx_in (view object.now)) }
 {
     let id = needed_field::<TxId>(alloc, object, FieldName::Id)?;
@@ -137,7 +140,7 @@ fn tx(alloc: Global, object: &Value) -> Result<Tx, RecordFault>
     let votes = optional_list::<VoteEntry>(alloc, object, FieldName::Votes, TX_LIST_LIMIT)?;
     Ok(Tx {
         id,
-        inputs,
+        inputs: OutRefs::from_vec(alloc, inputs.into_vec())?,
         outputs,
         fee,
         size,
@@ -146,7 +149,7 @@ fn tx(alloc: Global, object: &Value) -> Result<Tx, RecordFault>
         scripts,
         from,
         until,
-        collateral,
+        collateral: OutRefs::from_vec(alloc, collateral.into_vec())?,
         collateral_return,
         treasury,
         donation,
@@ -178,7 +181,7 @@ impl Kind for WhatField {
 
 /// A print.
 #[tactic(auto, unfolding(crate::specs::Records::print_in))]
-fn print(alloc: Global, object: &Value) -> Result<Record, RecordFault>
+fn print(alloc: Global, object: &Members<'_>) -> Result<Record, RecordFault>
     ensures { ReadsRecord result (print_in (view object.now)) }
 {
     let what = needed_field::<WhatField>(alloc, object, FieldName::What)?;
@@ -186,32 +189,33 @@ fn print(alloc: Global, object: &Value) -> Result<Record, RecordFault>
 }
 
 /// The record of this kind.
-fn record_of_kind(alloc: Global, kind: &str, object: &Value) -> Result<Record, RecordFault>
+fn record_of_kind(alloc: Global, kind: &str, object: &Members<'_>) -> Result<Record, RecordFault>
     ensures { ReadsRecord result (record_of_kind kind.now (view object.now)) }
 {
     match kind {
-        "genesis" => Ok(Record::Genesis(genesis(alloc, object)?)),
+        "genesis" => Ok(Record::Genesis(Boxed::new(alloc, genesis(alloc, object)?)?)),
         "block" => block(alloc, object),
         "rewards" => Ok(Record::Rewards(rewards(alloc, object)?)),
-        "tx" => Ok(Record::Tx(tx(alloc, object)?)),
+        "tx" => Ok(Record::Tx(Boxed::new(alloc, tx(alloc, object)?)?)),
         "print" => print(alloc, object),
         _ => Err(RecordFault::UnknownKind),
     }
 }
 
 /// The word of a record's kind.
-fn kind_of(object: &Value) -> Result<&str, FieldFault>
+fn kind_of<'a>(object: &Members<'a>) -> Result<&'a str, FieldFault>
     ensures { result_map_both (λ kind. kind.now) (λ e. e) result ≡ needed_in (codes "kind") text_in (view object.now) }
 {
-    read_text(field(object, "kind")?)
+    read_text(object.field(FieldName::Kind)?)
 }
 
 /// A record of any kind.
 pub fn record(alloc: Global, object: &Value) -> Result<Record, RecordFault>
     ensures { ReadsRecord result (record_in (view object.now)) }
 {
-    match kind_of(object) {
-        Ok(kind) => record_of_kind(alloc, kind, object),
+    let object = Members::new(object);
+    match kind_of(&object) {
+        Ok(kind) => record_of_kind(alloc, kind, &object),
         Err(_) => Err(RecordFault::UnknownKind),
     }
 }

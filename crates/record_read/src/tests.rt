@@ -12,13 +12,22 @@ fn reads_a_record(rt: HostRuntime) -> Result<(), Fail> {
     assert!(rt; matches!(block, Some(Record::Block { slot: 5, pulse: 3 })));
     let print = read_record(rt.alloc(), br#"{"kind":"print","what":"state"}"#).ok();
     assert!(rt; matches!(print, Some(Record::Print(What::State))));
+    // of two fields of one name the last counts
+    let twice = br#"{"what":"pots","kind":"block","kind":"print","what":"state"}"#;
+    assert!(rt;
+        matches!(
+            read_record(rt.alloc(), twice).ok(),
+            Some(Record::Print(What::State))
+        )
+    );
     Ok(())
 }
 
 #[test]
 fn reads_a_genesis(rt: HostRuntime) {
     match read_record(rt.alloc(), GENESIS) {
-        Ok(Record::Genesis(mut genesis)) => {
+        Ok(Record::Genesis(genesis)) => {
+            let mut genesis = genesis.into_value();
             assert!(rt; genesis.is_within_limits());
             genesis.version = (9, 0);
             assert!(rt; !genesis.is_within_limits());
@@ -51,6 +60,8 @@ fn names_the_fault(rt: HostRuntime) {
         ),
         (r#"{"kind":"block","slot":5}"#, bad(FieldName::Pulse)),
         (r#"{"kind":"print","what":"all"}"#, bad(FieldName::What)),
+        (r#"{"kind":"print","what":null}"#, bad(FieldName::What)),
+        (r#"{"id":null,"kind":"tx"}"#, bad(FieldName::Id)),
     ];
     for (line, fault) in table {
         let found = read_record(rt.alloc(), line.as_bytes()).err();

@@ -2,7 +2,8 @@
 use super::*;
 use crate::limits::SLOT_LIMIT;
 use gov_ids::{Account, CredKind, Credential, TxId};
-use listed::Listed;
+use listed::{Boxed, Listed};
+use out_refs::OutRefs;
 use std::alloc::{AllocError, Global};
 use std::test::Fail;
 
@@ -22,7 +23,7 @@ fn transaction(
 ) -> Result<Tx, AllocError> {
     Ok(Tx {
         id: TxId([1; 32]),
-        inputs: Listed::new(alloc),
+        inputs: OutRefs::new(alloc),
         outputs: Listed::new(alloc),
         fee: 0,
         size: 0,
@@ -31,7 +32,7 @@ fn transaction(
         scripts: Scripts::Absent,
         from: None,
         until: Some(until),
-        collateral: Listed::new(alloc),
+        collateral: OutRefs::new(alloc),
         collateral_return: None,
         treasury: None,
         donation: 0,
@@ -55,7 +56,8 @@ fn transactions(rt: HostRuntime) -> Result<(), Fail> {
     ] {
         let tx = transaction(alloc, until, withdrawals)?;
         assert_eq!(rt; tx.is_within_limits(alloc).ok(), Some(within));
-        assert_eq!(rt; Record::Tx(tx).is_within_limits(alloc).ok(), Some(within));
+        let record = Record::Tx(Boxed::new(alloc, tx)?);
+        assert_eq!(rt; record.is_within_limits(alloc).ok(), Some(within));
     }
     Ok(())
 }

@@ -12,6 +12,7 @@ use coin_frac::{NoMemory, Unit};
 use gov_actions::Action;
 use gov_ids::{Account, Credential, repeats_a_name};
 use listed::Listed;
+use out_refs::OutRefs;
 use pparams::{Params, Update};
 use std::alloc::Global;
 
@@ -20,6 +21,13 @@ pub fn is_at_most<T>(limit: u32, entries: &Listed<T>) -> bool
     ensures { result ≡ is_at_most limit entries.now }
 {
     entries.len() as u64 <= u64::from(limit)
+}
+
+/// The same of a list of references.
+pub fn are_at_most(limit: u32, refs: &OutRefs) -> bool
+    ensures { result ≡ is_at_most limit refs.now }
+{
+    refs.len() as u64 <= u64::from(limit)
 }
 
 /// Whether it may be a slot, a term or an expiry.

@@ -1,0 +1,159 @@
+//! The members of an object that a transaction's fields have names for, found in one walk.
+ghost use Rattle.std.specs.Prelude.{◌≡◌, option_map};
+ghost use Rattle.std.specs.Result.{result_map_both};
+ghost use Rattle.serde_json.specs.Find.{get};
+ghost use Rattle.serde_json.specs.View.{view, members_view};
+ghost use Rattle.json_fields.specs.Kinds.{field_in, optional_in};
+ghost use Rattle.tx_records.specs.FieldTexts.{text_of_field};
+ghost use Rattle.record_read.specs.Members.{place_of, place_of_name, FindsAmong};
+
+use json_fields::FieldFault;
+use serde_json::{Map, Value};
+use std::marker::Model;
+use tx_records::FieldName;
+
+/// How many names have a place.
+const PLACES: usize = 19;
+
+/// The members of an object by their places. Contracts see the object.
+#[derive(Drop)]
+pub struct Members<'a> {
+    object: &'a Value,
+    found: [Option<&'a Value>; PLACES],
+}
+
+impl<'a> Model for Members<'a> {
+    ghost use Rattle.serde_json.specs.contracts.value.Value as value;
+    ghost use Rattle.serde_json.specs.declared.value.Value as declared;
+    ghost use Rattle.std.specs.Coded.{codes};
+    ghost use Rattle.record_read.specs.Members.{Finds};
+
+    ghost Value = { declared.Value };
+
+    ghost coded = { Prim.hlevel (codes, value.the_row.coded) };
+
+    ghost view = { λ a. a.object.now };
+
+    ghost invariant = { λ a. Finds a.object.now a.found };
+}
+
+/// The place of a name, from 0, where a transaction has a field of that name.
+fn place_of(text: &str) -> Option<usize>
+    ensures { result ≡ place_of text.now }
+{
+    match text {
+        "kind" => Some(0),
+        "id" => Some(1),
+        "inputs" => Some(2),
+        "outputs" => Some(3),
+        "fee" => Some(4),
+        "size" => Some(5),
+        "scriptFee" => Some(6),
+        "witnessed" => Some(7),
+        "scripts" => Some(8),
+        "from" => Some(9),
+        "until" => Some(10),
+        "collateral" => Some(11),
+        "collateralReturn" => Some(12),
+        "treasury" => Some(13),
+        "donation" => Some(14),
+        "withdrawals" => Some(15),
+        "certs" => Some(16),
+        "proposals" => Some(17),
+        "votes" => Some(18),
+        _ => None,
+    }
+}
+
+/// The same of a field's name, with no text to compare.
+fn place_of_name(name: FieldName) -> Option<usize>
+    ensures { result ≡ place_of_name name }
+{
+    match name {
+        FieldName::Kind => Some(0),
+        FieldName::Id => Some(1),
+        FieldName::Inputs => Some(2),
+        FieldName::Outputs => Some(3),
+        FieldName::Fee => Some(4),
+        FieldName::Size => Some(5),
+        FieldName::ScriptFee => Some(6),
+        FieldName::Witnessed => Some(7),
+        FieldName::Scripts => Some(8),
+        FieldName::From => Some(9),
+        FieldName::Until => Some(10),
+        FieldName::Collateral => Some(11),
+        FieldName::CollateralReturn => Some(12),
+        FieldName::Treasury => Some(13),
+        FieldName::Donation => Some(14),
+        FieldName::Withdrawals => Some(15),
+        FieldName::Certs => Some(16),
+        FieldName::Proposals => Some(17),
+        FieldName::Votes => Some(18),
+        _ => None,
+    }
+}
+
+/// The first member of each name that has a place.
+fn found_among<'a>(map: &'a Map<String, Value>) -> [Option<&'a Value>; PLACES]
+    ensures { FindsAmong (members_view map.now.entries) result }
+{
+    let mut found: [Option<&'a Value>; PLACES] = [None; PLACES];
+    for (key, value) in map {
+        if let Some(place) = place_of(key.as_str()) {
+            if found[place].is_none() {
+                found[place] = Some(value);
+            }
+        }
+    }
+    found
+}
+
+impl<'a> Members<'a> {
+    /// The members of a value; none where it is no object.
+    pub fn new(object: &'a Value) -> Members<'a>
+        ensures { result ≡ object.now }
+    {
+        let found = match object.as_object() {
+            Some(map) => found_among(map),
+            None => [None; PLACES],
+        };
+        Members { object, found }
+    }
+
+    /// The value of the name, if the object has it.
+    fn get(&self, name: FieldName) -> Option<&'a Value>
+        ensures { option_map (λ v. view v.now) result ≡ get (text_of_field name) (view self.now) }
+    {
+        match place_of_name(name) {
+            Some(place) => {
+                let found = &self.found[..];
+                found[place]
+            }
+            None => self.object.get(name.text()),
+        }
+    }
+
+    /// The value of the object's field; a null one counts as absent.
+    pub fn field(&self, name: FieldName) -> Result<&'a Value, FieldFault>
+        ensures { result_map_both (λ v. view v.now) (λ e. e) result ≡ field_in (text_of_field name) (view self.now) }
+    {
+        if !self.object.is_object() {
+            return Err(FieldFault::WrongKind);
+        }
+        match self.get(name) {
+            Some(value) if !value.is_null() => Ok(value),
+            _ => Err(FieldFault::Missing),
+        }
+    }
+
+    /// The value of the object's field, if it has one; a null one counts as absent.
+    pub fn optional_field(&self, name: FieldName) -> Result<Option<&'a Value>, FieldFault>
+        ensures { result_map_both (option_map (λ v. view v.now)) (λ e. e) result ≡ optional_in (text_of_field name) (view self.now) }
+    {
+        match self.field(name) {
+            Ok(value) => Ok(Some(value)),
+            Err(FieldFault::Missing) => Ok(None),
+            Err(fault) => Err(fault),
+        }
+    }
+}
