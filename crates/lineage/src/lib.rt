@@ -2,8 +2,10 @@
 #![tactic(auto)]
 
 mod follows;
+mod kept;
 
 pub use follows::{follows_version, may_follow};
+pub use kept::kept_after;
 
 #[cfg(test)]
 mod tests;

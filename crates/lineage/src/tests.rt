@@ -168,3 +168,47 @@ fn tells_which_version_follows(rt: HostRuntime) -> Result<(), Fail> {
     }
     Ok(())
 }
+
+// Hard forks 2, 3, 4 in a chain, and 8 before the 7 that it follows; one of another purpose, and one of none.
+fn forks_and_others(rt: &impl Abort, alloc: Global) -> Result<ProposalStore, Fail> {
+    let mut store = ProposalStore::new(alloc);
+    let forks = [(2, 1), (3, 2), (4, 3), (8, 7), (7, 1)];
+    for (byte, previous) in &forks {
+        let action = fork(Some(id(*previous)), (11, 0));
+        add(rt, &mut store, alloc, *byte, action)?;
+    }
+    let action = Action::NoConfidence { previous: None };
+    add(rt, &mut store, alloc, 5, action)?;
+    add(rt, &mut store, alloc, 6, Action::Info)?;
+    Ok(store)
+}
+
+// The ids of these bytes are those that stay.
+fn stays(
+    rt: &impl Abort,
+    alloc: Global,
+    leaving: (u8, u8),
+    last: &LastIds,
+    bytes: &[u8],
+) -> Result<(), Fail> {
+    let store = forks_and_others(rt, alloc)?;
+    let kept = kept_after(alloc, &store, &[id(leaving.0)], &[id(leaving.1)], last)?;
+    let mut found = Vec::new(alloc);
+    for kept_id in &kept {
+        found.push(kept_id.tx.0[0])?;
+    }
+    assert_eq!(rt; found.as_slice(), bytes);
+    Ok(())
+}
+
+// Enacted, expired (0 is none of them) and the last hard fork, and what stays.
+#[test]
+fn tells_which_proposals_stay(rt: HostRuntime) -> Result<(), Fail> {
+    let mut last = state()?.last;
+    stays(&rt, rt.alloc(), (0, 0), &last, &[2, 3, 4, 8, 7, 5, 6])?;
+    stays(&rt, rt.alloc(), (0, 3), &last, &[2, 8, 7, 5, 6])?;
+    stays(&rt, rt.alloc(), (5, 7), &last, &[2, 3, 4, 6])?;
+    last.hardfork = Some(id(2));
+    stays(&rt, rt.alloc(), (2, 0), &last, &[3, 4, 5, 6])?;
+    Ok(())
+}
