@@ -1,0 +1,108 @@
+-- A visit keeps what a count has to do with its snapshot.
+use Rattle.std.proofs.Common.{◌≡◌, ℕ, ◌+◌, ◌^◌, ◌<◌, ◌≤◌, List, Bool, true, false, cond, filter, take, slice_get, Option, Some, None, option_map, is_some, unwrap_or, sum_by, refl, ap, sym, ◌∙◌, add-one, arith}
+use Rattle.std.specs.Option.{option_and_then}
+use Rattle.std.specs.Ordering.{eq_by_cmp}
+use Rattle.std.proofs.lemmas.Option.{slice_get_within}
+use Rattle.gov_ids.specs.declared.Credential.{Credential}
+use Rattle.gov_ids.specs.declared.Drep.{Drep}
+use Rattle.gov_ids.specs.Orders.{credential_cmp, drep_cmp}
+use Rattle.gov_ids.specs.Same.{same_drep}
+use Rattle.gov_ids.proofs.Totals.{drep_total}
+use Rattle.book_records.specs.declared.Entry.{Entry}
+use Rattle.book_records.specs.declared.Registered.{Registered}
+use Rattle.maps.proofs.Lookups.{value_at-changed_at}
+use Rattle.maps.specs.Maps.{IsMap, value_at, has_key}
+use Rattle.maps.specs.Words.{amount, holds, some_and}
+use Rattle.gov_model.specs.Snapshot.{Snapshot}
+use Rattle.gov_model.specs.Stake.{weight_of, votes_by, is_frozen_drep, drep_stake_of_first}
+use Rattle.drep_pulser.specs.Count.{Count, sum_for}
+use Rattle.drep_pulser.specs.Facts.{IsCountOf, cursor_at}
+use Rattle.drep_pulser.specs.Visits.{weight_by, drep_of, with_more, visited}
+use Rattle.drep_pulser.proofs.Walking.{cut_at, took_at}
+use Rattle.drep_pulser.proofs.Covered.{weighed, within, with_next}
+
+same_there : (b : Bool) (n : ℕ) (v : Option ℕ) → is_some (cond b (option_map (λ s. s + n) v) v) ≡ is_some v
+same_there true n None = refl
+same_there true n (Some s) = refl
+same_there false n v = refl
+
+-- the same DReps have sums
+more_keys : (x : Option Drep) (n : ℕ) (sums : List (Drep × ℕ)) (q : Drep) → has_key drep_cmp (with_more x n sums) q ≡ has_key drep_cmp sums q
+more_keys None n sums q = refl
+more_keys (Some d) n sums q =
+    ap (λ (v : Option ℕ). is_some v) (value_at-changed_at drep_total d (λ s. s + n) sums q) ∙ same_there (eq_by_cmp drep_cmp d q) n (value_at drep_cmp sums q)
+
+more_there : (b : Bool) (n : ℕ) (v : Option ℕ) → unwrap_or (cond b (option_map (λ s. s + n) v) v) 0 ≡ cond (is_some v) (unwrap_or v 0 + cond b n 0) 0
+more_there true n None = refl
+more_there true n (Some s) = refl
+more_there false n None = refl
+more_there false n (Some s) = omega arith
+
+-- more for those that it is for, and that have a sum
+more_sums : (x : Option Drep) (n : ℕ) (sums : List (Drep × ℕ)) (q : Drep) → sum_for (with_more x n sums) q ≡ cond (has_key drep_cmp sums q) (sum_for sums q + cond (holds same_drep x q) n 0) 0
+more_sums None n sums q = more_there false n (value_at drep_cmp sums q)
+more_sums (Some d) n sums q =
+    ap (λ (v : Option ℕ). unwrap_or v 0) (value_at-changed_at drep_total d (λ s. s + n) sums q) ∙ more_there (eq_by_cmp drep_cmp d q) n (value_at drep_cmp sums q)
+
+-- what an entry of a registered account weighs
+pub weight_is : (e : Credential × Entry) (r : Registered) (deposits : List (Credential × ℕ)) (n : ℕ) → e.1.registered ≡ Some r → n ≡ unwrap_or (value_at credential_cmp deposits e.0) 0 → e.1.stake + r.rewards + n ≡ weight_by deposits e
+weight_is e r deposits n p q = λ i. e.1.stake + amount (λ (r : Registered). r.rewards) (sym p i) + q i
+
+votes_is : (q : Drep) (e : Credential × Entry) → votes_by q e ≡ holds same_drep (drep_of e.1) q
+votes_is q e =
+    elim e.1.registered as (λ x. some_and (λ (r : Registered). holds same_drep r.drep q) x ≡ holds same_drep (option_and_then (λ (r : Registered). r.drep) x) q) [ None ↦ refl | Some r ↦ refl ]
+
+joined : (b : Bool) (s S x T : ℕ) → s ≡ cond b S 0 → S + x ≡ T → cond b (s + x) 0 ≡ cond b T 0
+joined true s S x T p q = omega (arith, p, q)
+joined false s S x T p q = refl
+
+module _ (f : Snapshot) (k : Count) (c : IsCountOf f k) where
+  weights_are : weight_by k.deposits ≡ weight_of f
+  weights_are i e = e.1.stake + amount (λ (r : Registered). r.rewards) e.1.registered + c.deposits e.0 i
+
+  module _ (e : Credential × Entry) (m : slice_get f.entries k.done ≡ Some e) where
+    sums_next : (q : Drep) → sum_for (with_more (drep_of e.1) (weight_by k.deposits e) k.sums) q ≡ drep_stake_of_first (k.done + 1) f q
+    sums_next q =
+        let w = weight_by k.deposits e in
+        let front : ℕ = sum_by (weight_of f) (filter (votes_by q) (take k.done f.entries)) in
+        let here : w ≡ weight_of f e = ap (λ (g : Credential × Entry → ℕ). g e) weights_are in
+        let next : sum_by (weight_of f) (filter (votes_by q) (take (k.done + 1) f.entries)) ≡ front + cond (votes_by q e) (weight_of f e) 0 =
+        ap (λ (n : ℕ). sum_by (weight_of f) (filter (votes_by q) (take n f.entries))) (add-one k.done)
+        ∙ ap (λ (l : List (Credential × Entry)). sum_by (weight_of f) (filter (votes_by q) l)) (took_at f.entries k.done e m)
+        ∙ with_next (weight_of f) (votes_by q) (take k.done f.entries) e in
+        let gained : cond (holds same_drep (drep_of e.1) q) w 0 ≡ cond (votes_by q e) (weight_of f e) 0 = λ i. cond (sym (votes_is q e) i) (here i) 0 in
+        more_sums (drep_of e.1) w k.sums q
+        ∙ ap (λ b. cond b (sum_for k.sums q + cond (holds same_drep (drep_of e.1) q) w 0) 0) (c.dreps q)
+        ∙ joined (is_frozen_drep f q) (sum_for k.sums q) front (cond (holds same_drep (drep_of e.1) q) w 0) _ (c.sums q) (ap (λ (n : ℕ). front + n) gained ∙ sym next)
+
+    pub count_kept : IsCountOf f (visited e k)
+    count_kept = record {
+      total = c.total;
+      done = omega (arith, slice_get_within f.entries k.done e m, c.total);
+      cursor = sym (ap (λ (n : ℕ). cursor_at n f.entries) (add-one k.done) ∙ ap (λ (x : Option (Credential × Entry)). option_map (λ e. e.0) x) m);
+      dreps = λ q. more_keys (drep_of e.1) (weight_by k.deposits e) k.sums q ∙ c.dreps q;
+      sums = sums_next;
+      deposits = c.deposits;
+      countable = c.countable;
+    }
+
+    part : (b : Bool) (n : ℕ) → cond b n 0 ≤ n
+    part true n = omega arith
+    part false n = omega arith
+
+    all_within : IsMap credential_cmp k.deposits → sum_by (weight_by k.deposits) f.entries < 2 ^ 64
+    all_within g = omega (arith, weighed f.entries k.deposits g c.countable, c.countable.room)
+
+    pub weight_fits : IsMap credential_cmp k.deposits → weight_by k.deposits e < 2 ^ 64
+    weight_fits g = omega (arith, all_within g, within (weight_by k.deposits) (λ e. false) f.entries k.done e _ (cut_at f.entries k.done e m))
+
+    pub sum_fits : IsMap credential_cmp k.deposits → (d : Drep) → sum_for k.sums d + weight_by k.deposits e < 2 ^ 64
+    sum_fits g d =
+        omega (
+          arith,
+          all_within g,
+          c.sums d,
+          part (is_frozen_drep f d) (sum_by (weight_of f) (filter (votes_by d) (take k.done f.entries))),
+          ap (λ (w : Credential × Entry → ℕ). sum_by w (filter (votes_by d) (take k.done f.entries))) weights_are,
+          within (weight_by k.deposits) (votes_by d) f.entries k.done e _ (cut_at f.entries k.done e m),
+        )

@@ -1,0 +1,5 @@
+pub mod Walking
+pub mod Covered
+pub mod Kept
+pub mod Begun
+pub mod Advance

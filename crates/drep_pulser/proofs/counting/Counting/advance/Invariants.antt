@@ -1,0 +1,14 @@
+use Rattle.std.proofs.Common.{◌≡◌, ◌+◌}
+use Rattle.gov_ids.specs.Orders.{credential_cmp}
+use Rattle.gov_model.specs.Snapshot.{Snapshot}
+use Rattle.view_map.specs.View.{frozen_of}
+use Rattle.drep_pulser.specs.Facts.{IsCountOf}
+use Rattle.drep_pulser.proofs.counting.Counting.advance.Given as goal
+
+abbrev pub invariant-loop-visit : goal.invariant-loop-visit
+invariant-loop-visit g l = record {
+  counts : (f : Snapshot) → f.entries ≡ frozen_of credential_cmp l.book → IsCountOf f l.initial.self → IsCountOf f l.self;
+  done : l.self.done ≡ l.initial.self.done + l._visit;
+  total : l.self.total ≡ l.initial.self.total;
+  steps : l.steps ≡ l.initial.steps + l._visit;
+}

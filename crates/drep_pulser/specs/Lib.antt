@@ -1,0 +1,4 @@
+pub mod Count
+pub mod Facts
+pub mod Pulsers
+pub mod Visits
