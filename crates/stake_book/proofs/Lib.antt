@@ -1,3 +1,10 @@
-mod Sums
+mod Clearing
+mod Entering
 mod Kept
+mod Ended
 mod Moves
+mod Pools
+mod Registrations
+mod Rooms
+mod Sums
+mod Weights

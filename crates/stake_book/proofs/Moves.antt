@@ -1,21 +1,21 @@
 -- What a spent or an added output does to the stake of its stake part.
-use Rattle.std.proofs.Common.{◌≡◌, ℕ, ◌+◌, ◌-◌, ◌^◌, ◌<◌, ◌≤◌, List, Bool, true, false, cond, is_some, Option, Some, None, refl, ap, sym, ◌∙◌, arith}
+use Rattle.std.proofs.Common.{◌≡◌, ℕ, ◌+◌, ◌-◌, ◌≤◌, List, Bool, true, false, cond, is_some, Option, Some, None, refl, ap, sym, ◌∙◌, arith}
 use Rattle.std.proofs.lemmas.Cmp.{eq_by_cmp_equiv}
 use Rattle.gov_ids.specs.declared.Credential.{Credential}
 use Rattle.gov_ids.specs.declared.OutRef.{OutRef}
-use Rattle.gov_ids.specs.Orders.{credential_cmp, outref_cmp}
+use Rattle.gov_ids.specs.Orders.{outref_cmp}
 use Rattle.gov_ids.specs.Same.{same_credential}
 use Rattle.std.specs.Option.{option_and_then}
 use Rattle.maps.proofs.Lookups.{without_key_absent}
+use Rattle.maps.proofs.Sums.{sum_values-with_value_absent, sum_values-without_key}
 use Rattle.gov_ids.proofs.Totals.{outref_total}
 use Rattle.book_records.specs.declared.Output.{Output}
 use Rattle.maps.specs.Maps.{value_at, with_value, without_key}
 use Rattle.maps.specs.Words.{holds}
-use Rattle.view_map.specs.View.{IsInOrder}
 use Rattle.view_map.proofs.Entries.{without_key-with_value, no_entry}
 use Rattle.stake_book.specs.Stakes.{Stakes, AreKept, HasRoom, stake_at, stake_held, stake_part_at, with_stake, spent}
 use Rattle.stake_book.proofs.Kept.{HasMoved, itself, restaked, stake_kept}
-use Rattle.stake_book.proofs.Sums.{counts, held-without_key, held-with_value, held_within}
+use Rattle.stake_book.proofs.Sums.{counts, held-without_key, held-with_value}
 
 nothing : (b : Bool) → ◌≡◌ {A = ℕ} (cond b 0 0) 0
 nothing true = refl
@@ -34,9 +34,6 @@ own o c p = ap (λ (x : Option Credential). cond (holds same_credential x c) o.l
 pub spend_enough : (s : Stakes) (r : OutRef) (o : Output) → AreKept s → value_at outref_cmp s.outputs.outputs r ≡ Some o → (c : Credential) → o.address.stake ≡ Some c → o.lovelace ≤ stake_at s.accounts.live c
 spend_enough s r o k m c p = omega (arith, k.stakes c, held-without_key s.outputs.outputs r o c m, own o c p)
 
-pub stake_fits : (s : Stakes) (n : ℕ) → AreKept s → HasRoom n s → (c : Credential) → stake_at s.accounts.live c + n < 2 ^ 64
-stake_fits s n k w c = omega (arith, k.stakes c, held_within s.outputs.outputs c, w)
-
 -- no output is spent where there is none
 pub nothing_spent : (s : Stakes) (r : OutRef) → value_at outref_cmp s.outputs.outputs r ≡ None → spent r s ≡ s
 nothing_spent s r m =
@@ -52,9 +49,10 @@ module _ (s : Stakes) (r : OutRef) (o : Output) (k : AreKept s) where
   abbrev more : List (OutRef × Output)
   more = with_value outref_cmp r o s.outputs.outputs
 
-  pub spend_keeps : ((c : Credential) → o.address.stake ≡ Some c → IsInOrder credential_cmp s.accounts) → Some o ≡ value_at outref_cmp s.outputs.outputs r
-      → AreKept (record { outputs = record s.outputs { outputs = left }; accounts = with_stake o.address.stake (stake_held left) s.accounts })
-  spend_keeps h m = stake_kept o.address.stake 0 o.lovelace s.outputs (record s.outputs { outputs = left }) s.accounts (λ c p. (h c p).live) k (spend_moves s.outputs.outputs r o (sym m))
+  pub spend_keeps : Some o ≡ value_at outref_cmp s.outputs.outputs r → AreKept (record { outputs = record s.outputs { outputs = left }; accounts = with_stake o.address.stake (stake_held left) s.accounts })
+  spend_keeps m =
+      stake_kept o.address.stake 0 o.lovelace s.outputs (record s.outputs { outputs = left }) s.accounts k (spend_moves s.outputs.outputs r o (sym m))
+      (omega (arith, k.room, sum_values-without_key (λ (o : Output). o.lovelace) outref_cmp r o s.outputs.outputs (sym m)))
 
   pub spend_lowers : Some o ≡ value_at outref_cmp s.outputs.outputs r → with_stake o.address.stake (λ c. stake_at s.accounts.live c - o.lovelace) s.accounts ≡ with_stake o.address.stake (stake_held left) s.accounts
   spend_lowers m = restaked o.address.stake _ (stake_held left) s.accounts (λ c p. omega (arith, k.stakes c, held-without_key s.outputs.outputs r o c (sym m), own o c p))
@@ -62,9 +60,10 @@ module _ (s : Stakes) (r : OutRef) (o : Output) (k : AreKept s) where
   pub add_raises : value_at outref_cmp s.outputs.outputs r ≡ None → with_stake o.address.stake (λ c. stake_at s.accounts.live c + o.lovelace) s.accounts ≡ with_stake o.address.stake (stake_held more) s.accounts
   add_raises m = restaked o.address.stake _ (stake_held more) s.accounts (λ c p. omega (arith, k.stakes c, held-with_value s.outputs.outputs r o c m, own o c p))
 
-  pub add_keeps : ((c : Credential) → o.address.stake ≡ Some c → IsInOrder credential_cmp s.accounts) → value_at outref_cmp s.outputs.outputs r ≡ None
-      → AreKept (record { outputs = record s.outputs { outputs = more }; accounts = with_stake o.address.stake (stake_held more) s.accounts })
-  add_keeps h m = stake_kept o.address.stake o.lovelace 0 s.outputs (record s.outputs { outputs = more }) s.accounts (λ c p. (h c p).live) k (add_moves s.outputs.outputs r o m)
+  pub add_keeps : HasRoom o.lovelace s → value_at outref_cmp s.outputs.outputs r ≡ None → AreKept (record { outputs = record s.outputs { outputs = more }; accounts = with_stake o.address.stake (stake_held more) s.accounts })
+  add_keeps w m =
+      stake_kept o.address.stake o.lovelace 0 s.outputs (record s.outputs { outputs = more }) s.accounts k (add_moves s.outputs.outputs r o m)
+      (omega (arith, w, sum_values-with_value_absent (λ (o : Output). o.lovelace) outref_cmp r o s.outputs.outputs m))
 
   -- an output that is added and taken away again leaves nothing behind
   pub untouched : value_at outref_cmp s.outputs.outputs r ≡ None → without_key outref_cmp r more ≡ s.outputs.outputs

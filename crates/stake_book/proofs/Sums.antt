@@ -7,7 +7,6 @@ use Rattle.gov_ids.specs.declared.OutRef.{OutRef}
 use Rattle.gov_ids.specs.Orders.{outref_cmp}
 use Rattle.gov_ids.specs.Same.{same_credential}
 use Rattle.book_records.specs.declared.Output.{Output}
-use Rattle.book_records.specs.Outputs.{lovelace_in}
 use Rattle.maps.proofs.Sums.{sum_values-with_value_absent, sum_values-without_key}
 use Rattle.maps.specs.Maps.{value_at, with_value, without_key, entries_where, sum_values}
 use Rattle.maps.specs.Words.{holds}
@@ -20,7 +19,7 @@ counts c o = cond (holds same_credential o.address.stake c) o.lovelace 0
 abbrev lovelace : Output → ℕ
 lovelace o = o.lovelace
 
-held_is : (outputs : List (OutRef × Output)) (c : Credential) → stake_held outputs c ≡ sum_values (counts c) outputs
+pub held_is : (outputs : List (OutRef × Output)) (c : Credential) → stake_held outputs c ≡ sum_values (counts c) outputs
 held_is [] c = refl
 held_is (e ∷ outputs) c =
     elim (holds same_credential e.1.address.stake c) as (λ b. sum_values lovelace (cond b (e ∷ entries_where (λ r (o : Output). holds same_credential o.address.stake c) outputs) (entries_where (λ r (o : Output). holds same_credential o.address.stake c) outputs))
@@ -36,21 +35,6 @@ held-without_key outputs r o c m = omega (arith, held_is outputs c, held_is (wit
 pub held-with_value : (outputs : List (OutRef × Output)) (r : OutRef) (o : Output) (c : Credential) → value_at outref_cmp outputs r ≡ None → stake_held (with_value outref_cmp r o outputs) c ≡ stake_held outputs c + counts c o
 held-with_value outputs r o c m = omega (arith, held_is outputs c, held_is (with_value outref_cmp r o outputs) c, sum_values-with_value_absent (counts c) outref_cmp r o outputs m)
 
-at_most : (b : Bool) (n : ℕ) → cond b n 0 ≤ n
+pub at_most : (b : Bool) (n : ℕ) → cond b n 0 ≤ n
 at_most true n = omega arith
 at_most false n = omega arith
-
-counted_within : (outputs : List (OutRef × Output)) (c : Credential) → sum_values (counts c) outputs ≤ lovelace_in outputs
-counted_within [] c = omega arith
-counted_within (e ∷ outputs) c =
-    omega (
-      arith,
-      counted_within outputs c,
-      sum_by-cons (counts c) e.1 (values_of outputs),
-      sum_by-cons lovelace e.1 (values_of outputs),
-      at_most (holds same_credential e.1.address.stake c) e.1.lovelace,
-    )
-
--- the outputs hold no less than those of one stake part
-pub held_within : (outputs : List (OutRef × Output)) (c : Credential) → stake_held outputs c ≤ lovelace_in outputs
-held_within outputs c = omega (arith, held_is outputs c, counted_within outputs c)

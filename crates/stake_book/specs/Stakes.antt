@@ -1,19 +1,22 @@
 -- The outputs and the accounts, and that each account's stake is what its outputs hold. (UTxOState and DState of the formal specification; the running stake is own)
-use Rattle.std.specs.Prelude.{ℕ, ◌≡◌, ◌+◌, ◌≤◌, false, List, [], Option, Some, None}
+use Rattle.std.specs.Prelude.{ℕ, ◌≡◌, ◌+◌, ◌≤◌, Bool, false, List, [], Option, Some, None, option_map, sum_by, filter_map}
 use Rattle.std.specs.List.{All}
 use Rattle.std.specs.Map.{values_of}
 use Rattle.std.specs.Option.{option_and_then}
 use Rattle.gov_ids.specs.declared.Credential.{Credential}
 use Rattle.gov_ids.specs.declared.OutRef.{OutRef}
+use Rattle.gov_ids.specs.declared.PoolId.{PoolId}
 use Rattle.gov_ids.specs.declared.TxId.{TxId}
-use Rattle.gov_ids.specs.Orders.{credential_cmp, outref_cmp}
-use Rattle.gov_ids.specs.Same.{same_credential}
+use Rattle.gov_ids.specs.Orders.{credential_cmp, outref_cmp, pool_cmp}
+use Rattle.gov_ids.specs.Same.{same_credential, same_pool}
 use Rattle.book_records.specs.declared.Entry.{Entry}
 use Rattle.book_records.specs.declared.Output.{Output}
 use Rattle.book_records.specs.declared.Registered.{Registered}
 use Rattle.book_records.specs.Outputs.{lovelace_in}
-use Rattle.maps.specs.Maps.{value_at, with_value, without_key, entries_where, sum_values}
-use Rattle.maps.specs.Words.{amount, holds}
+use Rattle.tx_records.specs.declared.limits.TheConstants.{SUPPLY_LIMIT}
+use Rattle.ledger_model.specs.Changes.{delegates_to_drep, without_drep}
+use Rattle.maps.specs.Maps.{IsMap, value_at, with_value, without_key, has_member, changed_where, entries_where, sum_values}
+use Rattle.maps.specs.Words.{amount, holds, some_and}
 use Rattle.utxo_set.specs.Utxos.{Utxos}
 use Rattle.accounts.specs.Accounts.{Accounts, is_nothing, entered}
 
@@ -22,9 +25,37 @@ pub record Stakes : Type 0 where
   pub outputs : Utxos
   pub accounts : Accounts
 
+-- ---- what a book holds
+
+-- a registered entry, as its registration
+abbrev pub registration_in : Credential × Entry → Option (Credential × Registered)
+registration_in e = option_map (λ (r : Registered). (e.0, r)) e.1.registered
+
+-- the registrations of the registered entries, in order
+abbrev pub registrations : List (Credential × Entry) → List (Credential × Registered)
+registrations entries = filter_map registration_in entries
+
+-- the registered accounts
+abbrev pub accounts_of : Stakes → List (Credential × Registered)
+accounts_of s = registrations s.accounts.live
+
+-- the reward balances
+abbrev pub balances_in : List (Credential × Registered) → ℕ
+balances_in accounts = sum_values (λ (r : Registered). r.rewards) accounts
+
 -- what the outputs with this stake part hold
 abbrev pub stake_held : List (OutRef × Output) → Credential → ℕ
 stake_held outputs c = lovelace_in (entries_where (λ r (o : Output). holds same_credential o.address.stake c) outputs)
+
+-- the output stake and the balances of the accounts that delegate to a pool
+abbrev pub pool_stake_in : Stakes → PoolId → ℕ
+pool_stake_in s p =
+    sum_by (λ (a : Credential × Registered). stake_held s.outputs.outputs a.0 + a.1.rewards)
+    (entries_where (λ c (r : Registered). holds same_pool r.pool p) (accounts_of s))
+
+-- with n lovelace more, all outputs and balances together are at most the greatest supply
+abbrev pub HasRoom : ℕ → Stakes → Type 0
+HasRoom n s = lovelace_in s.outputs.outputs + balances_in (accounts_of s) + n ≤ SUPPLY_LIMIT
 
 -- the stake that the entry of a credential names, 0 where there is none
 abbrev pub stake_at : List (Credential × Entry) → Credential → ℕ
@@ -38,10 +69,15 @@ registered_at entries c = option_and_then (λ (e : Entry). e.registered) (value_
 abbrev pub whole_entry : List (Credential × Entry) → Credential → Entry
 whole_entry entries c = record { stake = stake_at entries c; registered = registered_at entries c }
 
--- each stake is what the outputs hold; and each entry has stake or a registration
+-- each stake is what the outputs hold; each entry has stake or a registration; each entry and each account stands once, in order; and the supply is not exceeded
 pub record AreKept (s : Stakes) : Type 0 where
   pub stakes : (c : Credential) → stake_at s.accounts.live c ≡ stake_held s.outputs.outputs c
   pub entries : All (λ e. is_nothing e ≡ false) (values_of s.accounts.live)
+  pub live : IsMap credential_cmp s.accounts.live
+  pub in_order : IsMap credential_cmp (accounts_of s)
+  pub room : HasRoom 0 s
+
+-- ---- what a call makes of it
 
 -- the stake part of the output at r, if there is one
 abbrev pub stake_part_at : List (OutRef × Output) → OutRef → Option Credential
@@ -55,18 +91,6 @@ with_stake (Some c) stake a = entered c (record { stake = stake c; registered = 
 -- the accounts with that registration for c: its stake stays
 abbrev pub with_registration : Credential → Option Registered → Accounts → Accounts
 with_registration c to a = entered c (record { stake = stake_at a.live c; registered = to }) a
-
--- the reward balances
-abbrev pub balances_in : List (Credential × Entry) → ℕ
-balances_in entries = sum_values (λ (e : Entry). amount (λ (r : Registered). r.rewards) e.registered) entries
-
--- the greatest supply, in lovelace
-abbrev pub greatest_supply : ℕ
-greatest_supply = 45000000000000000
-
--- with n lovelace more, all outputs and balances together are at most the greatest supply
-abbrev pub HasRoom : ℕ → Stakes → Type 0
-HasRoom n s = lovelace_in s.outputs.outputs + balances_in s.accounts.live + n ≤ greatest_supply
 
 -- the book without the output at r, its stake part with the stake that the outputs left hold
 abbrev pub spent : OutRef → Stakes → Stakes
@@ -97,3 +121,21 @@ with_used ids s = record s { outputs = record s.outputs { used = ids } }
 -- the book with no output, no used id and no account
 abbrev pub no_stakes : Stakes
 no_stakes = record { outputs = record { outputs = []; used = [] }; accounts = record { live = []; saved = [] } }
+
+-- ---- what a clearing leaves
+
+-- an account delegates to one of these pools
+abbrev pub delegates_to_pools : List PoolId → Registered → Bool
+delegates_to_pools pools r = some_and (has_member pool_cmp pools) r.pool
+
+-- an account without its pool
+abbrev pub without_pool : Registered → Registered
+without_pool r = record r { pool = None }
+
+-- the accounts without their delegations to these pools
+abbrev pub without_pools : List PoolId → List (Credential × Registered) → List (Credential × Registered)
+without_pools pools accounts = changed_where (λ c r. delegates_to_pools pools r) without_pool accounts
+
+-- the accounts without their delegations to the DRep
+abbrev pub without_delegations : Credential → List (Credential × Registered) → List (Credential × Registered)
+without_delegations drep accounts = changed_where (λ c r. delegates_to_drep drep r) without_drep accounts

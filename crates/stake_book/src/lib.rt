@@ -1,27 +1,40 @@
 //! The book of outputs and accounts, in which each account's stake is what its outputs hold.
 #![tactic(auto)]
 
-ghost use Rattle.std.specs.Prelude.{◌≡◌, ◌+◌, ◌-◌, ◌^◌, ◌<◌, ◌≤◌, [], OnOk, OnErr, IfOk};
+ghost use Rattle.std.specs.Prelude.{◌≡◌, ◌+◌, ◌-◌, ◌≤◌, [], ◌∷◌, Some, OnOk, OnErr, IfOk};
 ghost use Rattle.gov_ids.specs.declared.Credential.{Credential};
 ghost use Rattle.gov_ids.specs.Orders.{credential_cmp, outref_cmp, txid_cmp};
-ghost use Rattle.maps.specs.Maps.{value_at, with_key, without_member};
-ghost use Rattle.view_map.specs.View.{IsInOrder, frozen_of};
-ghost use Rattle.stake_book.specs.Stakes.{AreKept, HasRoom, no_stakes, stake_at, whole_entry, with_stake};
-ghost use Rattle.stake_book.specs.Stakes.{spent, added, with_account, with_used};
+ghost use Rattle.tx_records.specs.declared.limits.TheConstants.{SUPPLY_LIMIT};
+ghost use Rattle.book_records.specs.Outputs.{lovelace_in};
+ghost use Rattle.maps.specs.Maps.{value_at, with_value, with_key, without_member};
+ghost use Rattle.maps.specs.Replaced.{with_option};
+ghost use Rattle.view_map.specs.View.{frozen_of};
+ghost use Rattle.stake_book.specs.Stakes.{AreKept, HasRoom, accounts_of, balances_in, no_stakes, pool_stake_in};
+ghost use Rattle.stake_book.specs.Stakes.{stake_at, with_stake, spent, added, with_account, with_used};
+ghost use Rattle.stake_book.specs.Stakes.{without_pools, without_delegations};
+ghost use Rattle.stake_book.specs.Sums.{weight_in};
+ghost use Rattle.stake_book.specs.Ended.{entry_without, entries_without, accounts_without};
+
+mod leaving;
+mod summed;
 
 use accounts::AccountBook;
 pub use book_records::{Entry, Output, Registered};
 use coin_frac::NoMemory;
-use gov_ids::{Credential, OutRef, TxId};
+use gov_ids::{Credential, OutRef, PoolId, TxId};
+use leaving::Leaving;
+use maps::set_of;
 use std::alloc::Global;
 use std::marker::Model;
+use summed::SummedAccounts;
 use utxo_set::UtxoSet;
 
-/// The outputs and the accounts; the stake of each account is kept as a running number. (UTxOState and DState of the formal specification; the running stake is own)
+/// The outputs and the accounts. The stake of each account and of each pool, and the reward balances, are kept as running numbers. (UTxOState and DState of the formal specification; the running numbers are own)
 #[derive(Debug, Drop)]
 pub struct StakeBook {
+    alloc: Global,
     outputs: UtxoSet,
-    accounts: AccountBook,
+    accounts: SummedAccounts,
 }
 
 impl Model for StakeBook {
@@ -36,12 +49,11 @@ impl Model for StakeBook {
 
 // Adds to the stake of a stake part; nothing changes where there is no part.
 fn raise_stake(
-    accounts: &mut AccountBook,
+    accounts: &mut SummedAccounts,
     part: Option<Credential>,
     gained: u64,
 ) -> Result<(), NoMemory>
-    requires fits { (c : Credential) → part ≡ Some c → stake_at accounts.old.live c + gained < 2 ^ 64 }
-    ensures in_order { (c : Credential) → part ≡ Some c → IsInOrder credential_cmp accounts.old }
+    requires room { weight_in (with_stake part (λ c. stake_at accounts.old.live c + gained) accounts.old).live ≤ SUPPLY_LIMIT }
     ensures ok { OnOk result (accounts.new ≡ with_stake part (λ c. stake_at accounts.old.live c + gained) accounts.old) }
     ensures frozen { frozen_of credential_cmp accounts.new ≡ frozen_of credential_cmp accounts.old }
     ensures err { OnErr result (accounts.new ≡ accounts.old) }
@@ -49,19 +61,19 @@ fn raise_stake(
     let Some(c) = part else {
         return Ok(());
     };
-    let entry = entry_of(accounts, &c);
+    let entry = accounts.entry_of(&c);
     let stake = entry.stake + gained;
-    accounts.put(c, Entry { stake, ..entry })
+    accounts.enter(c, Entry { stake, ..entry })
 }
 
 // Takes from the stake of a stake part; nothing changes where there is no part.
 fn lower_stake(
-    accounts: &mut AccountBook,
+    accounts: &mut SummedAccounts,
     part: Option<Credential>,
     lost: u64,
 ) -> Result<(), NoMemory>
     requires enough { (c : Credential) → part ≡ Some c → lost ≤ stake_at accounts.old.live c }
-    ensures in_order { (c : Credential) → part ≡ Some c → IsInOrder credential_cmp accounts.old }
+    requires room { weight_in (with_stake part (λ c. stake_at accounts.old.live c - lost) accounts.old).live ≤ SUPPLY_LIMIT }
     ensures ok { OnOk result (accounts.new ≡ with_stake part (λ c. stake_at accounts.old.live c - lost) accounts.old) }
     ensures frozen { frozen_of credential_cmp accounts.new ≡ frozen_of credential_cmp accounts.old }
     ensures err { OnErr result (accounts.new ≡ accounts.old) }
@@ -69,20 +81,9 @@ fn lower_stake(
     let Some(c) = part else {
         return Ok(());
     };
-    let entry = entry_of(accounts, &c);
+    let entry = accounts.entry_of(&c);
     let stake = entry.stake - lost;
-    accounts.put(c, Entry { stake, ..entry })
-}
-
-// The entry of a credential; no stake and no registration where there is none.
-fn entry_of(accounts: &AccountBook, c: &Credential) -> Entry
-    ensures value { result ≡ whole_entry accounts.now.live c.now }
-    ensures in_order { IsInOrder credential_cmp accounts.now }
-{
-    accounts.get(c).unwrap_or(Entry {
-        stake: 0,
-        registered: None,
-    })
+    accounts.enter(c, Entry { stake, ..entry })
 }
 
 impl StakeBook {
@@ -91,8 +92,9 @@ impl StakeBook {
         ensures { result ≡ no_stakes }
     {
         StakeBook {
+            alloc,
             outputs: UtxoSet::new(alloc),
-            accounts: AccountBook::new(alloc),
+            accounts: SummedAccounts::new(alloc),
         }
     }
 
@@ -101,7 +103,7 @@ impl StakeBook {
         ensures value { result.now ≡ self.now.accounts }
         ensures kept { AreKept self.now }
     {
-        &self.accounts
+        self.accounts.book()
     }
 
     /// The outputs and the used ids. (UTxOState of the formal specification)
@@ -112,10 +114,35 @@ impl StakeBook {
         &self.outputs
     }
 
+    /// The registration of a credential, none where it is not registered. (DState of the formal specification)
+    pub fn account(&self, c: &Credential) -> Option<Registered>
+        ensures value { result ≡ value_at credential_cmp (accounts_of self.now) c.now }
+        ensures kept { AreKept self.now }
+    {
+        self.accounts.entry_of(c).registered
+    }
+
+    /// The reward balances, added up, in lovelace. (DState of the formal specification)
+    pub fn balances(&self) -> u64
+        ensures sum { result ≡ balances_in (accounts_of self.now) }
+        ensures kept { AreKept self.now }
+    {
+        self.accounts.balances()
+    }
+
+    /// The output stake and the balances of the accounts that delegate to a pool, in lovelace. (The stake distribution of SNAP in the formal specification)
+    pub fn pool_stake(&self, p: &PoolId) -> u64
+        ensures sum { result ≡ pool_stake_in self.now p.now }
+        ensures kept { AreKept self.now }
+    {
+        self.accounts.pool_stake(p)
+    }
+
     /// Removes the output at a reference and gives it, none where there is none. Want of memory changes nothing. (UTXO of the formal specification)
     pub fn spend(&mut self, r: &OutRef) -> Result<Option<Output>, NoMemory>
         ensures value { IfOk result (λ o. o ≡ value_at outref_cmp self.old.outputs.outputs r.now) }
         ensures ok { OnOk result (self.new ≡ spent r.now self.old) }
+        ensures registered { accounts_of self.new ≡ accounts_of self.old }
         ensures frozen { frozen_of credential_cmp self.new.accounts ≡ frozen_of credential_cmp self.old.accounts }
         ensures err { OnErr result (self.new ≡ self.old) }
     {
@@ -131,6 +158,7 @@ impl StakeBook {
         requires absent { value_at outref_cmp self.old.outputs.outputs r ≡ None }
         requires room { HasRoom o.lovelace self.old }
         ensures ok { OnOk result (self.new ≡ added r o self.old) }
+        ensures registered { accounts_of self.new ≡ accounts_of self.old }
         ensures frozen { frozen_of credential_cmp self.new.accounts ≡ frozen_of credential_cmp self.old.accounts }
         ensures err { OnErr result (self.new ≡ self.old) }
     {
@@ -144,23 +172,83 @@ impl StakeBook {
 
     /// Registers an account with a credential, changes its registration or ends it. Want of memory changes nothing. (DELEG of the formal specification)
     pub fn set_account(&mut self, c: Credential, to: Option<Registered>) -> Result<(), NoMemory>
-        requires room { HasRoom 0 (with_account c to self.old) }
+        requires room { lovelace_in self.old.outputs.outputs + balances_in (with_option credential_cmp c to (accounts_of self.old)) ≤ SUPPLY_LIMIT }
         ensures ok { OnOk result (self.new ≡ with_account c to self.old) }
+        ensures registered { OnOk result (accounts_of self.new ≡ with_option credential_cmp c to (accounts_of self.old)) }
         ensures frozen { frozen_of credential_cmp self.new.accounts ≡ frozen_of credential_cmp self.old.accounts }
         ensures err { OnErr result (self.new ≡ self.old) }
     {
-        let entry = entry_of(&self.accounts, &c);
+        let entry = self.accounts.entry_of(&c);
         let changed = Entry {
             registered: to,
             ..entry
         };
-        self.accounts.put(c, changed)?;
+        self.accounts.enter(c, changed)?;
+        Ok(())
+    }
+
+    /// Ends the delegations to each of some pools; all else stays. It walks the accounts once. Want of memory leaves a book with some of them ended: the caller drops it. (POOLREAP of the formal specification)
+    pub fn clear_pools(&mut self, pools: &[PoolId]) -> Result<(), NoMemory>
+        ensures outputs { OnOk result (self.new.outputs ≡ self.old.outputs) }
+        ensures registered { OnOk result (accounts_of self.new ≡ without_pools pools.now (accounts_of self.old)) }
+        ensures frozen { OnOk result (frozen_of credential_cmp self.new.accounts ≡ frozen_of credential_cmp self.old.accounts) }
+    {
+        let pools = set_of(self.alloc, pools)?;
+        self.clear(&Leaving::Pools(pools))?;
+        Ok(())
+    }
+
+    /// Ends the delegations to a pool, as `clear_pools` does. (POOLREAP of the formal specification)
+    pub fn clear_pool(&mut self, p: &PoolId) -> Result<(), NoMemory>
+        ensures outputs { OnOk result (self.new.outputs ≡ self.old.outputs) }
+        ensures registered { OnOk result (accounts_of self.new ≡ without_pools (p.now ∷ []) (accounts_of self.old)) }
+        ensures frozen { OnOk result (frozen_of credential_cmp self.new.accounts ≡ frozen_of credential_cmp self.old.accounts) }
+    {
+        self.clear_pools(&[*p])
+    }
+
+    /// Ends the delegations to a DRep; all else stays. It walks the accounts once. Want of memory leaves a book with some of them ended: the caller drops it. (GOVCERT of the formal specification; that they end at once is own)
+    pub fn clear_drep(&mut self, c: &Credential) -> Result<(), NoMemory>
+        ensures outputs { OnOk result (self.new.outputs ≡ self.old.outputs) }
+        ensures registered { OnOk result (accounts_of self.new ≡ without_delegations c.now (accounts_of self.old)) }
+        ensures frozen { OnOk result (frozen_of credential_cmp self.new.accounts ≡ frozen_of credential_cmp self.old.accounts) }
+    {
+        self.clear(&Leaving::Drep(*c))?;
+        Ok(())
+    }
+
+    // Ends the delegations to what leaves, account by account.
+    fn clear(&mut self, leaving: &Leaving) -> Result<(), NoMemory>
+        ensures outputs { OnOk result (self.new.outputs ≡ self.old.outputs) }
+        ensures live { OnOk result (self.new.accounts.live ≡ entries_without leaving.now self.old.accounts.live) }
+        ensures frozen { OnOk result (frozen_of credential_cmp self.new.accounts ≡ frozen_of credential_cmp self.old.accounts) }
+    {
+        let mut last = None;
+        while let Some((c, entry)) = self.accounts.next(last.as_ref()) {
+            self.clear_at(c, entry, leaving)?;
+            last = Some(c);
+        }
+        Ok(())
+    }
+
+    // Ends the delegation of one account to what leaves, if it has one.
+    fn clear_at(&mut self, c: Credential, entry: Entry, leaving: &Leaving) -> Result<(), NoMemory>
+        requires kept { AreKept self.old }
+        requires there { value_at credential_cmp self.old.accounts.live c ≡ Some entry }
+        ensures outputs { OnOk result (self.new.outputs ≡ self.old.outputs) }
+        ensures live { OnOk result (self.new.accounts.live ≡ with_value credential_cmp c (entry_without leaving.now entry) self.old.accounts.live) }
+        ensures frozen { OnOk result (frozen_of credential_cmp self.new.accounts ≡ frozen_of credential_cmp self.old.accounts) }
+    {
+        if let Some(changed) = leaving.change(entry.registered) {
+            self.set_account(c, Some(changed))?;
+        }
         Ok(())
     }
 
     /// Puts an id among the used ones. Want of memory changes nothing. (Own)
     pub fn mark_used(&mut self, id: TxId) -> Result<(), NoMemory>
         ensures ok { OnOk result (self.new ≡ with_used (with_key txid_cmp id self.old.outputs.used) self.old) }
+        ensures registered { accounts_of self.new ≡ accounts_of self.old }
         ensures err { OnErr result (self.new ≡ self.old) }
     {
         self.outputs.mark_used(id)
@@ -168,14 +256,17 @@ impl StakeBook {
 
     /// Takes an id from the used ones. (Own)
     pub fn unmark(&mut self, id: &TxId)
-        ensures { self.new ≡ with_used (without_member txid_cmp id.now self.old.outputs.used) self.old }
+        ensures value { self.new ≡ with_used (without_member txid_cmp id.now self.old.outputs.used) self.old }
+        ensures registered { accounts_of self.new ≡ accounts_of self.old }
     {
         self.outputs.unmark(id);
     }
 
     /// Makes the live entries the frozen ones. It takes no memory and copies no entry. (SNAP of the formal specification; how it is kept is own)
     pub fn freeze(&mut self)
+        ensures kept { AreKept self.old }
         ensures fields { self.new ≡ record self.old { accounts = record self.old.accounts { saved = [] } } }
+        ensures registered { accounts_of self.new ≡ accounts_of self.old }
         ensures frozen { frozen_of credential_cmp self.new.accounts ≡ self.old.accounts.live }
     {
         self.accounts.freeze();

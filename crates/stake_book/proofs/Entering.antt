@@ -1,0 +1,109 @@
+-- What an entry that is put does to the sums over the entries.
+use Rattle.std.proofs.Common.{◌≡◌, ℕ, ◌+◌, ◌-◌, ◌==◌, ◌&&◌, ◌≤◌, ◌<◌, ◌^◌, List, [], ◌∷◌, Bool, true, false, cond, is_none, Option, Some, None, refl, ap, sym, ◌∙◌, arith}
+use Rattle.std.specs.BTreeMap.{is_at}
+use Rattle.std.specs.Map.{values_of}
+use Rattle.std.specs.Option.{option_and_then}
+use Rattle.std.proofs.lemmas.Bool.{eqb-true}
+use Rattle.std.proofs.lemmas.List.Sums.{sum_by-cons}
+use Rattle.std.proofs.lemmas.Map.Entries.{sum_by-insert_entry, sum_by-remove_entry}
+use Rattle.gov_ids.specs.declared.Credential.{Credential}
+use Rattle.gov_ids.specs.declared.PoolId.{PoolId}
+use Rattle.gov_ids.specs.Orders.{credential_cmp}
+use Rattle.gov_ids.specs.Same.{same_pool}
+use Rattle.gov_ids.proofs.Totals.{credential_total}
+use Rattle.book_records.specs.declared.Entry.{Entry}
+use Rattle.book_records.specs.declared.Registered.{Registered}
+use Rattle.tx_records.specs.declared.limits.TheConstants.{SUPPLY_LIMIT}
+use Rattle.coin_frac.specs.Totals.{total_of}
+use Rattle.maps.proofs.Kept.{IsMap-with_value, IsMap-without_key}
+use Rattle.maps.specs.Maps.{IsMap, value_at, with_value, without_key, sum_values}
+use Rattle.maps.specs.Words.{amount, holds}
+use Rattle.accounts.specs.Accounts.{is_nothing, with_entry}
+use Rattle.stake_book.specs.Stakes.{whole_entry}
+use Rattle.stake_book.specs.Sums.{AreSummed, IsRaised, balance_of, pool_of, weight_of, share_of, shared_by, weight_in, stake_in}
+use Rattle.stake_book.proofs.Pools.{itself}
+
+abbrev pub nothing : Entry
+nothing = record { stake = 0; registered = None }
+
+left_of : (a b : Bool) → (a && b) ≡ true → a ≡ true
+left_of true b h = refl
+left_of false b h = h
+
+right_of : (a b : Bool) → (a && b) ≡ true → b ≡ true
+right_of true b h = h
+right_of false b h = cc
+
+none_is : (o : Option Registered) → is_none o ≡ true → o ≡ None
+none_is None h = refl
+none_is (Some r) h = cc
+
+pub nothing_is : (e : Entry) → is_nothing e ≡ true → e ≡ nothing
+nothing_is e t =
+    let stake : e.stake ≡ 0 = eqb-true e.stake 0 (left_of (e.stake == 0) (is_none e.registered) t) in
+    let registered : e.registered ≡ None = none_is e.registered (right_of (e.stake == 0) (is_none e.registered) t) in
+    λ i. record { stake = stake i; registered = registered i }
+
+pub IsMap-with_entry : (c : Credential) (e : Entry) (entries : List (Credential × Entry)) → IsMap credential_cmp entries → IsMap credential_cmp (with_entry c e entries)
+IsMap-with_entry c e entries h =
+    elim (is_nothing e) as (λ b. IsMap credential_cmp (cond b (without_key credential_cmp c entries) (with_value credential_cmp c e entries))) [
+      | true ↦ IsMap-without_key credential_cmp c entries h
+      | false ↦ IsMap-with_value credential_total c e entries h
+    ]
+
+module _ (f : Entry → ℕ) (zero : f nothing ≡ 0) (c : Credential) (entries : List (Credential × Entry)) where
+  before_is : amount f (value_at credential_cmp entries c) ≡ f (whole_entry entries c)
+  before_is =
+      elim (value_at credential_cmp entries c) as (λ (o : Option Entry). amount f o ≡ f (record { stake = amount (λ (e : Entry). e.stake) o; registered = option_and_then (λ (e : Entry). e.registered) o })) [
+        | None ↦ sym zero
+        | Some e ↦ refl
+      ]
+
+  pub before_within : f (whole_entry entries c) ≤ sum_values f entries
+  before_within = omega (arith, before_is, sum_by-remove_entry f (is_at (credential_cmp c)) entries)
+
+  pub entered_sum : (e : Entry) → IsMap credential_cmp entries → sum_values f (with_entry c e entries) + f (whole_entry entries c) ≡ sum_values f entries + f e
+  entered_sum e h =
+      elim (is_nothing e) as (λ b. is_nothing e ≡ b → sum_values f (cond b (without_key credential_cmp c entries) (with_value credential_cmp c e entries)) + f (whole_entry entries c) ≡ sum_values f entries + f e) [
+        | true ↦ λ t. omega (arith, before_is, sum_by-remove_entry f (is_at (credential_cmp c)) entries, ap f (nothing_is e t), zero)
+        | false ↦ λ t. omega (arith, before_is, sum_by-insert_entry f credential_total entries c e h)
+      ] refl
+
+  pub after_within : (e : Entry) → IsMap credential_cmp entries → f e ≤ sum_values f (with_entry c e entries)
+  after_within e h = omega (arith, before_within, entered_sum e h)
+
+sum_within : (f g : Entry → ℕ) → ((e : Entry) → f e ≤ g e) → (entries : List (Credential × Entry)) → sum_values f entries ≤ sum_values g entries
+sum_within f g h [] = omega arith
+sum_within f g h (e ∷ es) = omega (arith, h e.1, sum_within f g h es, sum_by-cons f e.1 (values_of es), sum_by-cons g e.1 (values_of es))
+
+shared_at_most : (o : Option PoolId) (n : ℕ) → amount (λ _. n) o ≤ n
+shared_at_most None n = omega arith
+shared_at_most (Some p) n = omega arith
+
+pub shared_within : (entries : List (Credential × Entry)) → sum_values shared_by entries ≤ weight_in entries
+shared_within entries = sum_within shared_by weight_of (λ e. shared_at_most (pool_of e) (weight_of e)) entries
+
+pub balances_within : (entries : List (Credential × Entry)) → sum_values balance_of entries ≤ weight_in entries
+balances_within entries = sum_within balance_of weight_of (λ e. omega arith) entries
+
+share_there : (e : Entry) (p : PoolId) → pool_of e ≡ Some p → share_of p e ≡ weight_of e
+share_there e p is = ap (λ (o : Option PoolId). cond (holds same_pool o p) (weight_of e) 0) is ∙ ap (λ b. cond b (weight_of e) 0) (itself p)
+
+module _ (held : ℕ) (pools up : List (PoolId × ℕ)) (c : Credential) (entries : List (Credential × Entry)) (s : AreSummed held pools entries) where
+  -- with one entry in place of another, once its share was added and then that of the other taken
+  pub entered_summed : (e : Entry) (down : List (PoolId × ℕ)) → IsRaised (pool_of e) (weight_of e) pools up → IsRaised (pool_of (whole_entry entries c)) (weight_of (whole_entry entries c)) down up
+      → weight_in (with_entry c e entries) ≤ SUPPLY_LIMIT → AreSummed (held - balance_of (whole_entry entries c) + balance_of e) down (with_entry c e entries)
+  entered_summed e down r l w = record {
+    in_order = IsMap-with_entry c e entries s.in_order;
+    within = w;
+    balances = omega (arith, s.balances, before_within balance_of refl c entries, entered_sum balance_of refl c entries e s.in_order);
+    pools = λ p. omega (arith, r.each p, l.each p, s.pools p, entered_sum (share_of p) refl c entries e s.in_order);
+    total = omega (arith, r.total, l.total, s.total, entered_sum shared_by refl c entries e s.in_order);
+  }
+
+  -- the share of the entry that was there can be taken
+  pub before_enough : (pool : Option PoolId) (n : ℕ) (p : PoolId) → IsRaised pool n pools up → pool_of (whole_entry entries c) ≡ Some p → weight_of (whole_entry entries c) ≤ stake_in up p
+  before_enough pool n p r is = omega (arith, r.each p, s.pools p, before_within (share_of p) refl c entries, share_there (whole_entry entries c) p is)
+
+pub raised_fits : (held n : ℕ) (pool : Option PoolId) (pools up : List (PoolId × ℕ)) (entries : List (Credential × Entry)) → AreSummed held pools entries → IsRaised pool n pools up → n ≤ SUPPLY_LIMIT → total_of up < 2 ^ 64
+raised_fits held n pool pools up entries s r w = omega (arith, r.total, shared_at_most pool n, s.total, s.within, shared_within entries, w)

@@ -1,0 +1,36 @@
+-- What a clearing does to entries and registrations, for pools and for a DRep. (Own)
+use Rattle.std.specs.Prelude.{Bool, List, Option, Some, None, option_map, if◌then◌else◌}
+use Rattle.gov_ids.specs.declared.Credential.{Credential}
+use Rattle.book_records.specs.declared.Entry.{Entry}
+use Rattle.book_records.specs.declared.Registered.{Registered}
+use Rattle.ledger_model.specs.Changes.{delegates_to_drep, without_drep}
+use Rattle.maps.specs.Maps.{each_value, changed_where}
+use Rattle.stake_book.specs.declared.leaving.Leaving.{Leaving}
+use Rattle.stake_book.specs.declared.leaving.Leaving.TheVariants.{Pools, Drep}
+use Rattle.stake_book.specs.Stakes.{delegates_to_pools, without_pool}
+
+-- whether a registration delegates to what leaves
+abbrev pub is_cleared : Leaving → Registered → Bool
+is_cleared (Pools pools) r = delegates_to_pools pools.keys r
+is_cleared (Drep c) r = delegates_to_drep c r
+
+-- the registration without that delegation
+abbrev pub cleared : Leaving → Registered → Registered
+cleared (Pools pools) r = without_pool r
+cleared (Drep c) r = without_drep r
+
+-- the same, where there is such a delegation
+abbrev pub change_of : Leaving → Registered → Option Registered
+change_of l r = if is_cleared l r then Some (cleared l r) else None
+
+-- an entry without such a delegation
+abbrev pub entry_without : Leaving → Entry → Entry
+entry_without l e = record e { registered = option_map (λ r. if is_cleared l r then cleared l r else r) e.registered }
+
+-- the entries without such delegations
+abbrev pub entries_without : Leaving → List (Credential × Entry) → List (Credential × Entry)
+entries_without l entries = each_value (λ c e. entry_without l e) entries
+
+-- the accounts without them
+abbrev pub accounts_without : Leaving → List (Credential × Registered) → List (Credential × Registered)
+accounts_without l accounts = changed_where (λ c r. is_cleared l r) (cleared l) accounts

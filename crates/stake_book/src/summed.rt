@@ -1,0 +1,169 @@
+ghost use Rattle.std.specs.Prelude.{◌≡◌, ◌+◌, ◌-◌, ◌≤◌, ◌^◌, ◌<◌, [], Some, OnOk, OnErr, option_map};
+ghost use Rattle.gov_ids.specs.declared.PoolId.{PoolId};
+ghost use Rattle.gov_ids.specs.Orders.{credential_cmp};
+ghost use Rattle.tx_records.specs.declared.limits.TheConstants.{SUPPLY_LIMIT};
+ghost use Rattle.coin_frac.specs.Totals.{total_of};
+ghost use Rattle.maps.specs.Maps.{IsMap, entry_after, sum_values};
+ghost use Rattle.view_map.specs.View.{frozen_of};
+ghost use Rattle.accounts.specs.Accounts.{with_entry, entered};
+ghost use Rattle.stake_book.specs.Stakes.{whole_entry};
+ghost use Rattle.stake_book.specs.Sums.{IsRaised, balance_of, pool_of, weight_of, share_of, weight_in, stake_in};
+
+use accounts::AccountBook;
+use book_records::{Entry, Registered};
+use coin_frac::{NoMemory, TotalMap};
+use gov_ids::{Credential, PoolId};
+use std::alloc::Global;
+use std::marker::Model;
+
+/// The accounts, with the sums over them. Contracts see it as the accounts. (Own)
+#[derive(Debug, Drop)]
+pub struct SummedAccounts {
+    accounts: AccountBook,
+    balances: u64,
+    pools: TotalMap<PoolId>,
+}
+
+impl Model for SummedAccounts {
+    ghost use Rattle.accounts.specs.Accounts.{Accounts};
+    ghost use Rattle.stake_book.specs.Sums.{AreSummed};
+
+    ghost Value = { Accounts };
+
+    ghost view = { λ a. a.accounts };
+
+    ghost invariant = { λ a. AreSummed a.balances a.pools a.accounts.live };
+}
+
+// The balance of an entry, in lovelace; 0 where it is not registered.
+fn balance(e: &Entry) -> u64
+    ensures { result ≡ balance_of e.now }
+{
+    e.registered.map_or(0, |r| r.rewards)
+}
+
+// The pool that an entry delegates to.
+fn pool(e: &Entry) -> Option<PoolId>
+    ensures { result ≡ pool_of e.now }
+{
+    e.registered?.pool
+}
+
+// Adds to the stake of a pool; nothing changes where there is no pool.
+fn raise_pool(
+    pools: &mut TotalMap<PoolId>,
+    pool: Option<PoolId>,
+    gained: u64,
+) -> Result<(), NoMemory>
+    requires fits { total_of pools.old + gained < 2 ^ 64 }
+    ensures ok { OnOk result (IsRaised pool gained pools.old pools.new) }
+    ensures err { OnErr result (pools.new ≡ pools.old) }
+{
+    let Some(p) = pool else {
+        return Ok(());
+    };
+    let stake = pools.get(&p) + gained;
+    pools.put(p, stake)?;
+    Ok(())
+}
+
+// Takes from the stake of a pool; nothing changes where there is no pool. It takes no memory.
+fn lower_pool(pools: &mut TotalMap<PoolId>, pool: Option<PoolId>, lost: u64)
+    requires enough { (p : PoolId) → pool ≡ Some p → lost ≤ stake_in pools.old p }
+    requires fits { total_of pools.old < 2 ^ 64 }
+    ensures { IsRaised pool lost pools.new pools.old }
+{
+    let Some(p) = pool else {
+        return;
+    };
+    let stake = pools.get(&p) - lost;
+    if stake == 0 {
+        pools.take(&p);
+    } else {
+        pools.set(&p, stake);
+    }
+}
+
+impl SummedAccounts {
+    /// No accounts. (Own)
+    pub fn new(alloc: Global) -> SummedAccounts
+        ensures { result ≡ record { live = []; saved = [] } }
+    {
+        SummedAccounts {
+            accounts: AccountBook::new(alloc),
+            balances: 0,
+            pools: TotalMap::new(alloc),
+        }
+    }
+
+    /// The accounts. (Own)
+    pub fn book(&self) -> &AccountBook
+        ensures { result.now ≡ self.now }
+    {
+        &self.accounts
+    }
+
+    /// The entry of a credential; no stake and no registration where there is none. (Own)
+    pub fn entry_of(&self, c: &Credential) -> Entry
+        ensures value { result ≡ whole_entry self.now.live c.now }
+        ensures in_order { IsMap credential_cmp self.now.live }
+        ensures within { weight_in self.now.live ≤ SUPPLY_LIMIT }
+    {
+        self.accounts.get(c).unwrap_or(Entry {
+            stake: 0,
+            registered: None,
+        })
+    }
+
+    /// The first entry past a credential, or the first of all, in the order of credentials; none at the end. (Own)
+    pub fn next(&self, after: Option<&Credential>) -> Option<(Credential, Entry)>
+        ensures value { result ≡ entry_after credential_cmp (option_map (λ c. c.now) after.entry) self.now.live }
+        ensures in_order { IsMap credential_cmp self.now.live }
+    {
+        self.accounts.next(after)
+    }
+
+    /// The balances, added up, in lovelace. (Own)
+    pub fn balances(&self) -> u64
+        ensures { result ≡ sum_values balance_of self.now.live }
+    {
+        self.balances
+    }
+
+    /// The stake of a pool, in lovelace. (Own)
+    pub fn pool_stake(&self, p: &PoolId) -> u64
+        ensures value { result ≡ sum_values (share_of p.now) self.now.live }
+        ensures in_order { IsMap credential_cmp self.now.live }
+    {
+        self.pools.get(p)
+    }
+
+    /// Puts an entry in place of what was there; one without stake and registration takes it away. Want of memory changes nothing. (Own)
+    pub fn enter(&mut self, c: Credential, e: Entry) -> Result<(), NoMemory>
+        requires within { weight_in (with_entry c e self.old.live) ≤ SUPPLY_LIMIT }
+        ensures ok { OnOk result (self.new ≡ entered c e self.old) }
+        ensures frozen { frozen_of credential_cmp self.new ≡ frozen_of credential_cmp self.old }
+        ensures err { OnErr result (self.new ≡ self.old) }
+    {
+        let before = self.entry_of(&c);
+        let to = pool(&e);
+        let gained = e.stake + balance(&e);
+        raise_pool(&mut self.pools, to, gained)?;
+        if let Err(error) = self.accounts.put(c, e) {
+            lower_pool(&mut self.pools, to, gained);
+            return Err(error);
+        }
+        let lost = before.stake + balance(&before);
+        lower_pool(&mut self.pools, pool(&before), lost);
+        self.balances = self.balances - balance(&before) + balance(&e);
+        Ok(())
+    }
+
+    /// Makes the live entries the frozen ones. It takes no memory and copies no entry. (Own)
+    pub fn freeze(&mut self)
+        ensures fields { self.new ≡ record self.old { saved = [] } }
+        ensures frozen { frozen_of credential_cmp self.new ≡ self.old.live }
+    {
+        self.accounts.freeze();
+    }
+}
