@@ -1,20 +1,18 @@
 -- A ledger after an allowed transaction: what its parts are, that they fit, and that it keeps what a ledger keeps.
-use Rattle.std.proofs.Common.{◌≡◌, ℕ, ◌+◌, ◌<◌, ◌^◌, Bool, true, false, not, ◌&&◌, List, [], ◌∷◌, ◌++◌, None, length, map, sum_by, refl, ap, sym, ◌∙◌, subst, arith}
+use Rattle.std.proofs.Common.{◌≡◌, ℕ, ◌+◌, ◌<◌, ◌≤◌, ◌^◌, Bool, true, false, not, ◌&&◌, List, [], ◌++◌, None, length, map, sum_by, refl, ap, sym, ◌∙◌, subst, arith}
 use Rattle.std.specs.List.{AllByRecursion}
 use Rattle.std.specs.Map.{keys_of}
 use Rattle.std.specs.Option.{option_to_list}
 use Rattle.std.proofs.lemmas.Bool.{and_parts}
 use Rattle.book_records.specs.declared.Output.{Output}
-use Rattle.book_records.specs.declared.Registered.{Registered}
 use Rattle.book_records.specs.Outputs.{lovelace_in}
 use Rattle.gov_actions.specs.declared.action.Proposal.{Proposal}
-use Rattle.gov_ids.specs.declared.Credential.{Credential}
 use Rattle.gov_ids.specs.declared.OutRef.{OutRef}
-use Rattle.gov_ids.specs.Orders.{credential_cmp, outref_cmp, txid_cmp}
+use Rattle.gov_ids.specs.Orders.{outref_cmp, txid_cmp}
 use Rattle.gov_ids.proofs.Totals.{outref_total}
 use Rattle.gov_ids.proofs.Exacts.{outref_exact}
 use Rattle.maps.proofs.Several.{sum_values-with_values, sum_values-without_keys}
-use Rattle.maps.specs.Maps.{has_key, value_at, with_key, with_values, without_keys}
+use Rattle.maps.specs.Maps.{value_at, with_key, with_values, without_keys}
 use Rattle.maps.specs.Words.{with_places}
 use Rattle.tx_records.specs.TxLimits.{is_within_limits}
 use Rattle.tx_records.specs.declared.tx.ProposalRecord.{ProposalRecord}
@@ -22,22 +20,23 @@ use Rattle.tx_records.specs.declared.tx.Scripts.{Scripts}
 use Rattle.tx_records.specs.declared.tx.Scripts.TheVariants.{Absent, Passed, Failed}
 use Rattle.tx_records.specs.declared.tx.Tx.{Tx}
 use Rattle.tx_records.specs.declared.tx.TxOutput.{TxOutput}
-use Rattle.ledger_model.specs.Broken.{body_checks, is_allowed}
-use Rattle.ledger_model.specs.Checks.{per_place_from}
+use Rattle.ledger_model.specs.Broken.{is_allowed}
+use Rattle.ledger_model.specs.CertRules.{rewards_at}
 use Rattle.ledger_model.specs.Draft.{last_draft}
-use Rattle.ledger_model.specs.Ledger.{Ledger, is_account}
-use Rattle.ledger_model.specs.ProposalRules.{proposal_checks}
+use Rattle.ledger_model.specs.Ledger.{Ledger}
 use Rattle.ledger_model.specs.Transaction.{after_failed, after_passed, after_scripts, kept_output, ledger_after_tx, made_outputs, made_proposal, made_proposals, made_return, with_votes}
 use Rattle.ledger_model.specs.UtxoRules.{collateral_left, collateral_sum, has_scripts, is_failed, returned}
-use Rattle.ledger_model.proofs.Unbroken.{IsUnbroken, unbroken-cons, unbroken-per_place}
 use Rattle.tx_balance.specs.Laws.{HasOwnWithdrawals}
 use Rattle.tx_balance.proofs.Failed.{made, returned_sum}
 use Rattle.tx_balance.proofs.OutputParts.{IsPassed, collateral_once, collateral_split, id_is_new, parts_of}
 use Rattle.tx_balance.proofs.Outputs.{made_from, made_not_there, made_once, not_there_after, sum-made}
-use Rattle.tx_balance.proofs.Passed.{body_by, body_parts}
 use Rattle.tx_balance.proofs.Sounds.{allowed_keeps_supply, allowed_stays_sound}
-use Rattle.ledger_state.specs.Drafts.{Changed, laid_over}
+use Rattle.stake_book.specs.Stakes.{balances_in}
+use Rattle.tx_records.specs.declared.limits.TheConstants.{SUPPLY_LIMIT}
+use Rattle.ledger_state.specs.Books.{NoneRises}
+use Rattle.ledger_state.specs.Drafts.{Changed, laid_over, with_registrations}
 use Rattle.ledger_state.specs.Kept.{IsKept}
+use Rattle.ledger_state.proofs.Balances.{draft_lowers}
 
 by_passed : (sc : Scripts) (l : Ledger) (tx : Tx) → is_failed sc ≡ false → after_passed l tx ≡ after_scripts sc l tx
 by_passed Absent l tx e = refl
@@ -60,16 +59,6 @@ left_of b c h = (and_parts b c h).0
 own_withdrawals : (tx : Tx) → is_within_limits tx ≡ true → HasOwnWithdrawals tx
 own_withdrawals tx h = not_true _ (and_parts _ _ (left_of _ _ (left_of _ _ (left_of _ _ (left_of _ _ (left_of _ _ (left_of _ _ (left_of _ _ h)))))))).1
 
--- where nobody is registered, a proposal has no return account
-unregistered : (l d : Ledger) (p : ProposalRecord) → d.accounts ≡ [] → IsUnbroken (proposal_checks l d 0 p) → ⊥
-unregistered l d p e h =
-    let third : not (is_account d p.account.cred) ≡ false = (unbroken-cons _ _ (unbroken-cons _ _ (unbroken-cons _ _ h).1).1).0 in
-    let none : not (is_account d p.account.cred) ≡ true = ap (λ (es : List (Credential × Registered)). not (has_key credential_cmp es p.account.cred)) e in cc
-
-none_of : (l d : Ledger) (ps : List ProposalRecord) → d.accounts ≡ [] → IsUnbroken (per_place_from (proposal_checks l d) 0 ps) → ps ≡ []
-none_of l d [] e h = refl
-none_of l d (p ∷ ps) e h = absurd (unregistered l d p e (unbroken-per_place (proposal_checks l d) 0 p ps h).0)
-
 -- the ledger after a transaction whose scripts did not fail, with these changes
 abbrev pub after_changes : Ledger → Tx → Changed → Ledger
 after_changes l tx changes = record (laid_over changes l) {
@@ -79,10 +68,12 @@ after_changes l tx changes = record (laid_over changes l) {
   donations = l.donations + tx.donation;
 }
 
--- it is that of the definitions, it fits, and it keeps what a ledger keeps
+-- the changes raise no balance, it is that of the definitions, it fits, and it keeps what a ledger keeps
 pub record IsPassing (l : Ledger) (tx : Tx) (changes : Changed) : Type 0 where
+  pub before : lovelace_in l.outputs + balances_in l.accounts + 0 ≤ SUPPLY_LIMIT
+  pub lower : NoneRises changes.accounts l.accounts
   pub absent : AllByRecursion (λ r. value_at outref_cmp (without_keys outref_cmp tx.inputs l.outputs) r ≡ None) (keys_of (made_outputs tx))
-  pub fits : lovelace_in (without_keys outref_cmp tx.inputs l.outputs) + sum_by (λ (o : TxOutput). o.lovelace) tx.outputs < 2 ^ 64
+  pub room : lovelace_in (without_keys outref_cmp tx.inputs l.outputs) + balances_in (with_registrations changes.accounts l.accounts) + sum_by (λ (o : TxOutput). o.lovelace) tx.outputs ≤ SUPPLY_LIMIT
   pub fee : l.fees + tx.fee < 2 ^ 64
   pub donation : l.donations + tx.donation < 2 ^ 64
   pub kept : IsKept (after_changes l tx changes)
@@ -91,7 +82,7 @@ pub record IsPassing (l : Ledger) (tx : Tx) (changes : Changed) : Type 0 where
 -- what holds where its scripts failed
 pub record IsFailing (l : Ledger) (tx : Tx) : Type 0 where
   pub absent : AllByRecursion (λ r. value_at outref_cmp (without_keys outref_cmp tx.collateral l.outputs) r ≡ None) (keys_of (made_return tx))
-  pub fits : lovelace_in (without_keys outref_cmp tx.collateral l.outputs) + returned tx < 2 ^ 64
+  pub room : lovelace_in (without_keys outref_cmp tx.collateral l.outputs) + balances_in l.accounts + returned tx ≤ SUPPLY_LIMIT
   pub taken : lovelace_in (without_keys outref_cmp tx.collateral l.outputs) + collateral_sum l tx ≡ lovelace_in l.outputs
   pub covered : collateral_left l tx + returned tx ≡ collateral_sum l tx
   pub kept : IsKept (after_failed l tx)
@@ -127,12 +118,10 @@ module _ (l : Ledger) (tx : Tx) (k : IsKept l) (within : is_within_limits tx ≡
   with_proposals : Changed → List Proposal → Ledger
   with_proposals changes ps = record (after_changes l tx changes) { proposals = ps }
 
-  -- nobody is registered and nothing is proposed, so it proposes nothing
-  passed_is : (changes : Changed) → is_failed tx.scripts ≡ false → laid_over changes l ≡ last_draft l tx → l.accounts ≡ [] → l.proposals ≡ [] → after_changes l tx changes ≡ ledger_after_tx l tx
+  -- nothing is proposed, and it proposes nothing
+  passed_is : (changes : Changed) → is_failed tx.scripts ≡ false → laid_over changes l ≡ last_draft l tx → tx.proposals ≡ [] → l.proposals ≡ [] → after_changes l tx changes ≡ ledger_after_tx l tx
   unfolding with_proposals
-  passed_is changes e drafted nobody nothing =
-      let body = body_parts l tx (body_by l tx tx.scripts (body_checks l tx) e parts.body) in
-      let none : tx.proposals ≡ [] = none_of l (last_draft l tx) tx.proposals (ap (λ (x : Ledger). x.accounts) (sym drafted) ∙ nobody) body.proposals in
+  passed_is changes e drafted none nothing =
       let stay : map (with_votes tx) l.proposals ++ made_proposals l tx ≡ l.proposals =
       ap (λ (ps : List ProposalRecord). map (with_votes tx) l.proposals ++ map (λ p. made_proposal l tx.id p.0 p.1) (with_places ps)) none
       ∙ ap (λ (ps : List Proposal). map (with_votes tx) ps ++ []) nothing ∙ sym nothing in
@@ -146,13 +135,20 @@ module _ (l : Ledger) (tx : Tx) (k : IsKept l) (within : is_within_limits tx ≡
       })
       ∙ by_passed tx.scripts l tx e
 
-  passes : (changes : Changed) → is_failed tx.scripts ≡ false → laid_over changes l ≡ last_draft l tx → l.accounts ≡ [] → l.proposals ≡ [] → IsPassing l tx changes
-  passes changes e drafted nobody nothing =
-      let is = passed_is changes e drafted nobody nothing in
+  -- no balance rises
+  changes_lower : (changes : Changed) → laid_over changes l ≡ last_draft l tx → NoneRises changes.accounts l.accounts
+  changes_lower changes drafted c =
+      omega (arith, (draft_lowers l tx (length tx.certs) k.sound.accounts).lower c, ap (λ (d : Ledger). rewards_at d c) drafted)
+
+  passes : (changes : Changed) → is_failed tx.scripts ≡ false → laid_over changes l ≡ last_draft l tx → tx.proposals ≡ [] → l.proposals ≡ [] → IsPassing l tx changes
+  passes changes e drafted none nothing =
+      let is = passed_is changes e drafted none nothing in
       let kept : IsKept (after_changes l tx changes) = subst (λ (x : Ledger). IsKept x) (sym is) kept_after in
       record {
+        before = omega (arith, k.balanced, k.within);
+        lower = changes_lower changes drafted;
         absent = made_absent tx.inputs 0 tx.outputs;
-        fits = omega (arith, kept.balanced, made_sum tx.inputs 0 tx.outputs, k.within);
+        room = omega (arith, kept.balanced, made_sum tx.inputs 0 tx.outputs, k.within);
         fee = omega (arith, kept.balanced, k.within);
         donation = omega (arith, kept.balanced, k.within);
         kept = kept;
@@ -167,7 +163,7 @@ module _ (l : Ledger) (tx : Tx) (k : IsKept l) (within : is_within_limits tx ≡
       let back = option_to_list tx.collateral_return in
       record {
         absent = rw (made l tx) (made_absent tx.collateral n back);
-        fits = omega (
+        room = omega (
           arith,
           kept.balanced,
           ap (λ (new : List (OutRef × Output)). lovelace_in (with_values outref_cmp new (left tx.collateral))) (made l tx),
@@ -182,10 +178,10 @@ module _ (l : Ledger) (tx : Tx) (k : IsKept l) (within : is_within_limits tx ≡
       }
 
 -- the same by what is said of the ledger as it was passed
-pub passing : (l now : Ledger) (tx : Tx) (changes : Changed) → l ≡ now → IsKept l → is_within_limits tx ≡ true → is_allowed now tx ≡ true → is_failed tx.scripts ≡ false
-    → laid_over changes now ≡ last_draft now tx → l.accounts ≡ [] → l.proposals ≡ [] → IsPassing l tx changes
-passing l now tx changes e k within allowed passed drafted nobody nothing =
-    passes l tx k within (ap (λ (x : Ledger). is_allowed x tx) e ∙ allowed) changes passed (subst (λ (x : Ledger). laid_over changes x ≡ last_draft x tx) (sym e) drafted) nobody nothing
+pub passing : (l now : Ledger) (tx : Tx) (changes : Changed) → l ≡ now → IsKept l → is_within_limits tx ≡ true → is_allowed now tx ≡ true → tx.proposals ≡ [] → is_failed tx.scripts ≡ false
+    → laid_over changes now ≡ last_draft now tx → l.proposals ≡ [] → IsPassing l tx changes
+passing l now tx changes e k within allowed none passed drafted nothing =
+    passes l tx k within (ap (λ (x : Ledger). is_allowed x tx) e ∙ allowed) changes passed (subst (λ (x : Ledger). laid_over changes x ≡ last_draft x tx) (sym e) drafted) none nothing
 
 pub failing : (l now : Ledger) (tx : Tx) → l ≡ now → IsKept l → is_within_limits tx ≡ true → is_allowed now tx ≡ true → is_failed tx.scripts ≡ true → IsFailing l tx
 failing l now tx e k within allowed failed = fails l tx k within (ap (λ (x : Ledger). is_allowed x tx) e ∙ allowed) failed

@@ -2,6 +2,10 @@ pub mod Puts
 pub mod Walks
 pub mod MemberWalks
 pub mod Listings
+pub mod Laid
+pub mod Frozen
+pub mod FirstBook
 pub mod Starting
+pub mod Balances
 pub mod Committing
 pub mod Parts

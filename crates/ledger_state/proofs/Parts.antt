@@ -1,44 +1,78 @@
 -- The parts that the code leaves are those of the ledger after the transaction.
-use Rattle.std.proofs.Common.{◌≡◌, ℕ, ◌+◌, ◌-◌, List, ap, arith, refl, ◌∙◌}
+use Rattle.std.proofs.Common.{◌≡◌, ℕ, ◌+◌, List, ap, arith, ◌∙◌}
 use Rattle.book_records.specs.declared.Output.{Output}
 use Rattle.book_records.specs.Outputs.{lovelace_in}
 use Rattle.gov_ids.specs.declared.Credential.{Credential}
 use Rattle.gov_ids.specs.declared.OutRef.{OutRef}
+use Rattle.gov_ids.specs.declared.TxId.{TxId}
 use Rattle.gov_ids.specs.Orders.{credential_cmp, outref_cmp, txid_cmp}
 use Rattle.gov_actions.specs.declared.state.HotState.{HotState}
 use Rattle.maps.specs.Maps.{with_key, with_values, without_keys}
 use Rattle.tx_records.specs.declared.tx.Tx.{Tx}
 use Rattle.ledger_model.specs.Ledger.{Ledger}
-use Rattle.ledger_model.specs.Transaction.{made_outputs, made_return}
-use Rattle.ledger_model.specs.UtxoRules.{collateral_left, returned}
+use Rattle.ledger_model.specs.Transaction.{after_failed, made_outputs, made_return}
+use Rattle.ledger_model.specs.UtxoRules.{collateral_left, collateral_sum}
+use Rattle.stake_book.specs.Stakes.{Stakes, accounts_of, with_used}
 use Rattle.utxo_set.specs.Utxos.{Utxos}
-use Rattle.ledger_state.specs.Drafts.{Changed}
-use Rattle.ledger_state.proofs.Committing.{IsFailing}
+use Rattle.view_map.specs.View.{frozen_of}
+use Rattle.ledger_state.specs.Books.{KeepsAccounts, KeepsOutputs}
+use Rattle.ledger_state.specs.Drafts.{Changed, with_registrations}
+use Rattle.ledger_state.proofs.Committing.{IsFailing, after_changes}
 
--- the outputs that are left when these were taken
-pub outputs_left : (l : Ledger) (taken rs : List OutRef) (u : Utxos) → rs ≡ taken → u ≡ record { outputs = without_keys outref_cmp rs l.outputs; used = l.used } → u.outputs ≡ without_keys outref_cmp taken l.outputs
-outputs_left l taken rs u e p = ap (λ (x : Utxos). x.outputs) p ∙ ap (λ (ks : List OutRef). without_keys outref_cmp ks l.outputs) e
+-- a book from which outputs were taken
+pub record IsTaken (s a : Stakes) (taken : List OutRef) : Type 0 where
+  pub outputs : a.outputs ≡ record s.outputs { outputs = without_keys outref_cmp taken s.outputs.outputs }
+  pub kept : KeepsAccounts s a
 
-module _ (l : Ledger) (tx : Tx) where
-  pub passed_parts : (changes : Changed) (rs : List OutRef) (u v x : Utxos) (hot : List (Credential × HotState)) → rs ≡ tx.inputs → u ≡ record { outputs = without_keys outref_cmp rs l.outputs; used = l.used }
-      → v ≡ record u { outputs = with_values outref_cmp (made_outputs tx) u.outputs } → x ≡ record v { used = with_key txid_cmp tx.id v.used } → hot ≡ with_values credential_cmp changes.hot l.hot
-      → record l { outputs = x.outputs; used = x.used; hot = hot; fees = l.fees + tx.fee; donations = l.donations + tx.donation }
-      ≡ record l {
-        outputs = with_values outref_cmp (made_outputs tx) (without_keys outref_cmp tx.inputs l.outputs);
-        used = with_key txid_cmp tx.id l.used;
-        hot = with_values credential_cmp changes.hot l.hot;
+pub taken_from : (s a : Stakes) (rs taken : List OutRef) → rs ≡ taken → a.outputs ≡ record s.outputs { outputs = without_keys outref_cmp rs s.outputs.outputs } → KeepsAccounts s a → IsTaken s a taken
+taken_from s a rs taken e p k =
+    record { outputs = p ∙ ap (λ (ks : List OutRef). record s.outputs { outputs = without_keys outref_cmp ks s.outputs.outputs }) e; kept = k }
+
+-- into which others were put, and in which an id was marked
+pub record IsMade (s t : Stakes) (taken : List OutRef) (made : List (OutRef × Output)) (id : TxId) : Type 0 where
+  pub outputs : t.outputs ≡ record { outputs = with_values outref_cmp made (without_keys outref_cmp taken s.outputs.outputs); used = with_key txid_cmp id s.outputs.used }
+  pub kept : KeepsAccounts s t
+
+pub made_from_taken : (s a b t : Stakes) (taken : List OutRef) (made : List (OutRef × Output)) (id : TxId) → IsTaken s a taken
+    → b.outputs ≡ record a.outputs { outputs = with_values outref_cmp made a.outputs.outputs } → KeepsAccounts a b → t ≡ with_used (with_key txid_cmp id b.outputs.used) b → IsMade s t taken made id
+made_from_taken s a b t taken made id h p k q = record {
+  outputs = ap (λ (x : Stakes). x.outputs) q ∙ ap (λ (u : Utxos). record u { used = with_key txid_cmp id u.used }) p
+      ∙ ap (λ (u : Utxos). record { outputs = with_values outref_cmp made u.outputs; used = with_key txid_cmp id u.used }) h.outputs;
+  kept = record {
+    accounts = ap (λ (x : Stakes). accounts_of x) q ∙ k.accounts ∙ h.kept.accounts;
+    frozen = ap (λ (x : Stakes). frozen_of credential_cmp x.accounts) q ∙ k.frozen ∙ h.kept.frozen;
+  };
+}
+
+-- a ledger with the outputs, used ids and registrations of a book
+abbrev pub with_book : Stakes → Ledger → Ledger
+with_book s l = record l { outputs = s.outputs.outputs; used = s.outputs.used; accounts = accounts_of s }
+
+module _ (l : Ledger) (tx : Tx) (s : Stakes) where
+  pub passed_parts : (changes : Changed) (a t : Stakes) (hot : List (Credential × HotState)) → accounts_of a ≡ with_registrations changes.accounts (accounts_of s) → KeepsOutputs s a
+      → IsMade a t tx.inputs (made_outputs tx) tx.id → hot ≡ with_values credential_cmp changes.hot l.hot
+      → record (with_book t l) { hot = hot; fees = l.fees + tx.fee; donations = l.donations + tx.donation } ≡ after_changes (with_book s l) tx changes
+  passed_parts changes a t hot laid k m warm =
+      let outputs = m.outputs ∙ ap (λ (u : Utxos). record {
+        outputs = with_values outref_cmp (made_outputs tx) (without_keys outref_cmp tx.inputs u.outputs);
+        used = with_key txid_cmp tx.id u.used;
+      }) k.outputs in
+      let accounts = m.kept.accounts ∙ laid in
+      λ i. record l {
+        outputs = (outputs i).outputs;
+        used = (outputs i).used;
+        accounts = accounts i;
+        hot = warm i;
         fees = l.fees + tx.fee;
         donations = l.donations + tx.donation;
       }
-  passed_parts changes rs u v x hot e left made marked laid = rw (marked, made, left, e, laid) refl
 
-  pub failed_parts : (rs : List OutRef) (u v x : Utxos) (fee : ℕ) → rs ≡ tx.collateral → u ≡ record { outputs = without_keys outref_cmp rs l.outputs; used = l.used }
-      → v ≡ record u { outputs = with_values outref_cmp (made_return tx) u.outputs } → x ≡ record v { used = with_key txid_cmp tx.id v.used } → fee ≡ collateral_left l tx
-      → record l { outputs = x.outputs; used = x.used; fees = l.fees + fee }
-      ≡ record l { outputs = with_values outref_cmp (made_return tx) (without_keys outref_cmp tx.collateral l.outputs); used = with_key txid_cmp tx.id l.used; fees = l.fees + collateral_left l tx }
-  failed_parts rs u v x fee e left made marked paid = rw (marked, made, left, e, paid) refl
+  pub failed_parts : (t : Stakes) (fee : ℕ) → IsMade s t tx.collateral (made_return tx) tx.id → fee ≡ collateral_left (with_book s l) tx
+      → record (with_book t l) { fees = l.fees + fee } ≡ after_failed (with_book s l) tx
+  failed_parts t fee m paid =
+      λ i. record l { outputs = (m.outputs i).outputs; used = (m.outputs i).used; accounts = m.kept.accounts i; fees = l.fees + paid i }
 
--- what leaves the book, without the return, is what the collateral leaves
-pub loss_is : (l : Ledger) (tx : Tx) → IsFailing l tx → (rs : List OutRef) (u : Utxos) (before after back : ℕ) → rs ≡ tx.collateral → u ≡ record { outputs = without_keys outref_cmp rs l.outputs; used = l.used }
-    → before ≡ lovelace_in l.outputs → after ≡ lovelace_in u.outputs → back ≡ returned tx → before - after - back ≡ collateral_left l tx
-loss_is l tx f rs u before after back e left p q r = omega (arith, f.taken, f.covered, ap (λ (es : List (OutRef × Output)). lovelace_in es) (outputs_left l tx.collateral rs u e left))
+-- what leaves the book is what the collateral holds
+pub taken_sum : (l : Ledger) (tx : Tx) (a : Stakes) (before after : ℕ) → IsFailing l tx → a.outputs.outputs ≡ without_keys outref_cmp tx.collateral l.outputs
+    → before ≡ lovelace_in l.outputs → after ≡ lovelace_in a.outputs.outputs → after + collateral_sum l tx ≡ before
+taken_sum l tx a before after f e p q = omega (arith, f.taken, ap (λ (es : List (OutRef × Output)). lovelace_in es) e)

@@ -1,87 +1,26 @@
--- A book into which outputs are put one by one.
-use Rattle.std.proofs.Common.{◌≡◌, ℕ, ◌+◌, ◌<◌, List, [], ◌∷◌, false, None, fold, map, length, get_or, drop, sum_by, subst, refl, ap, sym, ◌∙◌, arith}
-use Rattle.std.specs.List.{AllByRecursion}
-use Rattle.std.specs.Map.{keys_of}
+-- The outputs of a transaction are put into a book one by one, and others are taken.
+use Rattle.std.proofs.Common.{◌≡◌, ℕ, ◌+◌, ◌<◌, List, [], ◌∷◌, None, length, get_or, drop, sum_by, subst, ap, sym, ◌∙◌, arith}
 use Rattle.std.proofs.lemmas.List.{drop_more, at_drop_more}
 use Rattle.std.proofs.lemmas.List.Sums.{sum_by-drop_more}
 use Rattle.book_records.specs.declared.Output.{Output}
 use Rattle.book_records.specs.Outputs.{lovelace_in}
-use Rattle.gov_ids.specs.declared.Address.{Address}
 use Rattle.gov_ids.specs.declared.OutRef.{OutRef}
 use Rattle.gov_ids.specs.declared.TxId.{TxId}
-use Rattle.gov_ids.specs.Orders.{outref_cmp, txid_cmp}
+use Rattle.gov_ids.specs.Orders.{outref_cmp}
 use Rattle.gov_ids.proofs.Totals.{outref_total}
 use Rattle.gov_ids.proofs.Exacts.{outref_exact}
 use Rattle.tx_records.specs.declared.tx.TxOutput.{TxOutput}
 use Rattle.ledger_model.specs.Transaction.{kept_output}
 use Rattle.tx_balance.proofs.Outputs.{made_from}
 use Rattle.maps.proofs.Several.{without_keys_more, without_keys_none}
-use Rattle.maps.proofs.Fresh.{AreFresh, distinct_from_repeats, fresh_from_absent}
+use Rattle.maps.proofs.Fresh.{AreFresh}
 use Rattle.maps.proofs.Sums.{sum_values-with_value_absent}
-use Rattle.maps.specs.Maps.{IsMap, without_key, without_keys, value_at, with_value, with_values, with_key}
-use Rattle.maps.specs.Words.{repeats}
+use Rattle.maps.specs.Maps.{IsMap, without_key, without_keys, value_at, with_value, with_values}
 use Rattle.utxo_set.specs.Utxos.{Utxos}
 
 -- an entry more
 put_sum : (e : OutRef × Output) (es fs : List (OutRef × Output)) → value_at outref_cmp es e.0 ≡ None → fs ≡ with_value outref_cmp e.0 e.1 es → lovelace_in fs ≡ lovelace_in es + e.1.lovelace
 put_sum e es fs h p = ap (λ (us : List (OutRef × Output)). lovelace_in us) p ∙ sum_values-with_value_absent (λ o. o.lovelace) outref_cmp e.0 e.1 es h
-
-none_in_empty : (ks : List OutRef) → AllByRecursion (λ q. value_at {X = Output} outref_cmp [] q ≡ None) ks
-none_in_empty [] = tt
-none_in_empty (k ∷ ks) = (refl, none_in_empty ks)
-
--- ---- the outputs of a genesis
-
--- what the book has of an output of a genesis
-abbrev pub first_entry : OutRef × Address × ℕ → OutRef × Output
-first_entry o = (o.0, record { address = o.1; lovelace = o.2 })
-
--- the lovelace of an output of a genesis
-abbrev pub listed_lovelace : OutRef × Address × ℕ → ℕ
-listed_lovelace o = o.2
-
--- the book when these are put in, with their ids
-abbrev pub with_first : List (OutRef × Address × ℕ) → Utxos → Utxos
-with_first new u = record {
-  outputs = with_values outref_cmp (map first_entry new) u.outputs;
-  used = fold (λ (s : List TxId) (k : TxId). with_key txid_cmp k s) u.used (map (λ (o : OutRef × Address × ℕ). o.0.tx) new);
-}
-
-first_keys : (new : List (OutRef × Address × ℕ)) → keys_of (map first_entry new) ≡ map (λ (o : OutRef × Address × ℕ). o.0) new
-first_keys [] = refl
-first_keys (x ∷ xs) = ap (λ (ks : List OutRef). x.0 ∷ ks) (first_keys xs)
-
--- outputs that do not repeat are new to the empty book
-pub first_new : (new : List (OutRef × Address × ℕ)) → repeats outref_cmp (map (λ (o : OutRef × Address × ℕ). o.0) new) ≡ false → AreFresh outref_cmp (map first_entry new) []
-first_new new h =
-    fresh_from_absent outref_total (map first_entry new) [] (distinct_from_repeats outref_cmp (keys_of (map first_entry new)) (ap (λ (ks : List OutRef). repeats outref_cmp ks) (first_keys new) ∙ h))
-    (none_in_empty (keys_of (map first_entry new)))
-
-module _ (new : List (OutRef × Address × ℕ)) (u v w : Utxos) (i : ℕ) (d : OutRef × Address × ℕ) (l : i < length new) where
-  abbrev item : OutRef × Address × ℕ
-  item = get_or new i d
-
-  fresh_next : AreFresh outref_cmp (map first_entry (drop i new)) u.outputs → AreFresh outref_cmp (map first_entry (item ∷ drop (i + 1) new)) u.outputs
-  fresh_next h = subst (λ (left : List (OutRef × Address × ℕ)). AreFresh outref_cmp (map first_entry left) u.outputs) (drop_more new i d l) h
-
-  -- the first of what is left comes to a key with no value
-  pub first_absent : AreFresh outref_cmp (map first_entry (drop i new)) u.outputs → value_at outref_cmp u.outputs item.0 ≡ None
-  first_absent h = (fresh_next h).0
-
-  -- after it the others are new
-  pub first_fresh : AreFresh outref_cmp (map first_entry (drop i new)) u.outputs
-      → w.outputs ≡ with_value outref_cmp item.0 (first_entry item).1 u.outputs → AreFresh outref_cmp (map first_entry (drop (i + 1) new)) w.outputs
-  first_fresh h e = subst (λ (us : List (OutRef × Output)). AreFresh outref_cmp (map first_entry (drop (i + 1) new)) us) (sym e) (fresh_next h).1
-
-  -- and the sum with the others stays
-  pub first_sum : (s : ℕ) → AreFresh outref_cmp (map first_entry (drop i new)) u.outputs → lovelace_in u.outputs + sum_by listed_lovelace (drop i new) ≡ s
-      → w.outputs ≡ with_value outref_cmp item.0 (first_entry item).1 u.outputs → lovelace_in w.outputs + sum_by listed_lovelace (drop (i + 1) new) ≡ s
-  first_sum s h e p = omega (arith, put_sum (first_entry item) u.outputs w.outputs (first_absent h) p, sum_by-drop_more listed_lovelace new i d l)
-
-  -- and the book with the others
-  pub first_rest : v ≡ record u { outputs = with_value outref_cmp item.0 (first_entry item).1 u.outputs } → w ≡ record v { used = with_key txid_cmp item.0.tx v.used }
-      → with_first (drop (i + 1) new) w ≡ with_first (drop i new) u
-  first_rest p q = sym (at_drop_more (λ (left : List (OutRef × Address × ℕ)). with_first left u) new i d l ∙ rw (q, p))
 
 -- ---- the outputs of a transaction
 

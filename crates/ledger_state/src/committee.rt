@@ -62,7 +62,8 @@ fn terms_of(alloc: Global, members: &[Member]) -> Result<BTreeMap<Credential, u6
 
 /// The hot keys of these members.
 pub fn first_hot(alloc: Global, members: &[Member]) -> Result<HotBook, NoMemory>
-    ensures { IfOk result (λ hot. hot ≡ with_values credential_cmp (filter_map (λ m. option_map (λ key. (m.0, Hot key)) m.2) members.now) []) }
+    ensures { IfOk result (λ hot. hot ≡
+        with_values credential_cmp (filter_map (λ m. option_map (λ key. (m.0, Hot key)) m.2) members.now) []) }
 {
     let mut hot = HotBook::new(alloc);
     for (cold, _, key) in members {

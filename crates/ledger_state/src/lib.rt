@@ -3,15 +3,18 @@
 
 mod books;
 mod built;
+mod changes;
 mod committee;
 mod draft;
 mod entries;
 mod fault;
+mod first;
 mod genesis_rules;
 mod state;
 
 pub use built::is_built_genesis;
-pub use draft::{Changes, Draft};
+pub use changes::Changes;
+pub use draft::Draft;
 pub use fault::GenesisFault;
 pub use state::LedgerState;
 

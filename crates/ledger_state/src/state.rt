@@ -1,13 +1,20 @@
 ghost use Rattle.std.specs.Prelude.{◌≡◌};
+ghost use Rattle.gov_ids.specs.Orders.{credential_cmp, pool_cmp};
 ghost use Rattle.ledger_model.specs.Ledger.{params_of};
 ghost use Rattle.ledger_model.specs.Supply.{pots_of};
+ghost use Rattle.maps.specs.Maps.{value_at};
+ghost use Rattle.stake_book.specs.Stakes.{registrations};
+ghost use Rattle.view_map.specs.View.{frozen_of};
 
 mod commit;
 mod genesis;
 
+use book_records::{DrepState, Pool};
 use committee_book::HotBook;
 use gov_actions::EnactState;
+use gov_ids::{Credential, PoolId};
 use pparams::Params;
+use stake_book::StakeBook;
 use std::marker::Model;
 use tx_records::Pots;
 use utxo_set::UtxoSet;
@@ -24,21 +31,21 @@ pub struct LedgerState {
     fees: u64,
     donations: u64,
     state: EnactState,
-    utxo: UtxoSet,
+    stake: StakeBook,
     hot: HotBook,
 }
 
 impl Model for LedgerState {
     ghost use Rattle.std.specs.Coded.{codes};
-    ghost use Rattle.ledger_model.specs.Ledger.{Ledger};
+    ghost use Rattle.ledger_state.specs.Standing.{Standing};
 
-    ghost Value = { Ledger };
+    ghost Value = { Standing };
 
     ghost coded = { Prim.hlevel codes };
 
-    ghost use Rattle.ledger_state.specs.Kept.{IsKept, ledger_view};
+    ghost use Rattle.ledger_state.specs.Kept.{IsKept, ledger_view, standing_view};
 
-    ghost view = { ledger_view };
+    ghost view = { standing_view };
 
     ghost invariant = { λ a. IsKept (ledger_view a) };
 }
@@ -46,97 +53,131 @@ impl Model for LedgerState {
 impl LedgerState {
     /// The network: 0 for the test networks, 1 for mainnet. (Own)
     pub fn network(&self) -> u8
-        ensures { result ≡ self.now.network }
+        ensures { result ≡ self.now.ledger.network }
     {
         self.network
     }
 
     /// Slots in an epoch. (Own)
     pub fn epoch_length(&self) -> u32
-        ensures { result ≡ self.now.epoch_length }
+        ensures { result ≡ self.now.ledger.epoch_length }
     {
         self.epoch_length
     }
 
     /// The supply, in lovelace. (Own)
     pub fn supply(&self) -> u64
-        ensures { result ≡ self.now.supply }
+        ensures { result ≡ self.now.ledger.supply }
     {
         self.supply
     }
 
     /// The last slot. (Own)
     pub fn slot(&self) -> u64
-        ensures { result ≡ self.now.slot }
+        ensures { result ≡ self.now.ledger.slot }
     {
         self.slot
     }
 
     /// The epoch of the last slot. (NewEpochState of the formal specification)
     pub fn epoch(&self) -> u64
-        ensures { result ≡ self.now.epoch }
+        ensures { result ≡ self.now.ledger.epoch }
     {
         self.epoch
     }
 
     /// The reserves, in lovelace. (Acnt of the formal specification)
     pub fn reserves(&self) -> u64
-        ensures { result ≡ self.now.reserves }
+        ensures { result ≡ self.now.ledger.reserves }
     {
         self.reserves
     }
 
     /// The fee pot, in lovelace. (UTxOState of the formal specification)
     pub fn fees(&self) -> u64
-        ensures { result ≡ self.now.fees }
+        ensures { result ≡ self.now.ledger.fees }
     {
         self.fees
     }
 
     /// The donation pot, in lovelace. (UTxOState of the formal specification)
     pub fn donations(&self) -> u64
-        ensures { result ≡ self.now.donations }
+        ensures { result ≡ self.now.ledger.donations }
     {
         self.donations
     }
 
     /// Parameters, version, committee, constitution, last enacted ids and the treasury in lovelace. (EnactState of the formal specification)
     pub fn state(&self) -> &EnactState
-        ensures { result.now ≡ self.now.state }
+        ensures { result.now ≡ self.now.ledger.state }
     {
         &self.state
     }
 
     /// The protocol parameters. (PParams of the formal specification)
     pub fn params(&self) -> &Params
-        ensures { result.now ≡ params_of self.now }
+        ensures { result.now ≡ params_of self.now.ledger }
     {
         &self.state.params
     }
 
     /// The unspent outputs and the used transaction ids. (UTxOState of the formal specification; that used ids are kept is own)
     pub fn outputs(&self) -> &UtxoSet
-        ensures outputs { result.now.outputs ≡ self.now.outputs }
-        ensures used { result.now.used ≡ self.now.used }
+        ensures outputs { result.now.outputs ≡ self.now.ledger.outputs }
+        ensures used { result.now.used ≡ self.now.ledger.used }
     {
-        &self.utxo
+        self.stake.outputs()
+    }
+
+    /// The same beside the accounts with their stakes, and the entries of the last freeze. (UTxOState and DState of the formal specification)
+    pub fn stake(&self) -> &StakeBook
+        ensures outputs { result.now.outputs.outputs ≡ self.now.ledger.outputs }
+        ensures used { result.now.outputs.used ≡ self.now.ledger.used }
+        ensures accounts { registrations result.now.accounts.live ≡ self.now.ledger.accounts }
+        ensures frozen { frozen_of credential_cmp result.now.accounts ≡ self.now.frozen }
+    {
+        &self.stake
     }
 
     /// The hot keys and resignations of cold keys. (GState of the formal specification)
     pub fn hot(&self) -> &HotBook
-        ensures { result.now ≡ self.now.hot }
+        ensures { result.now ≡ self.now.ledger.hot }
     {
         &self.hot
     }
 
-    /// The seven pots, in lovelace. (The preservation of value of the formal specification)
-    pub fn pots(&self) -> Pots
-        ensures { result ≡ pots_of self.now }
+    /// A registered pool: none so far, since there is no book of pools yet. (PState of the formal specification)
+    pub fn pool(&self, _pool: &PoolId) -> Option<Pool>
+        ensures { result ≡ value_at pool_cmp self.now.ledger.pools _pool.now }
     {
+        let _ = &self.stake;
+        None
+    }
+
+    /// A registered DRep: none so far, since there is no book of DReps yet. (GState of the formal specification)
+    pub fn drep(&self, _c: &Credential) -> Option<DrepState>
+        ensures { result ≡ value_at credential_cmp self.now.ledger.dreps _c.now }
+    {
+        let _ = &self.stake;
+        None
+    }
+
+    /// The seven pots, in lovelace. They hold the supply, so the deposits are what the others leave of it. (The preservation of value of the formal specification)
+    pub fn pots(&self) -> Pots
+        ensures { result ≡ pots_of self.now.ledger }
+    {
+        let outputs = self.outputs().total();
+        let rewards = self.stake.balances();
+        let others = outputs
+            + rewards
+            + self.fees
+            + self.donations
+            + self.state.treasury
+            + self.reserves;
         Pots {
-            outputs: self.utxo.total(),
-            deposits: 0,
-            rewards: 0,
+            outputs,
+            deposits: self.supply - others,
+            rewards,
             fees: self.fees,
             donations: self.donations,
             treasury: self.state.treasury,

@@ -11,6 +11,8 @@ use std::alloc::Global;
 use std::test::Fail;
 use tx_records::{Genesis, GenesisCommittee, GenesisRule, Pots};
 
+mod registrations;
+
 fn key(byte: u8) -> Credential {
     Credential {
         hash: [byte; 28],
@@ -164,17 +166,5 @@ fn tells_the_first_rule_that_a_genesis_breaks(rt: HostRuntime) -> Result<(), Fai
         let fault = LedgerState::from_genesis(rt.alloc(), &genesis).err();
         assert_eq!(rt; fault, Some(GenesisFault::Broken(rule)));
     }
-    Ok(())
-}
-
-#[test]
-fn a_new_draft_changes_nothing(rt: HostRuntime) -> Result<(), Fail> {
-    let genesis = genesis(rt.alloc(), params()?, 100, 2, 1, 0)?;
-    assert!(rt; genesis.is_within_limits());
-    let ledger = LedgerState::from_genesis(rt.alloc(), &genesis)?;
-    let draft = Draft::new(rt.alloc(), &ledger);
-    assert_eq!(rt; draft.start().supply(), 100);
-    assert_eq!(rt; draft.moved(), (0, 0));
-    drop(draft.into_changes());
     Ok(())
 }

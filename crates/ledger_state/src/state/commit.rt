@@ -1,26 +1,26 @@
-ghost use Rattle.std.specs.Prelude.{◌≡◌, false, true, IfOk};
-ghost use Rattle.gov_ids.specs.Orders.{credential_cmp};
+ghost use Rattle.std.specs.Prelude.{◌≡◌, [], false, true, IfOk};
 ghost use Rattle.ledger_model.specs.Broken.{is_allowed};
 ghost use Rattle.ledger_model.specs.Draft.{last_draft};
 ghost use Rattle.ledger_model.specs.Transaction.{ledger_after_tx};
 ghost use Rattle.ledger_model.specs.UtxoRules.{is_failed, returned};
 ghost use Rattle.ledger_state.specs.Drafts.{draft_of, laid_over};
-ghost use Rattle.maps.specs.Maps.{with_values};
+ghost use Rattle.ledger_state.specs.Standing.{on_ledger};
 ghost use Rattle.tx_records.specs.TxLimits.{is_within_limits};
 
 use super::LedgerState;
 use crate::books::{with_outputs, with_return, without_outputs};
-use crate::draft::Changes;
+use crate::changes::Changes;
 use coin_frac::NoMemory;
 use tx_records::{Scripts, Tx};
 
 impl LedgerState {
-    /// The ledger after an allowed transaction, whose changes these are. After want of memory there is no ledger. (UTXO and LEDGER of the formal specification)
+    /// The ledger after an allowed transaction, whose changes these are. It proposes nothing, since the book of proposals is to come. What was frozen stays. After want of memory there is no ledger. (UTXO and LEDGER of the formal specification)
     pub fn commit(self, changes: Changes, tx: &Tx) -> Result<LedgerState, NoMemory>
         requires within { is_within_limits tx.now ≡ true }
-        requires allowed { is_allowed self tx.now ≡ true }
-        requires drafted { laid_over changes self ≡ draft_of self tx.now }
-        ensures { IfOk result (λ s. s ≡ ledger_after_tx self tx.now) }
+        requires allowed { is_allowed self.ledger tx.now ≡ true }
+        requires unproposed { tx.now.proposals ≡ [] }
+        requires drafted { laid_over changes self.ledger ≡ draft_of self.ledger tx.now }
+        ensures { IfOk result (λ s. s ≡ on_ledger (λ l. ledger_after_tx l tx.now) self) }
     {
         match tx.scripts {
             Scripts::Absent | Scripts::Passed => self.passed(changes, tx),
@@ -31,19 +31,20 @@ impl LedgerState {
     /// The ledger after an allowed transaction whose scripts did not fail: it is changed, its inputs are spent, its outputs are made, and its fee and donation join their pots.
     fn passed(self, changes: Changes, tx: &Tx) -> Result<LedgerState, NoMemory>
         requires within { is_within_limits tx.now ≡ true }
-        requires allowed { is_allowed self tx.now ≡ true }
+        requires allowed { is_allowed self.ledger tx.now ≡ true }
+        requires unproposed { tx.now.proposals ≡ [] }
         requires passed { is_failed tx.now.scripts ≡ false }
-        requires drafted { laid_over changes self ≡ last_draft self tx.now }
-        ensures { IfOk result (λ s. s ≡ ledger_after_tx self tx.now) }
+        requires drafted { laid_over changes self.ledger ≡ last_draft self.ledger tx.now }
+        ensures { IfOk result (λ s. s ≡ on_ledger (λ l. ledger_after_tx l tx.now) self) }
     {
-        let hot = changes.laid_over_hot(self.hot)?;
-        let utxo = without_outputs(self.utxo, tx.inputs.as_slice());
-        let mut utxo = with_outputs(utxo, tx)?;
-        utxo.mark_used(tx.id)?;
+        let (stake, hot) = changes.laid_over(self.stake, self.hot)?;
+        let stake = without_outputs(stake, tx.inputs.as_slice())?;
+        let mut stake = with_outputs(stake, tx)?;
+        stake.mark_used(tx.id)?;
         Ok(LedgerState {
             fees: self.fees + tx.fee,
             donations: self.donations + tx.donation,
-            utxo,
+            stake,
             hot,
             ..self
         })
@@ -52,18 +53,18 @@ impl LedgerState {
     /// The ledger after an allowed transaction whose scripts failed: its collateral is spent, and what the return leaves of it joins the fees.
     fn failed(self, tx: &Tx) -> Result<LedgerState, NoMemory>
         requires within { is_within_limits tx.now ≡ true }
-        requires allowed { is_allowed self tx.now ≡ true }
+        requires allowed { is_allowed self.ledger tx.now ≡ true }
         requires failed { is_failed tx.now.scripts ≡ true }
-        ensures { IfOk result (λ s. s ≡ ledger_after_tx self tx.now) }
+        ensures { IfOk result (λ s. s ≡ on_ledger (λ l. ledger_after_tx l tx.now) self) }
     {
-        let held = self.utxo.total();
-        let utxo = without_outputs(self.utxo, tx.collateral.as_slice());
-        let collateral = held - utxo.total();
-        let mut utxo = with_return(utxo, tx)?;
-        utxo.mark_used(tx.id)?;
+        let held = self.outputs().total();
+        let stake = without_outputs(self.stake, tx.collateral.as_slice())?;
+        let collateral = held - stake.outputs().total();
+        let mut stake = with_return(stake, tx)?;
+        stake.mark_used(tx.id)?;
         Ok(LedgerState {
             fees: self.fees + (collateral - returned(tx)),
-            utxo,
+            stake,
             ..self
         })
     }

@@ -5,9 +5,9 @@ ghost use Rattle.ledger_state.specs.Built.{is_built_genesis};
 ghost use Rattle.ledger_state.specs.Starts.{StartsAs};
 
 use super::LedgerState;
-use crate::books::first_outputs;
 use crate::committee::{first_committee, first_hot, members_of};
 use crate::fault::GenesisFault;
+use crate::first::first_stake;
 use crate::genesis_rules::broken_rule;
 use coin_frac::NoMemory;
 use gov_actions::{EnactState, LastIds};
@@ -15,7 +15,7 @@ use std::alloc::Global;
 use tx_records::Genesis;
 
 impl LedgerState {
-    /// The ledger of a genesis that is built and breaks no genesis rule; otherwise the first rule that it breaks, or `NoMemory`, which may come at any time. (Own)
+    /// The ledger of a genesis that is built and breaks no genesis rule; its own account entries frozen; otherwise the first rule that it breaks, or `NoMemory`, which may come at any time. (Own)
     pub fn from_genesis(alloc: Global, genesis: &Genesis) -> Result<LedgerState, GenesisFault>
         requires built { is_built_genesis genesis.now ≡ true }
         requires within { is_within_limits genesis.now ≡ true }
@@ -34,7 +34,7 @@ impl LedgerState {
             fees: 0,
             donations: 0,
             state: first_state(alloc, genesis)?,
-            utxo: first_outputs(alloc, genesis.outputs.as_slice())?,
+            stake: first_stake(alloc, genesis)?,
             hot: first_hot(alloc, members_of(&genesis.committee))?,
         })
     }

@@ -1,0 +1,66 @@
+ghost use Rattle.std.specs.Prelude.{◌≡◌, [], None, IfOk};
+ghost use Rattle.gov_ids.specs.Orders.{credential_cmp};
+ghost use Rattle.run_model.specs.Freeze.{entries_of};
+ghost use Rattle.run_model.specs.Genesis.{genesis_fault, ledger_of_genesis};
+ghost use Rattle.stake_book.specs.Stakes.{accounts_of};
+ghost use Rattle.view_map.specs.View.{frozen_of};
+
+use book_records::{Output, Registered};
+use coin_frac::NoMemory;
+use stake_book::StakeBook;
+use std::alloc::Global;
+use tx_records::Genesis;
+
+/// The book of the accounts and outputs of a genesis, its entries frozen. (Own)
+pub fn first_stake(alloc: Global, genesis: &Genesis) -> Result<StakeBook, NoMemory>
+    requires unbroken { genesis_fault genesis.now ≡ None }
+    ensures outputs { IfOk result (λ stake. stake.outputs.outputs ≡ (ledger_of_genesis genesis.now).outputs) }
+    ensures used { IfOk result (λ stake. stake.outputs.used ≡ (ledger_of_genesis genesis.now).used) }
+    ensures accounts { IfOk result (λ stake. accounts_of stake ≡ (ledger_of_genesis genesis.now).accounts) }
+    ensures frozen { IfOk result (λ stake. frozen_of credential_cmp stake.accounts ≡ entries_of (ledger_of_genesis genesis.now)) }
+{
+    let stake = first_accounts(alloc, genesis)?;
+    let mut stake = with_first_outputs(stake, genesis)?;
+    stake.freeze();
+    Ok(stake)
+}
+
+/// The book of the accounts of a genesis, with no output.
+fn first_accounts(alloc: Global, genesis: &Genesis) -> Result<StakeBook, NoMemory>
+    requires unbroken { genesis_fault genesis.now ≡ None }
+    ensures outputs { IfOk result (λ stake. stake.outputs ≡ record { outputs = []; used = [] }) }
+    ensures accounts { IfOk result (λ stake. accounts_of stake ≡ (ledger_of_genesis genesis.now).accounts) }
+{
+    let mut stake = StakeBook::new(alloc);
+    for (credential, deposit, rewards, pool, drep) in genesis.accounts.as_slice() {
+        let registered = Registered {
+            deposit: *deposit,
+            rewards: *rewards,
+            pool: *pool,
+            drep: *drep,
+        };
+        stake.set_account(*credential, Some(registered))?;
+    }
+    Ok(stake)
+}
+
+/// With the outputs of a genesis, whose transaction ids count as used, beside its accounts.
+fn with_first_outputs(stake: StakeBook, genesis: &Genesis) -> Result<StakeBook, NoMemory>
+    requires unbroken { genesis_fault genesis.now ≡ None }
+    requires outputs { stake.outputs ≡ record { outputs = []; used = [] } }
+    requires accounts { accounts_of stake ≡ (ledger_of_genesis genesis.now).accounts }
+    ensures outputs { IfOk result (λ after. after.outputs.outputs ≡ (ledger_of_genesis genesis.now).outputs) }
+    ensures used { IfOk result (λ after. after.outputs.used ≡ (ledger_of_genesis genesis.now).used) }
+    ensures accounts { IfOk result (λ after. accounts_of after ≡ accounts_of stake) }
+{
+    let mut stake = stake;
+    for (at, address, lovelace) in genesis.outputs.as_slice() {
+        let output = Output {
+            address: *address,
+            lovelace: *lovelace,
+        };
+        stake.add(*at, output)?;
+        stake.mark_used(at.tx)?;
+    }
+    Ok(stake)
+}
