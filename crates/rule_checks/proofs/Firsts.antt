@@ -13,7 +13,8 @@ by_place : (i : ℕ) (o : Option Rule) → answer_by (option_map (placed i) o) �
 by_place i None = refl
 by_place i (Some r) = refl
 
-answer-at_place : (i : ℕ) (cs : List Check) → answer_of (map (at_place i) cs) ≡ answer_at i (answer_of cs)
+-- the answer of an item's checks at its place
+pub answer-at_place : (i : ℕ) (cs : List Check) → answer_of (map (at_place i) cs) ≡ answer_at i (answer_of cs)
 answer-at_place i cs = ap answer_by (first_among-at_place i cs) ∙ by_place i (first_among cs)
 
 module _ {X : Type 0} (checks : ℕ → X → List Check) where

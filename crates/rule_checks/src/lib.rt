@@ -3,9 +3,10 @@
 
 ghost use Rattle.std.specs.Prelude.{◌≡◌, ◌<◌, ◌≤◌, ◌^◌, length};
 ghost use Rattle.ledger_model.specs.Checks.{answer_of, per_place};
+ghost use Rattle.rule_checks.specs.Answered.{as_fault};
 ghost use Rattle.rule_checks.specs.Places.{answer_at};
 
-use tx_records::Rule;
+use tx_records::{Rule, TxFault};
 
 /// The rules on the items of a list, with what they look at. (Own)
 pub trait ItemRules {
@@ -39,4 +40,11 @@ pub fn at_place(answer: Result<(), Rule>, place: usize) -> Result<(), Rule>
     ensures { result ≡ answer_at place answer }
 {
     answer.map_err(|rule| rule.at(place as u32))
+}
+
+/// The same answer, as that of a call that may also run out of memory. (Own)
+pub fn as_fault(answer: Result<(), Rule>) -> Result<(), TxFault>
+    ensures { result ≡ as_fault answer }
+{
+    answer.map_err(TxFault::Refused)
 }

@@ -1,63 +1,86 @@
 //! A transaction is judged by all rules, and applied where it breaks none.
 #![tactic(auto)]
 
-ghost use Rattle.std.specs.Prelude.{◌≡◌, true, IfOk};
+ghost use Rattle.std.specs.Prelude.{◌≡◌, true, IfOk, OnOk};
 ghost use Rattle.ledger_model.specs.Broken.{body_checks};
-ghost use Rattle.ledger_model.specs.Checks.{answer_of};
+ghost use Rattle.ledger_model.specs.Checks.{first_among};
+ghost use Rattle.ledger_model.specs.Draft.{last_draft};
 ghost use Rattle.ledger_model.specs.Transaction.{accepted_as, tx_step};
 ghost use Rattle.ledger_model.specs.UtxoRules.{unless_failed};
-ghost use Rattle.ledger_state.specs.Drafts.{draft_at};
+ghost use Rattle.ledger_state.specs.Drafts.{draft_at, draft_of};
+ghost use Rattle.ledger_state.specs.Standing.{on_ledger};
+ghost use Rattle.rule_checks.specs.Answered.{IsAnswered};
 ghost use Rattle.tx_records.specs.TxLimits.{is_within_limits};
 ghost use Rattle.tx_rule.specs.Built.{is_built_tx};
 ghost use Rattle.tx_rule.specs.Judged.{IsJudged};
 
 mod built;
+mod certs;
 
+use crate::certs::certify;
 pub use built::is_built_tx;
+use cert_deleg::withdraw;
 use coin_frac::NoMemory;
 use ledger_state::{Changes, Draft, LedgerState};
+use rule_checks::as_fault;
 use std::alloc::Global;
-use tx_records::{Reply, Rule, Scripts, Tx};
+use tx_records::{Reply, Rule, Scripts, Tx, TxFault};
 use utxo_rules::{balance, check};
 
-/// Judges a transaction, and applies it where it breaks no rule; the ledger of a refused one is the one that was given. After want of memory there is no ledger. (LEDGER of the formal specification)
-#[tactic(auto, using(crate::proofs::Judged::step_refused, crate::proofs::Judged::step_accepted))]
+/// Judges a transaction, and applies it where it breaks no rule; the ledger of a refused one is the one that was given, and what was frozen stays. After want of memory there is no ledger. (LEDGER of the formal specification)
 pub fn apply_tx(alloc: Global, s: LedgerState, tx: &Tx) -> Result<(LedgerState, Reply), NoMemory>
     requires built { is_built_tx tx.now ≡ true }
     requires within { is_within_limits tx.now ≡ true }
-    ensures ledger { IfOk result (λ r. r.0 ≡ (tx_step s tx.now).0) }
-    ensures reply { IfOk result (λ r. r.1 ≡ (tx_step s tx.now).1) }
+    ensures ledger { IfOk result (λ r. r.0 ≡ on_ledger (λ l. (tx_step l tx.now).0) s) }
+    ensures reply { IfOk result (λ r. r.1 ≡ (tx_step s.ledger tx.now).1) }
     ensures kept { (rule : Rule) → IfOk result (λ r. r.1 ≡ Reply.Refused rule → r.0 ≡ s) }
 {
     match judge(alloc, &s, tx) {
-        Err(rule) => Ok((s, Reply::Refused(rule))),
         Ok(changes) => Ok((s.commit(changes, tx)?, accepted_as(tx.scripts))),
+        Err(TxFault::Refused(rule)) => Ok((s, Reply::Refused(rule))),
+        Err(TxFault::NoMemory) => Err(NoMemory),
     }
 }
 
 /// What a transaction that breaks no rule changes, or the first rule that it breaks.
-fn judge(alloc: Global, s: &LedgerState, tx: &Tx) -> Result<Changes, Rule>
+fn judge(alloc: Global, s: &LedgerState, tx: &Tx) -> Result<Changes, TxFault>
     requires built { is_built_tx tx.now ≡ true }
     requires within { is_within_limits tx.now ≡ true }
-    ensures { IsJudged result s.now tx.now }
+    ensures { IsJudged result s.now.ledger tx.now }
 {
-    check(s, tx)?;
-    let draft = Draft::new(alloc, s);
-    judge_body(&draft, tx)?;
+    as_fault(check(s, tx))?;
+    let mut draft = Draft::new(alloc, s);
+    judge_body(&mut draft, tx)?;
     Ok(draft.into_changes())
 }
 
-/// The first rule of the body that the transaction breaks, if there is one; one whose scripts failed need not keep them.
-fn judge_body(draft: &Draft, tx: &Tx) -> Result<(), Rule>
+/// Makes the draft of the transaction, or tells the first rule of its body that it breaks. One whose scripts failed need not keep them, and changes nothing in the draft.
+fn judge_body(draft: &mut Draft, tx: &Tx) -> Result<(), TxFault>
     requires built { is_built_tx tx.now ≡ true }
     requires within { is_within_limits tx.now ≡ true }
-    requires fresh { draft.now ≡ draft_at draft.now.start }
-    ensures { result ≡ answer_of (unless_failed tx.now.scripts (body_checks draft.now.start tx.now)) }
+    requires fresh { draft.old ≡ draft_at draft.old.start }
+    ensures rule { IsAnswered (first_among (unless_failed tx.now.scripts (body_checks draft.old.start tx.now))) result }
+    ensures ledger { OnOk result (draft.new.ledger ≡ draft_of draft.old.start tx.now) }
+    ensures start { draft.new.start ≡ draft.old.start }
 {
     match tx.scripts {
         Scripts::Failed => Ok(()),
-        Scripts::Absent | Scripts::Passed => balance(draft, tx),
+        Scripts::Absent | Scripts::Passed => judge_passed(draft, tx),
     }
+}
+
+/// The same of one whose scripts did not fail: its withdrawals, its certificates, and its balance.
+fn judge_passed(draft: &mut Draft, tx: &Tx) -> Result<(), TxFault>
+    requires built { is_built_tx tx.now ≡ true }
+    requires within { is_within_limits tx.now ≡ true }
+    requires fresh { draft.old ≡ draft_at draft.old.start }
+    ensures rule { IsAnswered (first_among (body_checks draft.old.start tx.now)) result }
+    ensures ledger { OnOk result (draft.new.ledger ≡ last_draft draft.old.start tx.now) }
+    ensures start { draft.new.start ≡ draft.old.start }
+{
+    withdraw(draft, tx)?;
+    certify(draft, tx)?;
+    as_fault(balance(draft, tx))
 }
 
 /// The reply to a transaction that breaks no rule.

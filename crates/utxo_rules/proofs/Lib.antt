@@ -1,2 +1,4 @@
 pub mod Balances
 pub mod Groups
+pub mod Repeated
+pub mod Stops

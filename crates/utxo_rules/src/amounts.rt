@@ -7,7 +7,7 @@ use tx_records::{ProposalRecord, TxOutput};
 
 /// What the unspent outputs at these references hold, in lovelace; a reference that has none counts as 0.
 pub fn lovelace_spent(s: &LedgerState, refs: &[OutRef]) -> u128
-    ensures sum { result ≡ sum_by (lovelace_at s.now) refs.now }
+    ensures sum { result ≡ sum_by (lovelace_at s.now.ledger) refs.now }
     ensures fits { result ≤ length refs.now * u64.MAX }
 {
     let outputs = s.outputs();

@@ -4,7 +4,6 @@ ghost use Rattle.ledger_model.specs.UtxoRules.{collateral_checks, collateral_lis
 ghost use Rattle.tx_records.specs.TxLimits.{is_within_limits};
 
 use crate::amounts::lovelace_spent;
-use crate::inputs::stands_before;
 use gov_ids::{CredKind, OutRef};
 use ledger_state::LedgerState;
 use rule_checks::{ItemRules, check_each};
@@ -23,7 +22,7 @@ fn has_scripts(tx: &Tx) -> bool
 
 /// The rules on the list of collateral.
 pub fn check_collateral_list(s: &LedgerState, tx: &Tx) -> Result<(), Rule>
-    ensures { result ≡ answer_of (collateral_list_checks s.now tx.now) }
+    ensures { result ≡ answer_of (collateral_list_checks s.now.ledger tx.now) }
 {
     let most = s.params().max_collateral_inputs;
     if tx.collateral.len() > usize::from(most) {
@@ -35,25 +34,26 @@ pub fn check_collateral_list(s: &LedgerState, tx: &Tx) -> Result<(), Rule>
     Ok(())
 }
 
-/// The rules on each collateral input.
+/// The rules on each collateral input up to the first repeated one, which breaks one of them.
 #[derive(Drop)]
 struct Collateral<'a> {
     s: &'a LedgerState,
     tx: &'a Tx,
+    repeated: Option<usize>,
 }
 
 impl<'a> ItemRules for Collateral<'a> {
-    ghost use Rattle.ledger_model.specs.UtxoRules.{collateral_checks};
+    ghost use Rattle.utxo_rules.specs.Repeated.{collateral_checks_by, is_at};
 
     type Item = OutRef;
 
-    ghost checks = { λ r i at. collateral_checks r.s.now r.tx.now i at };
+    ghost checks = { λ r i at. collateral_checks_by r.s.now.ledger r.tx.now (is_at r.repeated i) at };
 
     fn check(&self, place: usize, at: &OutRef) -> Result<(), Rule> {
         let Some(output) = self.s.outputs().get(at) else {
             return Err(Rule::new(COLLATERAL_MISSING));
         };
-        if stands_before(self.tx.collateral.as_slice(), place, at) {
+        if self.repeated == Some(place) {
             return Err(Rule::new(COLLATERAL_MISSING));
         }
         if has_scripts(self.tx) && matches!(output.address.payment.kind, CredKind::Script) {
@@ -66,15 +66,16 @@ impl<'a> ItemRules for Collateral<'a> {
 /// The rules on each collateral input.
 pub fn check_collateral(s: &LedgerState, tx: &Tx) -> Result<(), Rule>
     requires { is_within_limits tx.now ≡ true }
-    ensures { result ≡ answer_of (per_place (collateral_checks s.now tx.now) tx.now.collateral) }
+    ensures { result ≡ answer_of (per_place (collateral_checks s.now.ledger tx.now) tx.now.collateral) }
 {
-    check_each(&Collateral { s, tx }, tx.collateral.as_slice())
+    let repeated = tx.collateral.first_repeated();
+    check_each(&Collateral { s, tx, repeated }, tx.collateral.as_slice())
 }
 
 /// The rule on what the collateral holds. The return is taken off, and the rest must cover its part of the fee.
 pub fn check_collateral_sum(s: &LedgerState, tx: &Tx) -> Result<(), Rule>
     requires { is_within_limits tx.now ≡ true }
-    ensures { result ≡ answer_of (collateral_sum_checks s.now tx.now) }
+    ensures { result ≡ answer_of (collateral_sum_checks s.now.ledger tx.now) }
 {
     let sum = lovelace_spent(s, tx.collateral.as_slice());
     let returned = tx

@@ -26,7 +26,7 @@ use tx_records::{Rule, Tx};
 /// The first of the rules on id, inputs, size, time, fee, outputs, collateral and treasury value that the transaction breaks, if there is one. (UTXO and UTXOW of the formal specification)
 pub fn check(s: &LedgerState, tx: &Tx) -> Result<(), Rule>
     requires { is_within_limits tx.now ≡ true }
-    ensures { result ≡ answer_of (utxo_checks s.now tx.now) }
+    ensures { result ≡ answer_of (utxo_checks s.now.ledger tx.now) }
 {
     check_id(s, tx)?;
     check_inputs(s, tx)?;

@@ -9,7 +9,7 @@ use tx_records::{Rule, Scripts, Tx};
 
 /// The rules on size, time and fee.
 pub fn check_fee(s: &LedgerState, tx: &Tx) -> Result<(), Rule>
-    ensures { result ≡ answer_of (fee_checks s.now tx.now) }
+    ensures { result ≡ answer_of (fee_checks s.now.ledger tx.now) }
 {
     let most = s.params().max_tx_size;
     if tx.size > most {
@@ -34,7 +34,7 @@ fn is_outside(slot: u64, tx: &Tx) -> bool
 
 /// The least fee, in lovelace.
 fn least_fee(s: &LedgerState, tx: &Tx) -> u128
-    ensures { result ≡ least_fee s.now tx.now }
+    ensures { result ≡ least_fee s.now.ledger tx.now }
 {
     let params = s.params();
     let fixed = params.min_fee_b;
@@ -44,7 +44,7 @@ fn least_fee(s: &LedgerState, tx: &Tx) -> u128
 
 /// The rule on the treasury value, which a transaction whose scripts failed need not keep.
 pub fn check_treasury(s: &LedgerState, tx: &Tx) -> Result<(), Rule>
-    ensures { result ≡ answer_of (unless_failed tx.now.scripts (treasury_checks s.now tx.now)) }
+    ensures { result ≡ answer_of (unless_failed tx.now.scripts (treasury_checks s.now.ledger tx.now)) }
 {
     let treasury = s.state().treasury;
     if !matches!(tx.scripts, Scripts::Failed) && tx.treasury.is_some_and(|said| said != treasury) {

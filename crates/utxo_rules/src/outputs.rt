@@ -23,7 +23,7 @@ impl<'a> ItemRules for Outputs<'a> {
 
     type Item = TxOutput;
 
-    ghost checks = { λ r i output. output_checks r.s.now r.tx.now i output };
+    ghost checks = { λ r i output. output_checks r.s.now.ledger r.tx.now i output };
 
     fn check(&self, _place: usize, output: &TxOutput) -> Result<(), Rule> {
         let least = least_lovelace(self.s, output);
@@ -40,7 +40,7 @@ impl<'a> ItemRules for Outputs<'a> {
 /// The rules on each output and on the collateral return, whose place is after the last output.
 pub fn check_outputs(s: &LedgerState, tx: &Tx) -> Result<(), Rule>
     requires { is_within_limits tx.now ≡ true }
-    ensures { result ≡ answer_of (per_place (output_checks s.now tx.now) (tx.now.outputs ++ option_to_list tx.now.collateral_return)) }
+    ensures { result ≡ answer_of (per_place (output_checks s.now.ledger tx.now) (tx.now.outputs ++ option_to_list tx.now.collateral_return)) }
 {
     let rules = Outputs { s, tx };
     check_each(&rules, tx.outputs.as_slice())?;
@@ -55,7 +55,7 @@ pub fn check_outputs(s: &LedgerState, tx: &Tx) -> Result<(), Rule>
 
 /// The least that an output may hold, in lovelace.
 fn least_lovelace(s: &LedgerState, output: &TxOutput) -> u128
-    ensures { result ≡ least_lovelace s.now output.now }
+    ensures { result ≡ least_lovelace s.now.ledger output.now }
 {
     (OVERHEAD + u128::from(output.bytes)) * u128::from(s.params().coins_per_utxo_byte)
 }

@@ -1,29 +1,44 @@
-use Rattle.std.proofs.Common.{◌≡◌, Result, Err, subst, sym, ◌∙◌, rules}
-use Rattle.tx_records.specs.declared.reply.Rule.{Rule}
+use Rattle.std.proofs.Common.{◌≡◌, Result, Ok, Err, ap, sym, subst, ◌∙◌, rules}
+use Rattle.std.specs.Prelude.{⊤}
+use Rattle.tx_records.specs.declared.reply.TxFault.{TxFault}
 use Rattle.ledger_model.specs.Broken.{body_checks}
-use Rattle.ledger_model.specs.Checks.{answer_of}
-use Rattle.ledger_model.specs.UtxoRules.{unless_failed}
-use Rattle.ledger_state.specs.Drafts.{Changed}
+use Rattle.ledger_model.specs.Checks.{first_among}
+use Rattle.ledger_model.specs.Ledger.{Ledger}
+use Rattle.ledger_model.specs.UtxoRules.{unless_failed, utxo_checks}
+use Rattle.ledger_state.specs.Drafts.{Changed, Drafted, draft_of, laid_over}
+use Rattle.rule_checks.specs.Answered.{IsAnswered, as_fault}
 use Rattle.tx_rule.specs.Judged.{IsJudged}
-use Rattle.tx_rule.proofs.Judged.{broken_at_once, broken_by_body, changes_judged, fresh_draft, unbroken}
+use Rattle.tx_rule.proofs.Certified.{faulted}
+use Rattle.tx_rule.proofs.Judged.{answered, answered_later, passed, two_groups}
 use Rattle.tx_rule.proofs.judge.Goals as goal
 
-pub returns-in_err-check : goal.returns-in_err-check
-returns-in_err-check c =
-    let is : c.from_residual.result ≡ Err c.in_err-check.field-0.0 = search rules in
-    subst (λ (x : Result Changed Rule). IsJudged x c.args.s.now c.args.tx.now) (sym is) (broken_at_once c.args.s.now c.args.tx.now _ c.in_err-check.ensures)
-
-pub judge_body-requires-clause-fresh : goal.judge_body-requires-clause-fresh
-judge_body-requires-clause-fresh c = fresh_draft c.new-draft.result c.args.s.now c.new-draft.ensures
+pub returns-in_err-as_fault : goal.returns-in_err-as_fault
+returns-in_err-as_fault c =
+    let l = c.args.s.now.ledger in
+    let tx = c.args.tx.now in
+    let is : c.from_residual.result ≡ Err c.in_err-as_fault.field-0.0 = search rules in
+    let rule =
+    subst (λ (r : Result ⊤ TxFault). IsAnswered (first_among (utxo_checks l tx)) r) (sym (c.in_err-as_fault.ensures ∙ ap as_fault c.check.ensures)) (answered (first_among (utxo_checks l tx))) in
+    subst (λ (x : Result Changed TxFault). IsJudged x l tx) (sym is) (faulted _ _ _ _ (two_groups l tx) rule)
 
 pub returns-in_err-judge_body : goal.returns-in_err-judge_body
 returns-in_err-judge_body c =
+    let l = c.args.s.now.ledger in
+    let tx = c.args.tx.now in
     let is : c.from_residual-in_err-judge_body.result ≡ Err c.in_err-judge_body.field-0.0 = search rules in
-    subst (λ (x : Result Changed Rule). IsJudged x c.args.s.now c.args.tx.now) (sym is)
-    (broken_by_body c.args.s.now c.args.tx.now _ c.in_ok-check.ensures (c.in_err-judge_body.ensures ∙ (λ i. answer_of (unless_failed c.args.tx.now.scripts (body_checks (c.new-draft.ensures i).start c.args.tx.now)))))
+    let rule = subst (λ (d : Drafted). IsAnswered (first_among (unless_failed tx.scripts (body_checks d.start tx))) (Err c.in_err-judge_body.field-0.0)) c.new-draft.ensures c.in_err-judge_body.ensures.rule in
+    subst (λ (x : Result Changed TxFault). IsJudged x l tx) (sym is)
+    (answered_later _ _ _ (Err c.in_err-judge_body.field-0.0) (two_groups l tx) (passed _ (c.in_ok-as_fault.ensures ∙ ap as_fault c.check.ensures)) rule)
 
 pub returns : goal.returns
-returns c = (
-  unbroken c.args.s.now c.args.tx.now c.in_ok-check.ensures (c.in_ok-judge_body.ensures ∙ (λ i. answer_of (unless_failed c.args.tx.now.scripts (body_checks (c.new-draft.ensures i).start c.args.tx.now)))),
-  changes_judged c.args.s.now c.args.tx.now c.new-draft.result c.into_changes.result c.requires.built c.new-draft.ensures c.into_changes.ensures,
-)
+returns c =
+    let l = c.args.s.now.ledger in
+    let tx = c.args.tx.now in
+    let rule = subst (λ (d : Drafted). IsAnswered (first_among (unless_failed tx.scripts (body_checks d.start tx))) (Ok tt)) c.new-draft.ensures c.in_ok-judge_body.ensures.rule in
+    let at_start : c.new-draft.result.start ≡ l = ap (λ (d : Drafted). d.start) c.new-draft.ensures in (
+      answered_later _ _ _ (Ok tt) (two_groups l tx) (passed _ (c.in_ok-as_fault.ensures ∙ ap as_fault c.check.ensures)) rule,
+      ap (λ (x : Ledger). laid_over c.into_changes.result x) (sym (c.in_ok-judge_body.ensures.start ∙ at_start))
+          ∙ c.into_changes.ensures
+          ∙ c.in_ok-judge_body.ensures.ledger
+          ∙ ap (λ (x : Ledger). draft_of x tx) at_start,
+    )

@@ -1,4 +1,4 @@
-use Rattle.std.proofs.Common.{◌≡◌, ◌≢◌, ℕ, ◌+◌, List, sum_by, ap, ◌∙◌, arith}
+use Rattle.std.proofs.Common.{◌≡◌, ℕ, ◌+◌, List, sum_by, ap, ◌∙◌, arith}
 use Rattle.gov_ids.specs.declared.Account.{Account}
 use Rattle.gov_ids.specs.declared.OutRef.{OutRef}
 use Rattle.tx_records.specs.declared.tx.ProposalRecord.{ProposalRecord}
@@ -28,13 +28,13 @@ gives l tx outputs proposals a b fee donation deposits p q x y f d z =
 pub returns-then-consumed-produced : goal.returns-then-consumed-produced
 returns-then-consumed-produced c =
     let l = c.args.d.now.start in
-    let taken = takes l c.start.result.now c.args.tx.now _ _ _ _ _ c.start.ensures c.as_slice.ensures c.as_slice-2.ensures c.lovelace_spent.ensures.sum c.lovelace_withdrawn.ensures.sum (c.moved-refunds.ensures.refunds ∙ c.requires.refunds) in
+    let taken = takes l c.start.result.now.ledger c.args.tx.now _ _ _ _ _ c.start.ensures.start c.as_slice.ensures c.as_slice-2.ensures c.lovelace_spent.ensures.sum c.lovelace_withdrawn.ensures.sum (c.moved-refunds.ensures.refunds ∙ c.requires.refunds) in
     let given = gives l c.args.tx.now _ _ _ _ _ _ _ c.as_slice-3.ensures c.as_slice-4.ensures c.lovelace_made.ensures.sum c.lovelace_proposed.ensures.sum c.from.ensures c.from-2.ensures (c.moved-refunds.ensures.deposits ∙ c.requires.deposits) in
     unbalanced l c.args.tx.now _ _ taken given c.keeping_two.result c.keeping_two.ensures c.if-consumed-produced.true
 
 pub returns : goal.returns
 returns c =
     let l = c.args.d.now.start in
-    let taken = takes l c.start.result.now c.args.tx.now _ _ _ _ _ c.start.ensures c.as_slice.ensures c.as_slice-2.ensures c.lovelace_spent.ensures.sum c.lovelace_withdrawn.ensures.sum (c.moved-refunds.ensures.refunds ∙ c.requires.refunds) in
+    let taken = takes l c.start.result.now.ledger c.args.tx.now _ _ _ _ _ c.start.ensures.start c.as_slice.ensures c.as_slice-2.ensures c.lovelace_spent.ensures.sum c.lovelace_withdrawn.ensures.sum (c.moved-refunds.ensures.refunds ∙ c.requires.refunds) in
     let given = gives l c.args.tx.now _ _ _ _ _ _ _ c.as_slice-3.ensures c.as_slice-4.ensures c.lovelace_made.ensures.sum c.lovelace_proposed.ensures.sum c.from.ensures c.from-2.ensures (c.moved-refunds.ensures.deposits ∙ c.requires.deposits) in
     balanced l c.args.tx.now _ _ taken given c.if-consumed-produced.false

@@ -23,7 +23,7 @@ loop-at-preserved c =
       bound = omega arith;
       rest =
           let none : OutRef = record { tx = record { 0 = [] }; index = 0 } in
-          step (lovelace_at c.args.s.now) c.args.refs.now c.loop-at.at-index none c.loop-at.sum c.map_or-sum.result _ c.loop-at-test.true c.loop-at.invariant.rest
+          step (lovelace_at c.args.s.now.ledger) c.args.refs.now c.loop-at.at-index none c.loop-at.sum c.map_or-sum.result _ c.loop-at-test.true c.loop-at.invariant.rest
           (is
           ∙ ap (λ (o : Option Output). amount lovelace_of o) c.get.ensures.value
           ∙ ap (λ (outputs : List (OutRef × Output)). amount lovelace_of (value_at outref_cmp outputs (get_or c.args.refs.now c.loop-at.at-index none))) c.outputs-outputs.ensures.outputs);

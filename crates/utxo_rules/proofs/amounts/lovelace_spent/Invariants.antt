@@ -6,5 +6,5 @@ use Rattle.utxo_rules.proofs.amounts.lovelace_spent.Given as goal
 abbrev pub invariant-loop-at : goal.invariant-loop-at
 invariant-loop-at l = record {
   bound : l.sum ≤ l.at-index * (2 ^ 64 - 1);
-  rest : l.sum + sum_by (lovelace_at l.s) (drop l.at-index l.refs) ≡ sum_by (lovelace_at l.s) l.refs;
+  rest : l.sum + sum_by (lovelace_at l.s.ledger) (drop l.at-index l.refs) ≡ sum_by (lovelace_at l.s.ledger) l.refs;
 }

@@ -1,0 +1,58 @@
+//! Withdrawals and the certificates of accounts: each is refused, or it changes a draft.
+#![tactic(auto)]
+
+ghost use Rattle.std.specs.Prelude.{◌≡◌, ◌+◌, ◌≤◌, ◌^◌, true, OnOk, length, map};
+ghost use Rattle.cert_deleg.specs.Kinds.{is_account_cert};
+ghost use Rattle.cert_deleg.specs.Moved.{HasMoved};
+ghost use Rattle.ledger_model.specs.CertRules.{cert_checks, withdrawal_checks};
+ghost use Rattle.ledger_model.specs.Changes.{changed_by, withdrawn};
+ghost use Rattle.ledger_model.specs.Checks.{at_place, first_among, per_place};
+ghost use Rattle.ledger_model.specs.Flows.{flows_of_cert};
+ghost use Rattle.rule_checks.specs.Answered.{IsAnswered};
+ghost use Rattle.tx_records.specs.TxLimits.{is_within_limits};
+
+mod changes;
+mod kinds;
+mod rules;
+mod withdrawals;
+
+use crate::changes::change;
+use crate::rules::check_cert;
+use crate::withdrawals::{check_withdrawals, empty_accounts};
+pub use kinds::is_account_cert;
+use ledger_state::Draft;
+use rule_checks::{as_fault, at_place};
+use tx_records::{Cert, Tx, TxFault};
+
+#[cfg(test)]
+mod tests;
+
+/// Empties each account that a transaction withdraws from, or refuses with the first broken rule of a withdrawal and its place. The rules look at the ledger before the transaction. (CERTS of the formal specification; that the vote delegation is that of the ledger before the transaction is own)
+pub fn withdraw(d: &mut Draft, tx: &Tx) -> Result<(), TxFault>
+    requires within { is_within_limits tx.now ≡ true }
+    requires few { d.old.changes ≤ 2 ^ 31 }
+    ensures rule { IsAnswered (first_among (per_place (withdrawal_checks d.old.start) tx.now.withdrawals)) result }
+    ensures ledger { OnOk result (d.new.ledger ≡ withdrawn tx.now d.old.ledger) }
+    ensures moved { (d.new.refunds ≡ d.old.refunds) × (d.new.deposits ≡ d.old.deposits) }
+    ensures start { d.new.start ≡ d.old.start }
+    ensures few { d.new.changes ≤ d.old.changes + length tx.now.withdrawals }
+{
+    as_fault(check_withdrawals(d.start(), tx))?;
+    empty_accounts(d, tx.withdrawals.as_slice())?;
+    Ok(())
+}
+
+/// Registers an account, ends it or delegates for it, as the certificate at this place says, or refuses with the first rule that it breaks. (DELEG of the formal specification)
+pub fn cert(d: &mut Draft, place: u32, c: &Cert) -> Result<(), TxFault>
+    requires kind { is_account_cert c.now ≡ true }
+    requires few { d.old.changes ≤ 2 ^ 31 }
+    ensures rule { IsAnswered (first_among (map (at_place place) (cert_checks d.old.start d.old.ledger c.now))) result }
+    ensures ledger { OnOk result (d.new.ledger ≡ changed_by c.now d.old.ledger) }
+    ensures moved { OnOk result (HasMoved (flows_of_cert d.old.ledger c.now) d.old d.new) }
+    ensures start { d.new.start ≡ d.old.start }
+    ensures few { d.new.changes ≤ d.old.changes + 1 }
+{
+    as_fault(at_place(check_cert(d, c), place as usize))?;
+    change(d, c)?;
+    Ok(())
+}
