@@ -26,9 +26,8 @@ use Rattle.tx_records.specs.declared.tx.Scripts.{Scripts}
 use Rattle.tx_records.specs.declared.tx.Scripts.TheVariants as scripts
 use Rattle.conway.specs.declared.status.GenesisCause.TheVariants as causes
 use Rattle.byte_lines.specs.Pieces.{lines_of}
+use Rattle.record_read.specs.LineFaults as faults
 use Rattle.record_read.specs.Lines.{record_of_line}
-use Rattle.record_read.specs.declared.fault.RecordFault.{RecordFault}
-use Rattle.record_read.specs.declared.fault.RecordFault.TheVariants as faults
 use Rattle.conway.specs.Built.{is_built, is_built_reading}
 use Rattle.conway.specs.Laws.{LinesAreWithin, LinesReach, RunsAreOfTheWhole, TextIsOfTheWhole, SupplyStays, RefusedChangesNothing, are_within, built_record, world_after_all}
 use Rattle.tx_records.specs.declared.limits.TheConstants.{LINE_LIMIT}
@@ -74,12 +73,11 @@ refused w r rule e =
 -- ---- what records reach
 
 module _ (law : (line : List ℕ) → IfOk (record_of_line line) (λ r. is_within_limits r ≡ true)) where
-  line_within : (found : Result Record RecordFault) → IfOk found (λ r. is_within_limits r ≡ true) → is_within (reading_by found) ≡ true
+  line_within : (found : Result Record faults.LineFault) → IfOk found (λ r. is_within_limits r ≡ true) → is_within (reading_by found) ≡ true
   line_within (Ok r) e = e
   line_within (Err faults.BadJson) e = refl
   line_within (Err faults.UnknownKind) e = refl
   line_within (Err (faults.BadField name place)) e = refl
-  line_within (Err faults.NoMemory) e = refl
 
   lines_within : (n : ℕ) (lines : List (Option (List ℕ))) → are_within (records_from n lines) ≡ true
   lines_within n [] = refl

@@ -1,7 +1,7 @@
 -- From one record to the next, and how a run ends.
 use Rattle.std.proofs.Common.{◌≡◌, ◌≢◌, ℕ, ◌<◌, ◌≤◌, ◌⊎◌, ◌↔◌, List, [], ◌∷◌, ◌++◌, Option, Some, None, Ok, Err, length, take, drop, refl, sym, ap, subst, ◌∙◌, arith, append_assoc, inl, inr}
 use Rattle.std.specs.Prelude.{option_map, unwrap_or, if◌then◌else◌, Bool, true, false}
-use Rattle.std.specs.Io.KnownBytes.{Appends}
+use Rattle.std.specs.Io.KnownBytes.{append_known}
 use Rattle.std.proofs.lemmas.List.{append-nil, take-append-drop, take_all}
 use Rattle.byte_lines.specs.Pieces.{whole_of}
 use Rattle.byte_lines.specs.Progress.{HasRead}
@@ -10,8 +10,8 @@ use Rattle.byte_lines.specs.declared.lines.LineFault.{LineFault}
 use Rattle.byte_lines.specs.declared.lines.LineFault.TheVariants as line_faults
 use Rattle.byte_lines.specs.declared.sink.SinkFault.{SinkFault}
 use Rattle.byte_lines.specs.declared.sink.SinkFault.TheVariants as sink_faults
-use Rattle.ledger_model.specs.Ledger.{Ledger}
 use Rattle.ledger_state.specs.Built.{is_built_genesis}
+use Rattle.ledger_state.specs.Standing.{Standing}
 use Rattle.run_model.specs.Genesis.{genesis_fault, world_of_genesis}
 use Rattle.run_model.specs.World.{World}
 use Rattle.text_model.specs.Runs.{text_of_lines}
@@ -40,15 +40,14 @@ use Rattle.conway.specs.Turns.{Leaves, Stands, Writes}
 
 -- ---- what a sink took
 
-pub took_nothing : (had : Option (List ℕ)) → Appends had had []
-took_nothing None = tt
-took_nothing (Some xs) = sym (append-nil xs)
+pub took_nothing : (had : Option (List ℕ)) → had ≡ append_known had []
+took_nothing None = refl
+took_nothing (Some xs) = ap Some (sym (append-nil xs))
 
-pub took_both : (had now has : Option (List ℕ)) (written more : Text) → Appends had now written → Appends now has more → Appends had has (written ++ more)
-took_both None now has written more first next = tt
-took_both (Some xs) None has written more first next = absurd first
-took_both (Some xs) (Some ys) None written more first next = absurd next
-took_both (Some xs) (Some ys) (Some zs) written more first next = next ∙ ap (λ (l : List ℕ). l ++ more) first ∙ append_assoc xs written more
+pub took_both : (had now has : Option (List ℕ)) (written more : Text) → now ≡ append_known had written → has ≡ append_known now more → has ≡ append_known had (written ++ more)
+took_both None now has written more first next = next ∙ ap (λ (known : Option (List ℕ)). append_known known more) first
+took_both (Some xs) now has written more first next =
+    next ∙ ap (λ (known : Option (List ℕ)). append_known known more) first ∙ ap Some (append_assoc xs written more)
 
 -- ---- the text of records
 
@@ -66,12 +65,12 @@ leaves_well : (records : List (ℕ × Reading)) (w : World) (written : Text) →
 leaves_well records w written leaves more = starts_well (records ++ more) _ (leaves more)
 
 -- what was written is a front of their text, whatever comes next
-writes_front : (records : List (ℕ × Reading)) (ledger : Option Ledger) (written : Text) → Writes records ledger written → (more : List (ℕ × Reading)) → IsFront written (text_so_far (records ++ more))
+writes_front : (records : List (ℕ × Reading)) (ledger : Option Standing) (written : Text) → Writes records ledger written → (more : List (ℕ × Reading)) → IsFront written (text_so_far (records ++ more))
 writes_front records None written writes more = (text_so_far (records ++ more), ap (λ (t : Text). t ++ text_so_far (records ++ more)) (sym writes.1))
 writes_front records (Some l) written writes more = (text_from writes.0 more, ap (λ (t : Option Text). unwrap_or t []) (writes.2 more))
 
 -- and it is their text
-writes_now : (records : List (ℕ × Reading)) (ledger : Option Ledger) (written : Text) → Writes records ledger written → (written ≡ text_so_far records) × IsMissingOnly (start_fault records)
+writes_now : (records : List (ℕ × Reading)) (ledger : Option Standing) (written : Text) → Writes records ledger written → (written ≡ text_so_far records) × IsMissingOnly (start_fault records)
 writes_now records None written writes =
     (writes.1 ∙ ap (λ (rs : List (ℕ × Reading)). text_so_far rs) (sym writes.0), subst (λ (rs : List (ℕ × Reading)). IsMissingOnly (start_fault rs)) (sym writes.0) tt)
 writes_now records (Some l) written writes =
@@ -87,7 +86,7 @@ text_of_first n g None e more = refl
 text_of_first n g (Some cause) e more = cc
 
 -- one record more: its text follows
-pub writes_more : (records : List (ℕ × Reading)) (ledger : Option Ledger) (written : Text) (n : ℕ) (r : Reading) (after : Ledger) (outcome : Outcome)
+pub writes_more : (records : List (ℕ × Reading)) (ledger : Option Standing) (written : Text) (n : ℕ) (r : Reading) (after : Standing) (outcome : Outcome)
     → Writes records ledger written → Answers ledger r (Ok (after, outcome)) → Writes (records ++ (n, r) ∷ []) (Some after) (written ++ outcome_text n outcome)
 writes_more records None written n r after outcome writes answers = (
   world_of_genesis answers.0,
@@ -150,10 +149,10 @@ abbrev all_come : (bytes : List ℕ) (left : Option (List ℕ)) (records : List 
 all_come bytes left records all = record { came = bytes; rest = []; cut = sym (append-nil bytes); told = all.told }
 
 -- a run that stands, and reads on
-module _ (bytes : List ℕ) (old : Reader) (before : Option (List ℕ)) (ledger : Option Ledger) (had now : Option (List ℕ)) (stands : Stands bytes old before ledger had now)
+module _ (bytes : List ℕ) (old : Reader) (before : Option (List ℕ)) (ledger : Option Standing) (had now : Option (List ℕ)) (stands : Stands bytes old before ledger had now)
     (new : Reader) (left : Option (List ℕ)) where
   -- memory ran out, and of a further text a front was taken
-  without_memory : (records : List (ℕ × Reading)) (has : Option (List ℕ)) (front : Text) → Appends now has front
+  without_memory : (records : List (ℕ × Reading)) (has : Option (List ℕ)) (front : Text) → has ≡ append_known now front
       → ((more : List (ℕ × Reading)) → IsFront (stands.written ++ front) (text_so_far (records ++ more))) → StandFirst bytes left records → IsReplayed statuses.NoMemory bytes left had has
   without_memory records has front took is first = record {
     come = first.come;
@@ -191,9 +190,9 @@ module _ (bytes : List ℕ) (old : Reader) (before : Option (List ℕ)) (ledger 
       (λ more. subst (λ (t : Text). IsFront t (text_so_far (stands.records ++ more))) (sym (append-nil stands.written)) (writes_front stands.records ledger stands.written stands.writes more)) heard
 
   -- the end came
-  pub ends_done : (l : Ledger) → ledger ≡ Some l → AreAll bytes left stands.records → IsReplayed statuses.Done bytes left had now
+  pub ends_done : (l : Standing) → ledger ≡ Some l → AreAll bytes left stands.records → IsReplayed statuses.Done bytes left had now
   ends_done l is all =
-      let writes : Writes stands.records (Some l) stands.written = subst (λ (o : Option Ledger). Writes stands.records o stands.written) is stands.writes in record {
+      let writes : Writes stands.records (Some l) stands.written = subst (λ (o : Option Standing). Writes stands.records o stands.written) is stands.writes in record {
         come = all_come bytes left stands.records all;
         written = stands.written;
         wrote = stands.wrote;
@@ -206,7 +205,7 @@ module _ (bytes : List ℕ) (old : Reader) (before : Option (List ℕ)) (ledger 
 
   pub ends_missing : ledger ≡ None → AreAll bytes left stands.records → IsReplayed (statuses.BadGenesis causes.Missing) bytes left had now
   ends_missing is all =
-      let writes : Writes stands.records None stands.written = subst (λ (o : Option Ledger). Writes stands.records o stands.written) is stands.writes in
+      let writes : Writes stands.records None stands.written = subst (λ (o : Option Standing). Writes stands.records o stands.written) is stands.writes in
       let fault : start_fault (records_of bytes) ≡ Some causes.Missing = ap (λ (rs : List (ℕ × Reading)). start_fault rs) (sym all.all ∙ writes.0) in record {
         come = all_come bytes left stands.records all;
         written = stands.written;
@@ -249,7 +248,7 @@ module _ (bytes : List ℕ) (old : Reader) (before : Option (List ℕ)) (ledger 
     }
 
     -- there is no answer
-    ends_by : (o : Option Ledger) → Writes stands.records o stands.written → (fault : AnswerFault) → Answers o r (Err fault) → IsReplayed (status_of_fault (fault_of_answer fault)) bytes left had now
+    ends_by : (o : Option Standing) → Writes stands.records o stands.written → (fault : AnswerFault) → Answers o r (Err fault) → IsReplayed (status_of_fault (fault_of_answer fault)) bytes left had now
     ends_by None none (answer_faults.BadGenesis cause) answers = bad_start cause none.0 none.1 answers
     ends_by None none answer_faults.NoMemory answers = without_memory upto now [] (took_nothing now) front_before heard.first
     ends_by (Some l) some (answer_faults.BadGenesis cause) answers = absurd answers
@@ -258,7 +257,7 @@ module _ (bytes : List ℕ) (old : Reader) (before : Option (List ℕ)) (ledger 
     pub ends_at_answer : (fault : AnswerFault) → Answers ledger r (Err fault) → IsReplayed (status_of_fault (fault_of_answer fault)) bytes left had now
     ends_at_answer fault answers = ends_by ledger stands.writes fault answers
 
-    module _ (after : Ledger) (outcome : Outcome) (answers : Answers ledger r (Ok (after, outcome))) where
+    module _ (after : Standing) (outcome : Outcome) (answers : Answers ledger r (Ok (after, outcome))) where
       abbrev line : Text
       line = outcome_text new.number outcome
 
@@ -270,7 +269,7 @@ module _ (bytes : List ℕ) (old : Reader) (before : Option (List ℕ)) (ledger 
           front_of_front (stands.written ++ take k line) (stands.written ++ line) (text_so_far (upto ++ more)) (front_part stands.written line k) (writes_front upto (Some after) (stands.written ++ line) more_written more)
 
       -- the text was not taken
-      pub ends_at_sink : (has : Option (List ℕ)) (fault : SinkFault) (k : ℕ) → Appends now has (take k line) → IsReplayed (status_of_fault (fault_of_sink fault)) bytes left had has
+      pub ends_at_sink : (has : Option (List ℕ)) (fault : SinkFault) (k : ℕ) → has ≡ append_known now (take k line) → IsReplayed (status_of_fault (fault_of_sink fault)) bytes left had has
       ends_at_sink has sink_faults.NoMemory k took = without_memory upto has (take k line) took (front_within k) heard.first
       ends_at_sink has sink_faults.WriteFault k took = record {
         come = heard.first.come;
@@ -289,7 +288,7 @@ module _ (bytes : List ℕ) (old : Reader) (before : Option (List ℕ)) (ledger 
       }
 
       -- the text was taken
-      pub goes_on : (has : Option (List ℕ)) → Appends now has line → Stands bytes new left (Some after) had has
+      pub goes_on : (has : Option (List ℕ)) → has ≡ append_known now line → Stands bytes new left (Some after) had has
       goes_on has took = record {
         records = upto;
         written = stands.written ++ line;

@@ -2,6 +2,7 @@
 use Rattle.std.specs.Prelude.{◌≡◌, Option, Some, None, Result, Ok, Err, ⊤}
 use Rattle.coin_frac.specs.declared.NoMemory.{NoMemory}
 use Rattle.ledger_model.specs.Ledger.{Ledger}
+use Rattle.ledger_state.specs.Standing.{Standing}
 use Rattle.run_model.specs.Genesis.{ledger_of_genesis}
 use Rattle.run_model.specs.World.{World}
 use Rattle.tx_records.specs.declared.genesis.Genesis.{Genesis}
@@ -15,14 +16,14 @@ use Rattle.conway.specs.Outcomes.{outcome_lines}
 use Rattle.conway.specs.Runs.{answer_lines, genesis_cause, genesis_lines, reading_fault, world_left}
 
 -- the ledger of a genesis and its pots, or the cause for which there is none
-abbrev pub Begins : Genesis → Result (Ledger × Outcome) AnswerFault → Type 0
+abbrev pub Begins : Genesis → Result (Standing × Outcome) AnswerFault → Type 0
 Begins g (Ok (l, outcome)) =
-    (genesis_cause g ≡ None) × (l ≡ ledger_of_genesis g) × (outcome_lines outcome ≡ genesis_lines g)
+    (genesis_cause g ≡ None) × (l.ledger ≡ ledger_of_genesis g) × (outcome_lines outcome ≡ genesis_lines g)
 Begins g (Err (faults.BadGenesis cause)) = genesis_cause g ≡ Some cause
 Begins g (Err faults.NoMemory) = ⊤
 
 -- the same of what was read first
-abbrev pub BeginsWith : Reading → Result (Ledger × Outcome) AnswerFault → Type 0
+abbrev pub BeginsWith : Reading → Result (Standing × Outcome) AnswerFault → Type 0
 BeginsWith r (Ok p) = (g : Genesis) × (r ≡ Read (records.Genesis g)) × Begins g (Ok p)
 BeginsWith r (Err (faults.BadGenesis cause)) = reading_fault r ≡ Some cause
 BeginsWith r (Err faults.NoMemory) = ⊤
@@ -33,12 +34,12 @@ pub record Follows (w : World) (r : Reading) (after : Ledger) (outcome : Outcome
   pub lines : answer_lines w r ≡ outcome_lines outcome
 
 -- the same, but where memory ran out
-abbrev pub Judges : Ledger → Reading → Result (Ledger × Outcome) NoMemory → Type 0
-Judges l r (Ok (after, outcome)) = (w : World) → l ≡ w.ledger → Follows w r after outcome
+abbrev pub Judges : Standing → Reading → Result (Standing × Outcome) NoMemory → Type 0
+Judges l r (Ok (after, outcome)) = (w : World) → l.ledger ≡ w.ledger → Follows w r after.ledger outcome
 Judges l r (Err e) = ⊤
 
 -- the answer to what was read; there is no ledger before the genesis
-abbrev pub Answers : Option Ledger → Reading → Result (Ledger × Outcome) AnswerFault → Type 0
+abbrev pub Answers : Option Standing → Reading → Result (Standing × Outcome) AnswerFault → Type 0
 Answers None r result = BeginsWith r result
 Answers (Some l) r (Ok p) = Judges l r (Ok p)
 Answers (Some l) r (Err (faults.BadGenesis cause)) = ⊥

@@ -1,6 +1,6 @@
 -- How a run of `replay` may end, and what it has written then. (Own)
 use Rattle.std.specs.Prelude.{◌≡◌, ◌≢◌, ◌⊎◌, ℕ, ◌<◌, ◌↔◌, List, [], ◌∷◌, ◌++◌, Option, Some, None, length}
-use Rattle.std.specs.Io.KnownBytes.{Appends}
+use Rattle.std.specs.Io.KnownBytes.{append_known}
 use Rattle.byte_lines.specs.Pieces.{open_of, whole_of}
 use Rattle.byte_lines.specs.Reader.{heeded, part_max}
 use Rattle.conway.specs.declared.status.GenesisCause.{GenesisCause}
@@ -95,7 +95,7 @@ Ends statuses.Usage bytes came rest written = ⊥
 pub record IsReplayed (status : Status) (bytes : List ℕ) (left had has : Option (List ℕ)) : Type 0 where
   pub come : HasCome bytes left
   pub written : Text
-  pub wrote : Appends had has written
+  pub wrote : has ≡ append_known had written
   pub ending : Ends status bytes come.came come.rest written
   -- the stream went on past its limit exactly where the status says so
   pub too_much : (status ≡ statuses.TooMuch) ↔ (STREAM_LIMIT < length come.came)

@@ -6,8 +6,7 @@ use Rattle.tx_records.specs.declared.field.FieldName.TheVariants as fields
 use Rattle.tx_records.specs.declared.record.Reading.{Reading}
 use Rattle.tx_records.specs.declared.record.Reading.TheVariants.{Read, Malformed, TooLong}
 use Rattle.tx_records.specs.declared.record.Record.{Record}
-use Rattle.record_read.specs.declared.fault.RecordFault.{RecordFault}
-use Rattle.record_read.specs.declared.fault.RecordFault.TheVariants as faults
+use Rattle.record_read.specs.LineFaults as faults
 use Rattle.record_read.specs.Lines.{record_of_line}
 use Rattle.tx_records.specs.RecordLimits.{is_within_limits}
 use Rattle.tx_records.specs.declared.limits.TheConstants.{LINE_LIMIT}
@@ -20,13 +19,12 @@ is_blank_byte b = b == 32 || b == 9 || b == 13
 abbrev pub is_blank : List ℕ → Bool
 is_blank bytes = list_all is_blank_byte bytes
 
--- the record, or what of the line is wrong; the reading of a line knows no want of memory
-abbrev pub reading_by : Result Record RecordFault → Reading
+-- the record, or what of the line is wrong
+abbrev pub reading_by : Result Record faults.LineFault → Reading
 reading_by (Ok r) = Read r
 reading_by (Err faults.BadJson) = Malformed fields.Json None
 reading_by (Err faults.UnknownKind) = Malformed fields.Kind None
 reading_by (Err (faults.BadField name place)) = Malformed name place
-reading_by (Err faults.NoMemory) = Malformed fields.Json None
 
 -- what a line says; a blank one says nothing, and a line that is too long is never blank
 abbrev pub reading_of_line : Option (List ℕ) → Option Reading

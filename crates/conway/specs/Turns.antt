@@ -1,8 +1,8 @@
 -- How a run stands between two records. (Own)
 use Rattle.std.specs.Prelude.{◌≡◌, ℕ, List, [], ◌++◌, Option, Some, None}
-use Rattle.std.specs.Io.KnownBytes.{Appends}
+use Rattle.std.specs.Io.KnownBytes.{append_known}
 use Rattle.byte_lines.specs.Reader.{Reader}
-use Rattle.ledger_model.specs.Ledger.{Ledger}
+use Rattle.ledger_state.specs.Standing.{Standing}
 use Rattle.run_model.specs.World.{World}
 use Rattle.text_model.specs.Words.{Text}
 use Rattle.tx_records.specs.declared.record.Reading.{Reading}
@@ -15,15 +15,15 @@ Leaves records w written =
     (more : List (ℕ × Reading)) → text_of_records (records ++ more) ≡ Some (written ++ text_from w more)
 
 -- the same of the ledger that transactions see; before the genesis nothing was heard or written
-abbrev pub Writes : List (ℕ × Reading) → Option Ledger → Text → Type 0
+abbrev pub Writes : List (ℕ × Reading) → Option Standing → Text → Type 0
 Writes records None written = (records ≡ []) × (written ≡ [])
-Writes records (Some l) written = (w : World) × (l ≡ w.ledger) × Leaves records w written
+Writes records (Some l) written = (w : World) × (l.ledger ≡ w.ledger) × Leaves records w written
 
 -- what was heard, and what was written for it
-pub record Stands (bytes : List ℕ) (r : Reader) (left : Option (List ℕ)) (ledger : Option Ledger) (had has : Option (List ℕ))
+pub record Stands (bytes : List ℕ) (r : Reader) (left : Option (List ℕ)) (ledger : Option Standing) (had has : Option (List ℕ))
     : Type 0 where
   pub records : List (ℕ × Reading)
   pub written : Text
   pub heard : HasHeard bytes r left records
   pub writes : Writes records ledger written
-  pub wrote : Appends had has written
+  pub wrote : has ≡ append_known had written

@@ -38,7 +38,7 @@ fn begin_with(alloc: Global, reading: &Reading) -> Result<(LedgerState, Outcome)
     ensures { BeginsWith reading.now result }
 {
     let cause = match reading {
-        Reading::Read(Record::Genesis(genesis)) => return begin(alloc, genesis),
+        Reading::Read(Record::Genesis(genesis)) => return begin(alloc, genesis.get()),
         Reading::Read(
             Record::Block { .. } | Record::Rewards(_) | Record::Tx(_) | Record::Print(_),
         ) => GenesisCause::NoGenesis,
@@ -92,7 +92,7 @@ fn judge_record(
 {
     match found {
         Record::Genesis(_) => Ok((ledger, refused(GENESIS_AGAIN))),
-        Record::Tx(tx) => judge_tx(alloc, ledger, tx),
+        Record::Tx(tx) => judge_tx(alloc, ledger, tx.get()),
         Record::Print(What::Pots) => {
             let pots = ledger.pots();
             Ok((ledger, Outcome::Pots(PotsWord::Pots, pots)))

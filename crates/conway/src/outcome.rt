@@ -1,5 +1,5 @@
 ghost use Rattle.std.specs.Prelude.{◌≡◌, ℕ, OnOk, OnErr, take, Err};
-ghost use Rattle.std.specs.Io.KnownBytes.{Appends};
+ghost use Rattle.std.specs.Io.KnownBytes.{append_known};
 ghost use Rattle.byte_lines.specs.Faults.{CountsFaults};
 ghost use Rattle.conway.specs.Outcomes.{outcome_text};
 
@@ -35,9 +35,9 @@ impl Outcome {
         text: &mut Vec<u8>,
         sink: &mut K,
     ) -> Result<(), SinkFault>
-        ensures ok { OnOk result (Appends (K.taken sink.old) (K.taken sink.new) (outcome_text number self)) }
+        ensures ok { OnOk result (K.taken sink.new ≡ append_known (K.taken sink.old) (outcome_text number self)) }
         ensures err { OnErr result ((k : ℕ) ×
-            Appends (K.taken sink.old) (K.taken sink.new) (take k (outcome_text number self))) }
+            (K.taken sink.new ≡ append_known (K.taken sink.old) (take k (outcome_text number self)))) }
         ensures counts { CountsFaults (result ≡ Err SinkFault.WriteFault) (K.faults sink.old) (K.faults sink.new) }
     {
         self.text(number, text)?;

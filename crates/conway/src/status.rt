@@ -33,7 +33,7 @@ pub enum GenesisCause {
     Malformed { what: FieldName, place: Option<u32> },
     /// It is a record of another kind.
     NoGenesis,
-    /// It has accounts, pools or DReps, which are not built yet.
+    /// It has pools or DReps, which are not built yet.
     NotBuilt,
     /// The first genesis rule that it breaks.
     Broken(GenesisRule),

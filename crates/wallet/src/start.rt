@@ -14,7 +14,7 @@ pub enum StartFault {
     Unreadable(RecordFault),
     /// It is a record of another kind.
     NoGenesis,
-    /// It has accounts, pools or DReps, whose books are to come.
+    /// It has pools or DReps, whose books are to come.
     NotBuilt,
     /// The first rule of a genesis that it breaks.
     Broken(GenesisRule),
@@ -31,10 +31,11 @@ pub fn ledger_of(alloc: Global, line: &[u8]) -> Result<LedgerState, StartFault>
         Ok(_) => return Err(StartFault::NoGenesis),
         Err(fault) => return Err(StartFault::Unreadable(fault)),
     };
-    if !is_built_genesis(&genesis) {
+    let genesis = genesis.get();
+    if !is_built_genesis(genesis) {
         return Err(StartFault::NotBuilt);
     }
-    match LedgerState::from_genesis(alloc, &genesis) {
+    match LedgerState::from_genesis(alloc, genesis) {
         Ok(ledger) => Ok(ledger),
         Err(GenesisFault::Broken(rule)) => Err(StartFault::Broken(rule)),
         Err(GenesisFault::NoMemory) => Err(StartFault::NoMemory),

@@ -3,6 +3,7 @@
 use coin_frac::NoMemory;
 use gov_ids::{Address, CredKind, Credential, OutRef, TxId};
 use listed::Listed;
+use out_refs::OutRefs;
 use std::alloc::Global;
 use tx_records::{Scripts, Tx, TxOutput};
 
@@ -33,7 +34,7 @@ pub fn transfer(alloc: Global, fee: u16) -> Result<Tx, NoMemory> {
     let alice = [0xaa; 28];
     let bob = [0xbb; 28];
     let fee = u64::from(fee).min(11_000);
-    let mut inputs = Listed::new(alloc);
+    let mut inputs = Vec::new(alloc);
     inputs.push(OutRef {
         tx: TxId([0x11; 32]),
         index: 0,
@@ -43,7 +44,7 @@ pub fn transfer(alloc: Global, fee: u16) -> Result<Tx, NoMemory> {
     outputs.push(output(alice, 11_000 - fee))?;
     Ok(Tx {
         id: TxId([0x22; 32]),
-        inputs,
+        inputs: OutRefs::from_vec(alloc, inputs)?,
         outputs,
         fee,
         size: 330,
@@ -52,7 +53,7 @@ pub fn transfer(alloc: Global, fee: u16) -> Result<Tx, NoMemory> {
         scripts: Scripts::Absent,
         from: None,
         until: None,
-        collateral: Listed::new(alloc),
+        collateral: OutRefs::new(alloc),
         collateral_return: None,
         treasury: None,
         donation: 0,

@@ -12,5 +12,5 @@ use Rattle.conway.proofs.answer.judge_record.Goals as goal
 pub returns-in-Print-Pots : goal.returns-in-Print-Pots
 returns-in-Print-Pots c = λ w is.
     let found : c.args.found.now ≡ records.Print prints.Pots = search rules in
-    subst (λ (r : Record). Follows w (Read r) c.args.ledger (outcomes.Pots words.Pots c.pots-pots.result)) (sym found)
-    (follows_print w c.args.ledger c.pots-pots.result is c.pots-pots.ensures)
+    subst (λ (r : Record). Follows w (Read r) c.args.ledger.ledger (outcomes.Pots words.Pots c.pots-pots.result)) (sym found)
+    (follows_print w c.args.ledger.ledger c.pots-pots.result is c.pots-pots.ensures)

@@ -11,7 +11,7 @@ text_at_end : (status : Status) (bytes had has : List ℕ) (left : Option (List 
     → status ≡ statuses.Done → text_of_run bytes ≡ Some has
 text_at_end status bytes had has left empty replayed is =
     let done : IsReplayed statuses.Done bytes left (Some had) (Some has) = subst (λ (s : Status). IsReplayed s bytes left (Some had) (Some has)) is replayed in
-    done.ending.text ∙ ap Some (sym (done.wrote ∙ ap (λ (l : List ℕ). l ++ done.written) empty))
+    done.ending.text ∙ sym (done.wrote ∙ ap (λ (l : List ℕ). Some (l ++ done.written)) empty)
 
 pub returns-clause-done : goal.returns-clause-done
 returns-clause-done c =
