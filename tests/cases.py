@@ -33,14 +33,14 @@ def unbalanced(consumed, produced):
     return f"refused 110 NotBalanced consumed {consumed} produced {produced}"
 
 
-def pots(outputs, treasury, reserves, supply):
+def pots(outputs, treasury, reserves, supply, deposits=0, rewards=0):
     """What a genesis with these pots is answered."""
-    return f"genesis outputs {outputs} deposits 0 rewards 0 fees 0 donations 0 treasury {treasury} reserves {reserves} supply {supply}"
+    return f"genesis outputs {outputs} deposits {deposits} rewards {rewards} fees 0 donations 0 treasury {treasury} reserves {reserves} supply {supply}"
 
 
-def printed(outputs, treasury, reserves, supply, fees=0, donations=0):
+def printed(outputs, treasury, reserves, supply, fees=0, donations=0, deposits=0, rewards=0):
     """What a print of these pots is answered."""
-    return f"pots outputs {outputs} deposits 0 rewards 0 fees {fees} donations {donations} treasury {treasury} reserves {reserves} supply {supply}"
+    return f"pots outputs {outputs} deposits {deposits} rewards {rewards} fees {fees} donations {donations} treasury {treasury} reserves {reserves} supply {supply}"
 
 
 START = pots(2000, 100, 900, 3000)

@@ -98,10 +98,26 @@ def rules():
 
 # lists of a genesis that are read and not built
 UNBUILT = {
-    "accounts": [credential(10), 2, 0, None, None],
     "pools": [hash28(50), 5, 0, 0, [0, 1], key(12)],
     "dreps": [credential(30), 5, 20],
 }
+ACCOUNT = [credential(10), 2, 67, None, "abstain"]
+LISTS = {"accounts": ACCOUNT, **UNBUILT}
+
+
+def accounts():
+    def having(*entries, **fields):
+        return genesis(**{"accounts": [*entries], "reserves": 900 - sum(it[1] + it[2] for it in entries), **fields})
+
+    other = [credential(10, "s"), 0, 3, None, "no-confidence"]
+    yield begins("an account", having(ACCOUNT), pots(2000, 100, 831, 3000, deposits=2, rewards=67))
+    yield begins("two accounts", having(ACCOUNT, other), pots(2000, 100, 828, 3000, deposits=2, rewards=70))
+    yield no_genesis("an account that is not counted", having(ACCOUNT, reserves=900))
+    yield no_genesis("an account twice", having(ACCOUNT, ACCOUNT))
+    yield no_genesis("an account twice, with other amounts", having(ACCOUNT, [credential(10), 0, 0, None, None]))
+    yield no_genesis("an account that delegates to no pool of the genesis", having([credential(10), 2, 67, hash28(50), None]))
+    yield no_genesis("an account that delegates to no DRep of the genesis", having([credential(10), 2, 67, None, credential(30)]))
+    yield no_genesis("an account that is not read", genesis(accounts=[ACCOUNT[:-1]]))
 
 
 def not_built():
@@ -116,8 +132,8 @@ def second():
         "a second genesis",
         (genesis(), AGAIN),
         (small(), AGAIN),
-        *((genesis(**{name: [it]}), AGAIN, f"with {name}") for name, it in UNBUILT.items()),
-        *((genesis(**{name: [it, it]}), AGAIN, f"with {name} twice") for name, it in UNBUILT.items()),
+        *((genesis(**{name: [it]}), AGAIN, f"with {name}") for name, it in LISTS.items()),
+        *((genesis(**{name: [it, it]}), AGAIN, f"with {name} twice") for name, it in LISTS.items()),
         (genesis(supply=1), AGAIN, "that breaks SumWrong"),
         (genesis(supply=GREATEST), AGAIN, "that breaks SupplyTooLarge"),
         (of([ref(1, 0), key(1), 20], [ref(1, 0), key(1), 20]), AGAIN, "that breaks Repeated"),
@@ -140,5 +156,6 @@ def cases():
     yield from committees()
     yield from outputs()
     yield from rules()
+    yield from accounts()
     yield from not_built()
     yield from second()

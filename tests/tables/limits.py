@@ -2,7 +2,7 @@
 
 import json
 
-from cases import ACCEPTED, NOT_BUILT, USED, answered, malformed, missing, unbalanced
+from cases import ACCEPTED, USED, answered, malformed, missing, unbalanced
 from records import ENTRY_LIMIT, GREATEST, OUTPUT_LIMIT, credential, key, ref, transfer
 
 OUTPUT = json.dumps([key(1), 0, 0])
@@ -34,7 +34,7 @@ def longest():
         "lists of the greatest length",
         (with_list("inputs", [REFERENCE] * ENTRY_LIMIT), USED),
         (with_list("outputs", [OUTPUT] * OUTPUT_LIMIT), USED),
-        (with_list("withdrawals", ACCOUNTS[:-1]), NOT_BUILT),
+        (with_list("withdrawals", ACCOUNTS[:-1]), USED),
     )
     yield answered("the first of many withdrawals again", (with_list("withdrawals", [*ACCOUNTS[:-2], ACCOUNTS[0]]), malformed("withdrawals", ENTRY_LIMIT - 1)))
 

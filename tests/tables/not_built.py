@@ -4,18 +4,14 @@ from cases import ACCEPTED, NOT_BUILT, USED, answered, malformed, missing
 from records import credential, hash28, key, ref, script, text, transfer, tx_id
 
 WITHDRAWALS = [[key(10), 67]]
-CERTS = [{"cert": "account-reg", "cred": credential(5)}]
+CERTS = [{"cert": "drep-reg", "cred": credential(5)}]
 PROPOSALS = [{"deposit": 10, "return": key(12), "action": {"type": "Info"}}]
 VOTES = [{"voter": "drep:" + credential(30), "action": ref(2, 0), "vote": "yes"}]
-PARTS = {"withdrawals": WITHDRAWALS, "certs": CERTS, "proposals": PROPOSALS, "votes": VOTES}
+PARTS = {"certs": CERTS, "proposals": PROPOSALS, "votes": VOTES}
+LISTS = ["withdrawals", *PARTS]
 
-# one of each certificate and of each action, as a writer of records would have it
+# one of each certificate that is not built, and of each action, as a writer of records would have it
 EACH_CERT = [
-    {"cert": "account-reg", "cred": credential(5), "deposit": 2, "pool": hash28(50), "drep": credential(30)},
-    {"cert": "account-unreg", "cred": credential(5, "s"), "refund": 2},
-    {"cert": "delegate", "cred": credential(5), "pool": hash28(50)},
-    {"cert": "delegate", "cred": credential(5), "drep": "abstain"},
-    {"cert": "delegate", "cred": credential(5), "pool": hash28(50), "drep": "no-confidence"},
     {"cert": "pool-reg", "pool": hash28(50), "cost": 340000000, "pledge": 0, "margin": [1, 20], "account": key(12)},
     {"cert": "pool-retire", "pool": hash28(50), "epoch": 5},
     {"cert": "drep-reg", "cred": credential(30), "deposit": None},
@@ -69,17 +65,17 @@ def transactions():
     )
     yield answered(
         "parts that are empty are as none",
-        *((transfer(n, **{name: []}), ACCEPTED) for n, name in enumerate(PARTS, 2)),
-        *((transfer(n, **{name: None}), ACCEPTED) for n, name in enumerate(PARTS, 12)),
-        (transfer(22, **{name: [] for name in PARTS}), ACCEPTED),
-        (transfer(22, **{name: [] for name in PARTS}), USED),
-        (transfer(23, inputs=[ref(9, 9)], **{name: [] for name in PARTS}), missing()),
+        *((transfer(n, **{name: []}), ACCEPTED) for n, name in enumerate(LISTS, 2)),
+        *((transfer(n, **{name: None}), ACCEPTED) for n, name in enumerate(LISTS, 12)),
+        (transfer(22, **{name: [] for name in LISTS}), ACCEPTED),
+        (transfer(22, **{name: [] for name in LISTS}), USED),
+        (transfer(23, inputs=[ref(9, 9)], **{name: [] for name in LISTS}), missing()),
     )
     yield answered(
         "what does not read comes before what is not built",
         (transfer(2, fee="20", **PARTS), malformed("fee")),
         (transfer(2, **{**PARTS, "withdrawals": [[key(10), 67], [key(11), 67], [key(10), 67]]}), malformed("withdrawals", 2)),
-        (transfer(2, **{**PARTS, "certs": [*EACH_CERT, {"cert": "x"}]}), malformed("certs", 12)),
+        (transfer(2, **{**PARTS, "certs": [*EACH_CERT, {"cert": "x"}]}), malformed("certs", len(EACH_CERT))),
         (transfer(2, **{**PARTS, "proposals": [{**PROPOSALS[0], "action": {"type": "info"}}]}), malformed("proposals", 0)),
         (transfer(2, **{**PARTS, "votes": [*EACH_VOTE, {**VOTES[0], "vote": "Yes"}]}), malformed("votes", 3)),
         (transfer(2), ACCEPTED),
@@ -110,7 +106,7 @@ def repetitions():
         (withdrawing(key(1), key(2), key(1)), malformed("withdrawals", 2)),
         (withdrawing("1k" + low, "1k" + up), malformed("withdrawals", 1)),
         (withdrawing(key(1), key(1), key(2), key(2)), malformed("withdrawals", 1)),
-        (withdrawing(key(1), script(1), key(1, network=0), script(1, network=0)), NOT_BUILT),
+        (withdrawing(key(1), script(1), key(1, network=0), script(1, network=0)), "refused 51 WithdrawalNoAccount at 0"),
         (rewarding(credential(1), credential(2), credential(2)), malformed("rewards", 2)),
         (rewarding("s" + low, "s" + up), malformed("rewards", 1)),
         (rewarding(credential(1), credential(1, "s")), NOT_BUILT),
