@@ -1,0 +1,4 @@
+pub mod Adding
+pub mod Active
+pub mod Stakes
+pub mod Greatest

@@ -1,0 +1,79 @@
+ghost use Rattle.std.specs.Prelude.{◌≡◌, filter_map, length};
+ghost use Rattle.gov_actions.specs.declared.tally.Role.TheVariants.{Committee as committee};
+ghost use Rattle.gov_ids.specs.Orders.{credential_cmp, voter_cmp};
+ghost use Rattle.gov_model.specs.Sides.{members_of, vote_count};
+ghost use Rattle.gov_model.specs.Snapshot.{Snapshot};
+ghost use Rattle.maps.specs.Maps.{IsMap, value_at};
+ghost use Rattle.snapshots.specs.Frozen.{frozen_of};
+ghost use Rattle.tally.specs.Active.{active_key};
+
+use crate::sides::{vote_of, with_side};
+use gov_actions::{Committee, HotState, Proposal, Vote};
+use gov_ids::{Credential, Voter};
+use snapshots::Frozen;
+
+/// Yes and total of the committee on a frozen proposal, in members. Each member with a hot key whose term is not over
+/// counts once, also where two have one hot key, and no vote as No. (CIP-1694, Ratification; RATIFY of the formal
+/// specification)
+pub fn committee_count(f: &Frozen, a: &Proposal) -> (u64, u64)
+    requires in_order { IsMap voter_cmp a.now.votes }
+    ensures { (s : Snapshot) → f.now ≡ frozen_of s → result ≡ vote_count committee s a.now }
+{
+    let mut count = (0, 0);
+    for member in members_of(&f.start.committee) {
+        if let Some(key) = active_key(f, member) {
+            let vote = vote_of(a, &Voter::Committee(key)).unwrap_or(Vote::No);
+            count = with_side(count, 1, vote);
+        }
+    }
+    count
+}
+
+// How many of these members are active.
+pub(crate) fn active_members(f: &Frozen, members: &[(Credential, u64)]) -> u64
+    ensures { result ≡ length (filter_map (active_key f.now.epoch f.now.hot) members.now) }
+{
+    let mut active = 0;
+    for member in members {
+        if active_key(f, member).is_some() {
+            active += 1;
+        }
+    }
+    active
+}
+
+// The members of a committee, none where there is no committee.
+fn members_of(committee: &Option<Committee>) -> &[(Credential, u64)]
+    ensures { result.now ≡ members_of committee.now }
+{
+    match committee {
+        Some(committee) => committee.members.as_slice(),
+        None => &[],
+    }
+}
+
+// The hot key of a member that is active: its term is not over, it has a hot key and did not resign.
+fn active_key(f: &Frozen, member: &(Credential, u64)) -> Option<Credential>
+    ensures { result ≡ active_key f.now.epoch f.now.hot member.now }
+{
+    let (cold, term) = member;
+    if *term < f.epoch {
+        return None;
+    }
+    match hot_state(f.hot.as_slice(), cold)? {
+        HotState::Hot(key) => Some(key),
+        HotState::Resigned => None,
+    }
+}
+
+// What a cold key has authorized.
+fn hot_state(hot: &[(Credential, HotState)], cold: &Credential) -> Option<HotState>
+    ensures { result ≡ value_at credential_cmp hot.now cold.now }
+{
+    for (key, state) in hot {
+        if key == cold {
+            return Some(*state);
+        }
+    }
+    None
+}

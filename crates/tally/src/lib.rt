@@ -1,0 +1,13 @@
+//! What each role counts on a frozen proposal, and what it needs.
+#![tactic(auto)]
+
+mod committee;
+mod dreps;
+mod needs;
+mod pools;
+mod sides;
+
+pub use committee::committee_count;
+pub use dreps::drep_count;
+pub use needs::need;
+pub use pools::pool_count;

@@ -1,0 +1,44 @@
+ghost use Rattle.std.specs.Prelude.{◌≡◌, ◌+◌, ◌^◌, ◌<◌, ◌≤◌};
+ghost use Rattle.gov_ids.specs.Orders.{voter_cmp};
+ghost use Rattle.gov_model.specs.Sides.{no_confidence_side, vote_of};
+ghost use Rattle.maps.specs.Maps.{IsMap};
+ghost use Rattle.tally.specs.Adding.{with_side};
+
+use gov_actions::{Action, Proposal, Vote};
+use gov_ids::Voter;
+
+// Yes and total with one side more.
+pub(crate) fn with_side(count: (u64, u64), weight: u64, vote: Vote) -> (u64, u64)
+    requires part { count.0 ≤ count.1 }
+    requires fits { count.1 + weight < 2 ^ 64 }
+    ensures { result ≡ with_side count weight vote }
+{
+    let (yes, total) = count;
+    match vote {
+        Vote::Yes => (yes + weight, total + weight),
+        Vote::No => (yes, total + weight),
+        Vote::Abstain => count,
+    }
+}
+
+// The vote of a voter on a proposal, none where it did not vote.
+pub(crate) fn vote_of(a: &Proposal, voter: &Voter) -> Option<Vote>
+    requires { IsMap voter_cmp a.now.votes }
+    ensures { result ≡ vote_of a.now voter.now }
+{
+    let votes = a.votes.as_slice();
+    match votes.binary_search_by_key(voter, |vote| vote.0) {
+        Ok(i) => Some(votes[i].1),
+        Err(_) => None,
+    }
+}
+
+// What always-no-confidence says to an action.
+pub(crate) fn no_confidence_side(a: &Action) -> Vote
+    ensures { result ≡ no_confidence_side a.now }
+{
+    match a {
+        Action::NoConfidence { .. } => Vote::Yes,
+        _ => Vote::No,
+    }
+}
