@@ -7,7 +7,7 @@ use Rattle.std.specs.Map.{keys_of, values_of}
 use Rattle.std.specs.Cmp.{IsTotalOrder}
 use Rattle.std.specs.declared.cmp.Ordering.{Ordering}
 use Rattle.std.specs.Ordering.{eq_by_cmp}
-use Rattle.std.proofs.lemmas.Bool.{eqb-true}
+use Rattle.std.proofs.lemmas.Bool.{eqb-true, not-false, or_left, or_parts, or_right}
 use Rattle.std.proofs.lemmas.Cmp.{eq_by_cmp_equiv}
 use Rattle.std.proofs.lemmas.List.Sums.{sum_by-cons}
 use Rattle.maps.specs.Maps.{IsMap, has_member, in_order, sum_values, value_at, with_key, with_values}
@@ -37,18 +37,6 @@ use Rattle.run_model.specs.Genesis.{genesis_checks, genesis_fault, genesis_sum, 
 use Rattle.tx_records.specs.Limits.{genesis_members}
 use Rattle.tx_records.specs.declared.limits.TheConstants.{SUPPLY_LIMIT}
 use Rattle.maps.proofs.Fresh.{all-with_values, distinct_from_repeats}
-
-or_left : (a b : Bool) → a ≡ true → (a || b) ≡ true
-or_left true b h = refl
-or_left false b h = cc
-
-or_right : (a b : Bool) → b ≡ true → (a || b) ≡ true
-or_right true b h = refl
-or_right false b h = h
-
-both_false : (a b : Bool) → (a || b) ≡ false → (a ≡ false) × (b ≡ false)
-both_false true b h = cc
-both_false false b h = (refl, h)
 
 empty_sorted : {K : Type 0} (cmp : K → K → Ordering) → IsStrictlySortedBy cmp []
 unfolding IsStrictlySortedBy
@@ -117,10 +105,6 @@ fault_by false r cs h = (refl, record { none = h })
 fault-cons : (b : Bool) (r : GenesisRule) (cs : List (Bool × GenesisRule)) → HasNoFault ((b, r) ∷ cs) → (b ≡ false) × HasNoFault cs
 fault-cons b r cs h = fault_by b r cs h.none
 
-not_false : (b : Bool) → not b ≡ false → b ≡ true
-not_false true h = refl
-not_false false h = cc
-
 abbrev Account5 : Type 0
 Account5 = Credential × ℕ × ℕ × Option PoolId × Option Drep
 
@@ -172,17 +156,17 @@ unbroken_genesis g h =
     let outputs = repeats outref_cmp (map (λ (o : Entry3). o.0) g.outputs) in
     let accounts = repeats credential_cmp (map (λ (x : Account5). x.0) g.accounts) in
     let pools = repeats pool_cmp (pool_ids g) in
-    let r4 = both_false (members || outputs || accounts || pools) (repeats credential_cmp (drep_ids g)) b.0 in
-    let r3 = both_false (members || outputs || accounts) pools r4.0 in
-    let r2 = both_false (members || outputs) accounts r3.0 in
-    let r1 = both_false members outputs r2.0 in
+    let r4 = or_parts (members || outputs || accounts || pools) (repeats credential_cmp (drep_ids g)) b.0 in
+    let r3 = or_parts (members || outputs || accounts) pools r4.0 in
+    let r2 = or_parts (members || outputs) accounts r3.0 in
+    let r1 = or_parts members outputs r2.0 in
     record {
       within = a.0;
       outputs_apart = r1.1;
       accounts_apart = r2.1;
       pools_apart = r3.1;
       dreps_apart = r4.1;
-      sum = eqb-true (genesis_sum g) g.supply (not_false _ e.0);
+      sum = eqb-true (genesis_sum g) g.supply (not-false _ e.0);
     }
 
 -- its pots hold its supply where it breaks no rule

@@ -1,7 +1,21 @@
 -- Keys that differ in a list differ among those of its items that are taken by tests which exclude one another.
 use Rattle.std.proofs.Common.{◌≡◌, ℕ, ◌==◌, List, [], ◌∷◌, ◌++◌, Bool, true, false, cond, map, filter, flat_map, refl, ap, ◌∙◌}
 use Rattle.std.specs.List.{AllByRecursion, IsDistinct}
-use Rattle.std.proofs.lemmas.Bool.{eqb-true}
+use Rattle.std.proofs.lemmas.Bool.{cond_both, eqb-true}
+
+module _ {A K : Type 0} (key : A → K) where
+  -- what holds of the key of each holds of each that passes
+  pub all_keys-filter : (P : K → Type 0) (p : A → Bool) (xs : List A) → AllByRecursion P (map key xs) → AllByRecursion P (map key (filter p xs))
+  all_keys-filter P p [] h = tt
+  all_keys-filter P p (x ∷ xs) h =
+      cond_both (p x) _ _ (λ (ys : List A). AllByRecursion P (map key ys)) (λ _. (h.0, all_keys-filter P p xs h.1)) (λ _. all_keys-filter P p xs h.1)
+
+  pub own_keys-filter : (same : K → K → Bool) (p : A → Bool) (xs : List A) → IsDistinct same (map key xs) → IsDistinct same (map key (filter p xs))
+  unfolding IsDistinct
+  own_keys-filter same p [] h = tt
+  own_keys-filter same p (x ∷ xs) h =
+      cond_both (p x) _ _ (λ (ys : List A). IsDistinct same (map key ys))
+      (λ _. (all_keys-filter (λ y. same (key x) y ≡ false) p xs h.0, own_keys-filter same p xs h.1)) (λ _. own_keys-filter same p xs h.1)
 
 module _ {A K : Type 0} (key : A → K) (same : K → K → Bool) (back : (k q : K) → same k q ≡ same q k) where
   -- the key k is none of those of xs
@@ -15,24 +29,12 @@ module _ {A K : Type 0} (key : A → K) (same : K → K → Bool) (back : (k q :
   abbrev HaveOwnKeys : List A → Type 0
   HaveOwnKeys xs = IsDistinct same (map key xs)
 
-  if_both : (P : List A → Type 0) (b : Bool) (xs ys : List A) → P xs → P ys → P (cond b xs ys)
-  if_both P true xs ys p q = p
-  if_both P false xs ys p q = q
-
   new-filter : (p : A → Bool) (k : K) (xs : List A) → IsNew k xs → IsNew k (filter p xs)
-  new-filter p k [] h = tt
-  new-filter p k (x ∷ xs) h =
-      if_both (IsNew k) (p x) (x ∷ filter p xs) (filter p xs) (h.0, new-filter p k xs h.1) (new-filter p k xs h.1)
+  new-filter p k xs h = all_keys-filter key (λ y. same k y ≡ false) p xs h
 
   new-append : (k : K) (xs ys : List A) → IsNew k xs → IsNew k ys → IsNew k (xs ++ ys)
   new-append k [] ys h i = i
   new-append k (x ∷ xs) ys h i = (h.0, new-append k xs ys h.1 i)
-
-  own_keys-filter : (p : A → Bool) (xs : List A) → HaveOwnKeys xs → HaveOwnKeys (filter p xs)
-  unfolding IsDistinct
-  own_keys-filter p [] h = tt
-  own_keys-filter p (x ∷ xs) h =
-      if_both HaveOwnKeys (p x) (x ∷ filter p xs) (filter p xs) (new-filter p (key x) xs h.0, own_keys-filter p xs h.1) (own_keys-filter p xs h.1)
 
   own_keys-append : (xs ys : List A) → HaveOwnKeys xs → HaveOwnKeys ys → AreApart xs ys → HaveOwnKeys (xs ++ ys)
   unfolding IsDistinct
@@ -84,4 +86,4 @@ module _ {A K : Type 0} (key : A → K) (same : K → K → Bool) (back : (k q :
     unfolding IsDistinct
     own_keys-ranks [] d = tt
     own_keys-ranks (n ∷ ns) d =
-        own_keys-append (of_rank n) (flat_map of_rank ns) (own_keys-filter (λ x. rank x == n) ps own) (own_keys-ranks ns d.1) (apart-ranks n ns d.0)
+        own_keys-append (of_rank n) (flat_map of_rank ns) (own_keys-filter key same (λ x. rank x == n) ps own) (own_keys-ranks ns d.1) (apart-ranks n ns d.0)

@@ -1,16 +1,22 @@
 -- The dormant bound holds of every World that records reach.
-use Rattle.std.proofs.Common.{◌≡◌, ℕ, ◌+◌, ◌^◌, ◌<◌, ◌≤◌, ◌==◌, ◌⊎◌, inl, inr, List, [], ◌∷◌, ◌++◌, Bool, true, false, cond, Option, Some, None, filter, filter_map, flat_map, map, fold, take, length, unwrap_or, refl, ap, subst, ◌∙◌, arith}
+use Rattle.std.proofs.Common.{◌≡◌, ℕ, ◌+◌, ◌^◌, ◌<◌, ◌≤◌, ◌==◌, ◌⊎◌, inl, inr, List, [], ◌∷◌, ◌++◌, Bool, true, false, cond, Option, Some, None, filter, filter_map, flat_map, map, fold, take, length, unwrap_or, refl, ap, subst, sym, ◌∙◌, arith}
 use Rattle.std.specs.List.{AllByRecursion, cons_option, enumerate_from, list_all}
 use Rattle.std.specs.Ordering.{eq_by_cmp, match_ordering}
+use Rattle.std.specs.List.Sorted.{IsStrictlySortedBy}
+use Rattle.std.specs.Map.{keys_of, values_of}
 use Rattle.std.specs.declared.cmp.Ordering.TheVariants.{Less, Equal, Greater}
 use Rattle.std.proofs.lemmas.Bool.{ltb-true}
-use Rattle.maps.specs.Maps.{changed_where, value_at, with_value, with_values, without_key}
+use Rattle.maps.proofs.Lookups.{none_below}
+use Rattle.maps.proofs.Same.{value_at_first}
+use Rattle.maps.proofs.Ties.{all_tied, is_equal}
+use Rattle.maps.specs.Maps.{IsMap, changed_where, value_at, with_value, with_values, without_key}
 use Rattle.maps.specs.Words.{is_empty, none_or}
 use Rattle.gov_ids.specs.declared.ActionId.{ActionId}
 use Rattle.gov_ids.specs.declared.Credential.{Credential}
 use Rattle.gov_ids.specs.declared.TxId.{TxId}
 use Rattle.gov_ids.specs.declared.Voter.TheVariants as voter
 use Rattle.gov_ids.specs.Orders.{credential_cmp}
+use Rattle.gov_ids.proofs.Totals.{credential_total}
 use Rattle.pparams.specs.declared.Params.{Params}
 use Rattle.pparams.specs.declared.Update.{Update}
 use Rattle.pparams.specs.Overlay.{laid_over}
@@ -35,16 +41,16 @@ use Rattle.tx_records.specs.declared.tx.ProposalRecord.{ProposalRecord}
 use Rattle.tx_records.specs.declared.tx.Scripts.{Scripts}
 use Rattle.tx_records.specs.declared.tx.Scripts.TheVariants.{Absent, Passed, Failed}
 use Rattle.tx_records.specs.declared.tx.Tx.{Tx}
-use Rattle.ledger_model.specs.Ledger.{Ledger}
+use Rattle.ledger_model.specs.Ledger.{Ledger, params_of}
 use Rattle.book_records.specs.Dormancy.{is_kept_active, extended}
 use Rattle.gov_model.specs.Proposals.{without_vote}
 use Rattle.ledger_model.specs.Changes.{changed_by, dormant_added, fresh_expiry, has_voted, having_acted, new_drep, refreshed, voters_refreshed, withdrawn}
 use Rattle.ledger_model.specs.Draft.{draft_with, is_refused, last_draft}
-use Rattle.ledger_model.specs.Transaction.{after_passed, after_scripts, made_proposal, made_proposals, with_votes}
+use Rattle.ledger_model.specs.Transaction.{after_passed, after_scripts, ledger_after_tx, made_proposal, made_proposals, with_votes}
 use Rattle.run_model.specs.World.{World}
 use Rattle.run_model.specs.Boundary.{after_members, after_rewards, update_applied, world_after_boundary}
-use Rattle.run_model.specs.Genesis.{world_of_genesis}
-use Rattle.run_model.specs.Laws.{DormantBound}
+use Rattle.run_model.specs.Genesis.{ledger_of_genesis, world_of_genesis}
+use Rattle.run_model.specs.Laws.{DormantBound, IsWithinDormantBound}
 use Rattle.tx_records.specs.Limits.{are_params, is_action, is_slot, is_u32}
 use Rattle.tx_records.specs.GenesisLimits as genesis_limits
 use Rattle.tx_records.specs.RecordLimits.{is_within_limits}
@@ -103,6 +109,26 @@ module _ (P : DrepState → Type 0) where
   each_found : (es : List (Credential × DrepState)) (k : Credential) (x : DrepState) → EachDrep P es → value_at credential_cmp es k ≡ Some x → P x
   each_found [] k x h e = cc
   each_found (v ∷ es) k x h e = found_by (eq_by_cmp credential_cmp k v.0) v.1 x (value_at credential_cmp es k) h.0 (λ d. each_found es k x h.1 d) e
+
+-- what holds of each value that a look-up finds holds of each value
+pub all_from_found : {X : Type 0} (P : X → Type 0) (es : List (Credential × X)) → IsMap credential_cmp es → ((k : Credential) (x : X) → value_at credential_cmp es k ≡ Some x → P x) → AllByRecursion P (values_of es)
+unfolding IsStrictlySortedBy
+all_from_found P [] h f = tt
+all_from_found P (e ∷ es) h f = (
+  f e.0 e.1 (value_at_first credential_total e es),
+  all_from_found P es h.1 (
+      λ k x t. f k x (
+      elim (eq_by_cmp credential_cmp k e.0) as (λ b. eq_by_cmp credential_cmp k e.0 ≡ b → cond b (Some e.1) (value_at credential_cmp es k) ≡ Some x) [
+        | true ↦ λ tie. let none : value_at credential_cmp es k ≡ None = none_below credential_cmp k es (all_tied credential_total k e.0 (keys_of es) (is_equal _ tie) h.0) in cc
+        | false ↦ λ tie. t
+      ] refl
+      )
+      ),
+)
+
+each_of_all : (P : DrepState → Type 0) (es : List (Credential × DrepState)) → AllByRecursion P (values_of es) → EachDrep P es
+each_of_all P [] h = tt
+each_of_all P (e ∷ es) h = (h.0, each_of_all P es h.1)
 
 -- the same where some values change, and the claim with them
 each_changed : (P Q : DrepState → Type 0) (p : Credential → DrepState → Bool) (f : DrepState → DrepState) → ((x : DrepState) → P x → Q (f x)) → ((x : DrepState) → P x → Q x)
@@ -221,13 +247,18 @@ module _ (top most : ℕ) where
   abbrev IsTimely : ℕ → ℕ → DrepState → Type 0
   IsTimely dormant epoch d = d.expiry + dormant ≤ top + most + epoch
 
-  -- the law, with the activity of the parameters and that which live proposals leave within its range
+-- what may be asked of live proposals beside it: it stays where their actions do
+module _ (top most : ℕ) (IsLive : List Proposal → Type 0) (stays : (f : Proposal → Proposal) → ((p : Proposal) → (f p).action ≡ p.action) → (ps : List Proposal) → IsLive ps → IsLive (map f ps)) where
+  abbrev IsSoon : ℕ → ℕ → DrepState → Type 0
+  IsSoon dormant epoch d = IsTimely top most dormant epoch d
+
+  -- the law, with the activity of the parameters within its range
   record AreWithin (dormant epoch length : ℕ) (ps : List Proposal) (es : List (Credential × DrepState)) : Type 0 where
     awake : IsAwake dormant ps
     at_most : dormant ≤ epoch
-    dreps : EachDrep (IsTimely dormant epoch) es
+    dreps : EachDrep (IsSoon dormant epoch) es
     activity : length ≤ most
-    live : AreActive most ps
+    live : IsLive ps
 
   abbrev IsWithin : Ledger → Type 0
   IsWithin l = AreWithin l.dormant l.epoch l.state.params.drep_activity l.proposals l.dreps
@@ -236,16 +267,13 @@ module _ (top most : ℕ) where
   fresh_is_timely l h = omega (arith, h.at_most, h.activity)
 
   -- where only the DReps change
-  dreps_within : (l : Ledger) (es : List (Credential × DrepState)) → IsWithin l → EachDrep (IsTimely l.dormant l.epoch) es → IsWithin (record l { dreps = es })
+  dreps_within : (l : Ledger) (es : List (Credential × DrepState)) → IsWithin l → EachDrep (IsSoon l.dormant l.epoch) es → IsWithin (record l { dreps = es })
   dreps_within l es h d = record { awake = h.awake; at_most = h.at_most; dreps = d; activity = h.activity; live = h.live }
 
   acted_within : (p : Credential → DrepState → Bool) (l : Ledger) → IsWithin l → IsWithin (record l { dreps = changed_where p (having_acted l) l.dreps })
   acted_within p l h =
       dreps_within l (changed_where p (having_acted l) l.dreps) h
-      (each_changed (IsTimely l.dormant l.epoch) (IsTimely l.dormant l.epoch) p (having_acted l) (λ x k. fresh_is_timely l h) (λ x k. k) l.dreps h.dreps)
-
-  votes_within : (f : Proposal → Proposal) → ((p : Proposal) → IsActiveAction most p.action → IsActiveAction most (f p).action) → (ps : List Proposal) → AreActive most ps → AreActive most (map f ps)
-  votes_within f k ps h = all_made (λ (p : Proposal). IsActiveAction most p.action) (λ (p : Proposal). IsActiveAction most p.action) f k ps h
+      (each_changed (IsSoon l.dormant l.epoch) (IsSoon l.dormant l.epoch) p (having_acted l) (λ x k. fresh_is_timely l h) (λ x k. k) l.dreps h.dreps)
 
   cert_within : (c : Cert) (l : Ledger) → IsWithin l → IsWithin (changed_by c l)
   cert_within (AccountReg cred deposit pool drep) l h = h
@@ -254,13 +282,13 @@ module _ (top most : ℕ) where
   cert_within (PoolReg pool cost pledge margin account) l h = h
   cert_within (PoolRetire pool epoch) l h = h
   cert_within (DrepReg cred deposit) l h =
-      dreps_within l (with_value credential_cmp cred (new_drep l) l.dreps) h (each_with_value (IsTimely l.dormant l.epoch) cred (new_drep l) l.dreps (fresh_is_timely l h) h.dreps)
+      dreps_within l (with_value credential_cmp cred (new_drep l) l.dreps) h (each_with_value (IsSoon l.dormant l.epoch) cred (new_drep l) l.dreps (fresh_is_timely l h) h.dreps)
   cert_within (DrepUnreg cred refund) l h = record {
     awake = awake_made (without_vote (voter.Drep cred)) l.dormant l.proposals h.awake;
     at_most = h.at_most;
-    dreps = each_without_key (IsTimely l.dormant l.epoch) cred l.dreps h.dreps;
+    dreps = each_without_key (IsSoon l.dormant l.epoch) cred l.dreps h.dreps;
     activity = h.activity;
-    live = votes_within (without_vote (voter.Drep cred)) (λ p k. k) l.proposals h.live;
+    live = stays (without_vote (voter.Drep cred)) (λ p. refl) l.proposals h.live;
   }
   cert_within (DrepUpdate cred) l h = acted_within (λ q x. eq_by_cmp credential_cmp cred q) l h
   cert_within (HotAuth cold key) l h = h
@@ -279,7 +307,7 @@ module _ (top most : ℕ) where
   added_within l h = record {
     awake = inl refl;
     at_most = omega arith;
-    dreps = each_changed (IsTimely l.dormant l.epoch) (IsTimely 0 l.epoch) (λ c d. is_kept_active l.epoch l.dormant d) (extended l.dormant) (λ x k. omega (arith, k)) (λ x k. omega (arith, k)) l.dreps h.dreps;
+    dreps = each_changed (IsSoon l.dormant l.epoch) (IsSoon 0 l.epoch) (λ c d. is_kept_active l.epoch l.dormant d) (extended l.dormant) (λ x k. omega (arith, k)) (λ x k. omega (arith, k)) l.dreps h.dreps;
     activity = h.activity;
     live = h.live;
   }
@@ -291,7 +319,7 @@ module _ (top most : ℕ) where
   draft_within : (tx : Tx) (l : Ledger) → IsWithin l → IsWithin (last_draft l tx)
   draft_within tx l h = certs_within l (take (length tx.certs) tx.certs) (refreshed tx (withdrawn tx l)) (refresh_within (is_empty tx.proposals) tx (withdrawn tx l) h)
 
-  passed_within : (l : Ledger) (tx : Tx) → IsWithin l → AreActiveRecords most tx.proposals → IsWithin (after_passed l tx)
+  passed_within : (l : Ledger) (tx : Tx) → IsWithin l → ((ps : List Proposal) → IsLive ps → IsLive (ps ++ made_proposals l tx)) → IsWithin (after_passed l tx)
   passed_within l tx h new =
       let d : Ledger = last_draft l tx in
       let k : IsWithin d = draft_within tx l h in
@@ -302,30 +330,41 @@ module _ (top most : ℕ) where
         at_most = k.at_most;
         dreps = k.dreps;
         activity = k.activity;
-        live = all_append (λ (p : Proposal). IsActiveAction most p.action) (map (with_votes tx) d.proposals) (made_proposals l tx)
-            (votes_within (with_votes tx) (λ p k. k) d.proposals k.live) (made_live most l tx.id 0 tx.proposals new);
+        live = new (map (with_votes tx) d.proposals) (stays (with_votes tx) (λ p. refl) d.proposals k.live);
       }
 
-  tx_within : (sc : Scripts) (l : Ledger) (tx : Tx) → IsWithin l → AreActiveRecords most tx.proposals → IsWithin (after_scripts sc l tx)
+  tx_within : (sc : Scripts) (l : Ledger) (tx : Tx) → IsWithin l → ((ps : List Proposal) → IsLive ps → IsLive (ps ++ made_proposals l tx)) → IsWithin (after_scripts sc l tx)
   tx_within Absent l tx h new = passed_within l tx h new
   tx_within Passed l tx h new = passed_within l tx h new
   tx_within Failed l tx h new = h
 
-  -- the same of a World, and of what it froze
+-- the same of a World, and of what it froze, where the activity that live proposals leave is within its range too
+module _ (top most : ℕ) where
+  kept_active : (f : Proposal → Proposal) → ((p : Proposal) → (f p).action ≡ p.action) → (ps : List Proposal) → AreActive most ps → AreActive most (map f ps)
+  kept_active f same ps h =
+      all_made (λ (p : Proposal). IsActiveAction most p.action) (λ (p : Proposal). IsActiveAction most p.action) f (λ p k. subst (λ (a : Action). IsActiveAction most a) (sym (same p)) k) ps h
+
+  abbrev IsActiveLedger : Ledger → Type 0
+  IsActiveLedger l = IsWithin top most (AreActive most) kept_active l
+
+  active_after : (sc : Scripts) (l : Ledger) (tx : Tx) → IsActiveLedger l → AreActiveRecords most tx.proposals → IsActiveLedger (after_scripts sc l tx)
+  active_after sc l tx h new =
+      tx_within top most (AreActive most) kept_active sc l tx h (λ ps k. all_append (λ (p : Proposal). IsActiveAction most p.action) ps (made_proposals l tx) k (made_live most l tx.id 0 tx.proposals new))
+
   record IsWithinWorld (w : World) : Type 0 where
-    ledger : IsWithin w.ledger
+    ledger : IsActiveLedger w.ledger
     start : w.frozen.start.params.drep_activity ≤ most
     frozen : AreActive most w.frozen.proposals
 
   -- the boundary
-  update_within : (o : Option Rewards) (l : Ledger) → IsWithin l → IsWithin (update_applied o l)
+  update_within : (o : Option Rewards) (l : Ledger) → IsActiveLedger l → IsActiveLedger (update_applied o l)
   update_within None l h = h
   update_within (Some u) l h = h
 
   boundary_within : (w : World) → IsWithinWorld w → IsWithinWorld (world_after_boundary w)
   boundary_within w h =
       let l : Ledger = (after_rewards w).ledger in
-      let k : IsWithin l = update_within w.pending w.ledger h.ledger in
+      let k : IsActiveLedger l = update_within w.pending w.ledger h.ledger in
       let kept : List Proposal = (after_members w).ledger.proposals in
       let most_now : cond (is_empty kept) (l.dormant + 1) l.dormant ≤ l.dormant + 1 = noted_most (is_empty kept) l.dormant in
       let activity : (world_after_boundary w).ledger.state.params.drep_activity ≤ most = enacted_active most w.frozen h.start h.frozen in
@@ -334,8 +373,8 @@ module _ (top most : ℕ) where
         ledger = record {
           awake = noted_awake kept l.dormant (none_kept l.dormant l.proposals _ _ _ k.awake);
           at_most = omega (arith, most_now, k.at_most);
-          dreps = all_weaken (λ (e : Credential × DrepState). IsTimely l.dormant l.epoch e.1)
-              (λ (e : Credential × DrepState). IsTimely (cond (is_empty kept) (l.dormant + 1) l.dormant) (l.epoch + 1) e.1) (λ e j. omega (arith, j, most_now)) l.dreps k.dreps;
+          dreps = all_weaken (λ (e : Credential × DrepState). IsTimely top most l.dormant l.epoch e.1)
+              (λ (e : Credential × DrepState). IsTimely top most (cond (is_empty kept) (l.dormant + 1) l.dormant) (l.epoch + 1) e.1) (λ e j. omega (arith, j, most_now)) l.dreps k.dreps;
           activity = activity;
           live = live;
         };
@@ -415,7 +454,7 @@ accepted_bounded : (w : World) (r : Record) → IsBounded w → is_within_limits
 accepted_bounded w (records.Genesis g) b h = b
 accepted_bounded w (records.Block slot pulse) b h = let c = crossed_within (2 ^ 62) (2 ^ 32) (enters_next w.ledger slot) w b in record { ledger = c.ledger; start = c.start; frozen = c.frozen }
 accepted_bounded w (records.Rewards u) b h = record { ledger = b.ledger; start = b.start; frozen = b.frozen }
-accepted_bounded w (records.Tx tx) b h = record { ledger = tx_within (2 ^ 62) (2 ^ 32) tx.scripts w.ledger tx b.ledger (tx_active tx h); start = b.start; frozen = b.frozen }
+accepted_bounded w (records.Tx tx) b h = record { ledger = active_after (2 ^ 62) (2 ^ 32) tx.scripts w.ledger tx b.ledger (tx_active tx h); start = b.start; frozen = b.frozen }
 accepted_bounded w (records.Print what) b h = b
 
 bounded_by : (o : Option Rule) (w : World) (r : Record) → IsBounded w → is_within_limits r ≡ true → IsBounded (step_by o w r).0
@@ -429,7 +468,30 @@ all_bounded (r ∷ rs) w b h = all_bounded rs (step w r).0 (bounded_by (refusal_
 reached_bounded : (w : World) → IsReached w → IsBounded w
 reached_bounded w h = subst (λ (v : World). IsBounded v) h.reached (all_bounded h.records (world_of_genesis h.genesis) (genesis_bounded h.genesis h.within) h.all_within)
 
+law_of : (IsLive : List Proposal → Type 0) (stays : (f : Proposal → Proposal) → ((p : Proposal) → (f p).action ≡ p.action) → (ps : List Proposal) → IsLive ps → IsLive (map f ps)) (l : Ledger)
+    → IsWithin (2 ^ 62) (2 ^ 32) IsLive stays l → IsWithinDormantBound l
+law_of IsLive stays l b = record { awake = b.awake; at_most = b.at_most; expiries = λ c d e. each_found (IsTimely (2 ^ 62) (2 ^ 32) l.dormant l.epoch) l.dreps c d b.dreps e }
+
 pub dormant_bound : DormantBound
-dormant_bound w h =
-    let b : IsWithin (2 ^ 62) (2 ^ 32) w.ledger = (reached_bounded w h).ledger in
-    record { awake = b.awake; at_most = b.at_most; expiries = λ c d e. each_found (IsTimely (2 ^ 62) (2 ^ 32) w.ledger.dormant w.ledger.epoch) w.ledger.dreps c d b.dreps e }
+dormant_bound w h = law_of (AreActive (2 ^ 32)) (kept_active (2 ^ 62) (2 ^ 32)) w.ledger (reached_bounded w h).ledger
+
+-- ---- the same of a ledger by itself
+
+-- that of a genesis is within the bound, and its activity within its range
+pub genesis_timely : (g : Genesis) → genesis_limits.is_within_limits g ≡ true → IsWithinDormantBound (ledger_of_genesis g) × ((params_of (ledger_of_genesis g)).drep_activity ≤ 2 ^ 32)
+genesis_timely g h =
+    let b : IsBounded (world_of_genesis g) = genesis_bounded g h in
+    (law_of (AreActive (2 ^ 32)) (kept_active (2 ^ 62) (2 ^ 32)) (ledger_of_genesis g) b.ledger, b.ledger.activity)
+
+-- and a transaction keeps one within it
+pub tx_timely : (l : Ledger) (tx : Tx) → IsMap credential_cmp l.dreps → IsWithinDormantBound l → (params_of l).drep_activity ≤ 2 ^ 32 → IsWithinDormantBound (ledger_after_tx l tx)
+tx_timely l tx m b activity =
+    let any : List Proposal → Type 0 = λ ps. Unit {0} in
+    law_of any (λ f same ps h. tt) (ledger_after_tx l tx)
+    (tx_within (2 ^ 62) (2 ^ 32) any (λ f same ps h. tt) tx.scripts l tx (record {
+      awake = b.awake;
+      at_most = b.at_most;
+      dreps = each_of_all (IsTimely (2 ^ 62) (2 ^ 32) l.dormant l.epoch) l.dreps (all_from_found (IsTimely (2 ^ 62) (2 ^ 32) l.dormant l.epoch) l.dreps m b.expiries);
+      activity = activity;
+      live = tt;
+    }) (λ ps h. tt))
