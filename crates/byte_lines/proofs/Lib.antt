@@ -1,3 +1,4 @@
+mod GivenLemmas
 pub mod LawLemmas
 pub mod PieceLemmas
 pub mod ProgressLemmas

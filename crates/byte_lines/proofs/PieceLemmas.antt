@@ -1,7 +1,7 @@
 -- Lemmas on the pieces of a stream.
 use Rattle.std.proofs.Common.{◌≡◌, ℕ, ◌<◌, ◌++◌, ◌⊎◌, inl, inr, Bool, true, false, List, [], ◌∷◌, Option, length, map, refl, sym, ap, subst, ◌∙◌, arith, append_assoc}
 use Rattle.std.specs.Prelude.{◌==◌, ◌||◌, slice_index, suc, if◌then◌else◌}
-use Rattle.std.proofs.lemmas.Bool.{eqb-true, eq-eqb}
+use Rattle.std.proofs.lemmas.Bool.{eqb-true, eq-eqb, or_right}
 use Rattle.std.proofs.lemmas.List.{append-nil, map-append}
 use Rattle.std.proofs.lemmas.Grind.{common_steps}
 use Rattle.std.proofs.lemmas.List.Folds.{list_any-append}
@@ -83,12 +83,14 @@ pub open_of-all : (bytes : List ℕ) → has_feed bytes ≡ false → (whole_of 
 open_of-all [] none = (refl, refl)
 open_of-all (b ∷ bs) none = rw none (refl, refl)
 
--- a line feed at the end leaves nothing open
+-- with a line feed at the end
+pub has_feed-feed : (bytes : List ℕ) → has_feed (bytes ++ line_feed ∷ []) ≡ true
+has_feed-feed bytes = list_any-append (λ b. b == line_feed) bytes (line_feed ∷ []) ∙ or_right (has_feed bytes) true refl
+
+-- which leaves nothing open
 pub open_of-feed : (bytes : List ℕ) → open_of (bytes ++ line_feed ∷ []) ≡ []
 open_of-feed [] = refl
-open_of-feed (b ∷ bs) =
-    let some : has_feed ((b ∷ bs) ++ line_feed ∷ []) ≡ true = grind (arith, common_steps, list_any-append (λ y. y == line_feed) (b ∷ bs) (line_feed ∷ [])) in
-    rw some (open_of-feed bs)
+open_of-feed (b ∷ bs) = rw (has_feed-feed (b ∷ bs)) (open_of-feed bs)
 
 -- the whole lines have each line feed
 has_feed-whole : (bytes : List ℕ) → has_feed (whole_of bytes) ≡ has_feed bytes
@@ -143,7 +145,7 @@ with_first-some : (b : ℕ) (ps : List (List ℕ)) → 0 < length (with_first b 
 with_first-some b [] = omega arith
 with_first-some b (p ∷ ps) = omega arith
 
-pieces_of-some : (bytes : List ℕ) → has_feed bytes ≡ true → 0 < length (pieces_of bytes)
+pub pieces_of-some : (bytes : List ℕ) → has_feed bytes ≡ true → 0 < length (pieces_of bytes)
 pieces_of-some [] some = cc
 pieces_of-some (b ∷ bs) some =
     elim (b == line_feed) as (λ t. 0 < length (if t then [] ∷ pieces_of bs else with_first b (pieces_of bs))) [

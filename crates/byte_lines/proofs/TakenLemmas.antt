@@ -36,7 +36,7 @@ pieces_of-run (b ∷ bs) rest none =
     ]
 
 -- nothing more of a line begun, and a run in two parts
-with_run-nil : (max : ℕ) (begun : Option (List ℕ)) → FitsIn max begun → with_run max begun [] ≡ begun
+pub with_run-nil : (max : ℕ) (begun : Option (List ℕ)) → FitsIn max begun → with_run max begun [] ≡ begun
 with_run-nil max None fits = refl
 with_run-nil max (Some line) fits =
     ap (kept max) (append-nil line) ∙ rw (le-leb (length line) max (fits line refl)) refl
@@ -93,10 +93,10 @@ fresh_gives_all r bytes begun ahead =
 
 -- ---- one step
 
-take-nil : (n : ℕ) → heeded n [] ≡ []
+pub take-nil : (n : ℕ) → heeded n [] ≡ []
 take-nil n = take_all n [] (omega arith)
 
-prepend_known-none : (known : Option (List ℕ)) → known ≡ prepend_known [] known
+pub prepend_known-none : (known : Option (List ℕ)) → known ≡ prepend_known [] known
 prepend_known-none None = refl
 prepend_known-none (Some xs) = refl
 
@@ -182,12 +182,12 @@ takes_end old new given left looked end is is_new =
 
 -- ---- one step after another
 
-prepend_known-more : (xs ys : List ℕ) (known : Option (List ℕ)) → prepend_known xs (prepend_known ys known) ≡ prepend_known (xs ++ ys) known
+pub prepend_known-more : (xs ys : List ℕ) (known : Option (List ℕ)) → prepend_known xs (prepend_known ys known) ≡ prepend_known (xs ++ ys) known
 prepend_known-more xs ys None = refl
 prepend_known-more xs ys (Some zs) = ap Some (sym (append_assoc xs ys zs))
 
 -- a front of two parts, where the former has m places
-take-two : (xs ys : List ℕ) (n m : ℕ) → n ≡ m - length xs → take m (xs ++ ys) ≡ take m xs ++ take n ys
+pub take-two : (xs ys : List ℕ) (n m : ℕ) → n ≡ m - length xs → take m (xs ++ ys) ≡ take m xs ++ take n ys
 take-two [] ys n m is = let same : n ≡ m = omega (arith, is) in ap (λ (k : ℕ). take k ys) (sym same) ∙ ap (λ (zs : List ℕ). zs ++ take n ys) (sym (take-nil m))
 take-two (x ∷ xs) ys n zero is = let none : n ≡ 0 = omega (arith, is) in ap (λ (k : ℕ). take k ys) (sym none)
 take-two (x ∷ xs) ys n (suc m) is = let less : n ≡ m - length xs = omega (arith, is) in ap (λ (zs : List ℕ). x ∷ zs) (take-two xs ys n m less)
@@ -195,6 +195,16 @@ take-two (x ∷ xs) ys n (suc m) is = let less : n ≡ m - length xs = omega (ar
 nothing-length : (xs : List ℕ) → length xs ≡ 0 → xs ≡ []
 nothing-length [] none = refl
 nothing-length (x ∷ xs) none = absurd (omega (arith, none))
+
+-- after the end nothing comes
+pub quiet : (old new : Reader) (left left' : Option (List ℕ)) (given : List (Option (List ℕ))) (took : HasTaken old new left left' given) (n : ℕ) →
+    (IsTrue old.ended → (new ≡ old) × (left' ≡ left)) → (rest : List ℕ) → (IsTrue new.ended → rest ≡ []) → IsTrue old.ended → heeded n took.bytes ++ rest ≡ []
+quiet old new left left' given took n stays rest none over =
+    let same = (stays over).0 in
+    let taken : new.taken ≡ old.taken = ap (λ (r : Reader). r.taken) same in
+    let zero : length took.bytes ≡ 0 = omega (arith, taken, took.count) in
+    ap (λ (xs : List ℕ). take n xs ++ rest) (nothing-length took.bytes zero) ∙ ap (λ (xs : List ℕ). xs ++ rest) (take-nil n)
+    ∙ none (subst (λ (r : Reader). IsTrue r.ended) (sym same) over)
 
 pub calls_add_up : CallsAddUp
 calls_add_up first mid last left left' left'' given more one next limit stays =
@@ -212,16 +222,9 @@ calls_add_up first mid last left left' left'' given more one next limit stays =
             | inr over ↦ subst IsAtEnd (sym (stays over).1) (one.drained going over)
           ];
       lines = λ rest none.
-          let quiet : IsTrue mid.ended → now ++ rest ≡ [] = λ over.
-          let same = (stays over).0 in
-          let ended : IsTrue last.ended = subst (λ (r : Reader). IsTrue r.ended) (sym same) over in
-          let taken : last.taken ≡ mid.taken = ap (λ (r : Reader). r.taken) same in
-          let zero : length next.bytes ≡ 0 = omega (arith, taken, next.count) in
-          ap (λ (xs : List ℕ). take (mid.stream_max - mid.taken) xs ++ rest) (nothing-length next.bytes zero)
-          ∙ ap (λ (xs : List ℕ). xs ++ rest) (take-nil (mid.stream_max - mid.taken)) ∙ none ended in
           ap (λ (xs : List ℕ). lines_left first (xs ++ rest)) (take-two one.bytes next.bytes (mid.stream_max - mid.taken) (first.stream_max - first.taken) places)
           ∙ ap (λ (xs : List ℕ). lines_left first xs) (append_assoc (take (first.stream_max - first.taken) one.bytes) now rest)
-          ∙ one.lines (now ++ rest) quiet
+          ∙ one.lines (now ++ rest) (quiet mid last left' left'' more next (mid.stream_max - mid.taken) stays rest none)
           ∙ ap (λ (ls : List (Option (List ℕ))). given ++ ls) (next.lines rest none)
           ∙ sym (append_assoc given more (lines_left last rest));
     }

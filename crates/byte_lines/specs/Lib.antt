@@ -10,4 +10,5 @@ pub mod Reader
 pub mod Sinks
 pub mod Sources
 pub mod States
+pub mod Told
 pub mod Turns

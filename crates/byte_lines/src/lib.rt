@@ -10,7 +10,7 @@ mod sink;
 mod source;
 mod standard;
 
-pub use laws::whole_lines;
+pub use laws::{line_feeds, what_was_given, whole_lines};
 pub use lines::{Line, LineFault, Lines};
 pub use memory::{FaultySink, FaultySource, MemorySink, MemorySource};
 pub use sink::{Sink, SinkFault, put_all};

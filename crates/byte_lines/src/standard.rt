@@ -1,5 +1,5 @@
 //! A reader of `std::io` as a source, and a writer as a sink.
-ghost use Rattle.std.specs.Prelude.{◌≡◌, ◌<◌, ◌≤◌, IfSome, IfNone, length, take, is_ok, if◌then◌else◌};
+ghost use Rattle.std.specs.Prelude.{◌≡◌, ◌<◌, ◌≤◌, IfOk, IfSome, IfNone, length, take, is_ok, if◌then◌else◌};
 ghost use Rattle.std.specs.Io.KnownBytes.{append_known};
 ghost use Rattle.byte_lines.specs.Sources.{IsRead};
 ghost use Rattle.byte_lines.specs.Sinks.{IsWrite};
@@ -53,8 +53,9 @@ impl<R: Read> Source for ReaderSource<R> {
     ghost faults = { λ source. source.faults };
 
     fn read(&mut self, into: &mut [u8]) -> Result<usize, ReadFault>
-        requires { 0 < length into.old }
-        ensures reads { IsRead self.old.left self.new.left self.old.faults self.new.faults into.new result }
+        ensures reads { 0 < length into.old →
+            IsRead self.old.left self.new.left self.old.faults self.new.faults into.new result }
+        ensures fits { IfOk result (λ n. n ≤ length into.new) }
         ensures count { self.new.faults ≡ (if is_ok result then self.old.faults else one_more self.old.faults) }
     {
         match self.reader.read(into) {
@@ -130,7 +131,6 @@ impl<W: Write> Sink for WriterSink<W> {
     ghost faults = { λ sink. sink.faults };
 
     fn write(&mut self, piece: &[u8]) -> Result<usize, SinkFault>
-        requires { 0 < length piece.now }
         ensures writes { IsWrite self.old.taken self.new.taken self.old.faults self.new.faults piece.now result }
         ensures count { self.new.faults ≡ (if is_ok result then self.old.faults else one_more self.old.faults) }
     {
