@@ -3,8 +3,9 @@
 
 ghost use Rattle.std.specs.Prelude.{◌≡◌, [], OnOk, OnErr, length, option_map};
 ghost use Rattle.gov_ids.specs.Orders.{credential_cmp};
-ghost use Rattle.maps.specs.Maps.{value_at, entry_after};
+ghost use Rattle.maps.specs.Maps.{IsMap, value_at, entry_after};
 ghost use Rattle.view_map.specs.View.{IsInOrder, frozen_of};
+ghost use Rattle.view_map.specs.Walk.{entries_past};
 ghost use Rattle.accounts.specs.Accounts.{is_nothing, entered};
 
 pub use book_records::{Entry, Registered};
@@ -12,6 +13,7 @@ use coin_frac::NoMemory;
 use gov_ids::Credential;
 use std::alloc::Global;
 use std::marker::Model;
+pub use view_map::FrozenIter;
 use view_map::ViewMap;
 
 /// The account entries by credential, live and frozen. Contracts see it as the `ViewMap` that it is. (DState of the formal specification; the frozen entries are own)
@@ -82,6 +84,15 @@ impl AccountBook {
         self.view.frozen_get(c)
     }
 
+    /// The frozen entries past a credential, or all of them, in the order of credentials. It searches once, and then goes
+    /// on step by step. It takes no memory. (Own)
+    pub fn frozen_past(&self, after: Option<&Credential>) -> FrozenIter<'_, Credential, Entry>
+        ensures { result ≡
+            entries_past credential_cmp (option_map (λ c. c.now) after.entry) (frozen_of credential_cmp self.now) }
+    {
+        self.view.frozen_past(after)
+    }
+
     /// The first frozen entry past a credential, or the first of all, in the order of credentials; none at the end. (Own)
     pub fn frozen_next(&self, after: Option<&Credential>) -> Option<(Credential, Entry)>
         ensures { result ≡
@@ -92,7 +103,8 @@ impl AccountBook {
 
     /// How many frozen entries there are. It walks what has changed since the freeze. (Own)
     pub fn frozen_len(&self) -> u64
-        ensures { result ≡ length (frozen_of credential_cmp self.now) }
+        ensures len { result ≡ length (frozen_of credential_cmp self.now) }
+        ensures in_order { IsMap credential_cmp (frozen_of credential_cmp self.now) }
     {
         self.view.frozen_len()
     }

@@ -39,6 +39,10 @@ fn keeps_the_frozen_entries(rt: HostRuntime) -> Result<(), Fail> {
     assert_eq!(rt; book.frozen_next(None), Some((key(1), staked(10))));
     assert_eq!(rt; book.frozen_next(Some(&key(1))), Some((key(2), staked(20))));
     assert_eq!(rt; book.frozen_next(Some(&key(2))), None);
+    assert_eq!(rt;
+        book.frozen_past(Some(&key(1))).next(),
+        Some((key(2), staked(20)))
+    );
     assert_eq!(rt; book.frozen_len(), 2);
     assert_eq!(rt; book.frozen_get(&key(0)), None);
     book.freeze();

@@ -1,7 +1,6 @@
 -- A live list beside the first values of what has changed since the last freeze. (Own)
 use Rattle.std.specs.Prelude.{List, Option, Some, None, fold, if◌then◌else◌, unwrap_or}
 use Rattle.std.specs.declared.cmp.Ordering.{Ordering}
-use Rattle.std.specs.Ordering.{is_lt}
 use Rattle.std.specs.BTreeMap.{is_at}
 use Rattle.std.specs.Map.{lookup_key}
 use Rattle.maps.specs.Maps.{IsMap, value_at, has_key, with_value, without_key}
@@ -37,8 +36,3 @@ module _ {K V : Type 0} (cmp : K → K → Ordering) where
   -- the same once k goes: nothing more where there is no entry to go
   abbrev pub saved_without : K → View K V → List (K × Option V)
   saved_without k m = if has_key cmp m.live k then saved_with k m else m.saved
-
-  -- the entry, where it comes before k
-  abbrev pub where_before : K → Option (K × V) → Option (K × V)
-  where_before k None = None
-  where_before k (Some e) = if is_lt (cmp e.0 k) then Some e else None

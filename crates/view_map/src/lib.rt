@@ -2,10 +2,15 @@
 #![tactic(auto)]
 
 ghost use Rattle.std.specs.Prelude.{◌≡◌, [], OnOk, OnErr, IfOk, length, option_map, not, if◌then◌else◌};
-ghost use Rattle.maps.specs.Maps.{value_at, has_key, with_value, without_key, entry_after};
-ghost use Rattle.view_map.specs.View.{IsInOrder, frozen_of, saved_with, saved_without, where_before};
+ghost use Rattle.maps.specs.Maps.{IsMap, value_at, has_key, with_value, without_key, entry_after};
+ghost use Rattle.view_map.specs.View.{IsInOrder, frozen_of, saved_with, saved_without};
+ghost use Rattle.view_map.specs.Walk.{entries_past};
+
+mod frozen_iter;
+mod peeked;
 
 use coin_frac::NoMemory;
+pub use frozen_iter::FrozenIter;
 use maps::keys_past;
 use std::alloc::Global;
 use std::collections::BTreeMap;
@@ -136,34 +141,27 @@ impl<K: Copy + Ord, V: Copy> ViewMap<K, V> {
         Some((*k, *v))
     }
 
+    /// The frozen entries past a key, or all of them, in the order of keys. It searches once, and then goes on step by
+    /// step. It takes no memory. (Own)
+    pub fn frozen_past(&self, after: Option<&K>) -> FrozenIter<'_, K, V>
+        ensures { result ≡ entries_past K.cmp (option_map (λ k. k.now) after.entry) (frozen_of K.cmp self.now) }
+    {
+        let live = self.live.range(keys_past(after));
+        let saved = self.saved.range(keys_past(after));
+        FrozenIter::new(live, saved)
+    }
+
     /// The first frozen entry past a key, or the first of all, in the order of keys; none at the end. (Own)
     pub fn frozen_next(&self, after: Option<&K>) -> Option<(K, V)>
         ensures { result ≡ entry_after K.cmp (option_map (λ k. k.now) after.entry) (frozen_of K.cmp self.now) }
     {
-        let mut after = after.copied();
-        for (key, first) in self.saved.range(keys_past(after.as_ref())) {
-            if let Some(entry) = self.next_before(after.as_ref(), key) {
-                return Some(entry);
-            }
-            match *first {
-                Some(v) => return Some((*key, v)),
-                None => after = Some(*key),
-            }
-        }
-        self.next(after.as_ref())
-    }
-
-    // The first live entry past a key, where it comes before another.
-    fn next_before(&self, after: Option<&K>, end: &K) -> Option<(K, V)>
-        ensures { result ≡
-            where_before K.cmp end.now (entry_after K.cmp (option_map (λ k. k.now) after.entry) self.now.live) }
-    {
-        self.next(after).filter(|(k, _)| k.cmp(end).is_lt())
+        self.frozen_past(after).next()
     }
 
     /// How long the frozen list is. (Own)
     pub fn frozen_len(&self) -> u64
-        ensures { result ≡ length (frozen_of K.cmp self.now) }
+        ensures len { result ≡ length (frozen_of K.cmp self.now) }
+        ensures in_order { IsMap K.cmp (frozen_of K.cmp self.now) }
     {
         let mut gone = 0;
         let mut came = 0;

@@ -21,6 +21,11 @@ fn keeps_the_frozen_list(rt: HostRuntime) -> Result<(), Fail> {
     assert_eq!(rt; map.frozen_next(None), Some((1, 10)));
     assert_eq!(rt; map.frozen_next(Some(&1)), Some((2, 20)));
     assert_eq!(rt; map.frozen_next(Some(&2)), None);
+    let mut left = map.frozen_past(None);
+    assert_eq!(rt;
+        (left.next(), left.next(), left.next()),
+        (Some((1, 10)), Some((2, 20)), None)
+    );
     assert_eq!(rt; map.frozen_len(), 2);
     assert_eq!(rt; map.frozen_get(&0), None);
     assert_eq!(rt; map.frozen_get(&1), Some(10));

@@ -1,5 +1,6 @@
 use Rattle.std.proofs.Common.{◌≡◌, ◌+◌, List, Option, length, ap, subst, ◌∙◌, arith}
 use Rattle.view_map.specs.View.{View, IsInOrder, frozen_of}
+use Rattle.view_map.proofs.Frozen.{IsMap-frozen}
 use Rattle.view_map.proofs.Lengths.{gone, came, counted, length-frozen}
 use Rattle.view_map.proofs.ViewMap.frozen_len.Given.{Over}
 use Rattle.view_map.proofs.ViewMap.frozen_len.Goals as goal
@@ -16,5 +17,8 @@ lengths g c =
 pub overflow_sub-result : goal.overflow_sub-result
 overflow_sub-result g c = omega (arith, lengths g c)
 
-pub returns : goal.returns
-returns g c = omega (arith, lengths g c)
+pub returns-clause-len : goal.returns-clause-len
+returns-clause-len g c = omega (arith, lengths g c)
+
+pub returns-clause-in_order : goal.returns-clause-in_order
+returns-clause-in_order g c = IsMap-frozen g.met.K.Ord.total c.args.self.now (subst (λ (m : View g.row.K.Denot g.row.V.Denot). IsInOrder g.K.Ord.cmp m) c.self.view_is c.self.invariant)

@@ -1,0 +1,59 @@
+ghost use Rattle.std.specs.Prelude.{◌≡◌, length};
+ghost use Rattle.std.specs.Iterator.{at_most};
+ghost use Rattle.std.specs.Map.Iter.{TakesFirst};
+ghost use Rattle.view_map.specs.Walk.{merged};
+
+use crate::peeked::Peeked;
+use std::collections::btree_map::Range;
+use std::marker::Model;
+
+/// What is left of a walk over the frozen entries of a `ViewMap`. Contracts see it as the list of those entries, in the
+/// order of keys. (Own)
+#[derive(Drop)]
+pub struct FrozenIter<'a, K: Ord, V> {
+    live: Peeked<'a, K, V>,
+    saved: Peeked<'a, K, Option<V>>,
+}
+
+impl<'a, K: Ord, V> Model for FrozenIter<'a, K, V> {
+    ghost use Rattle.std.specs.Prelude.{List};
+    ghost use Rattle.view_map.specs.Walk.{merged};
+
+    ghost Value = { List (K × V) };
+
+    ghost view = { λ a. merged K.cmp a.saved a.live };
+}
+
+impl<'a, K: Ord, V> FrozenIter<'a, K, V> {
+    // A walk over a range of the live list and the same range of the saved one.
+    pub(crate) fn new(live: Range<'a, K, V>, saved: Range<'a, K, Option<V>>) -> FrozenIter<'a, K, V>
+        ensures { result ≡ merged K.cmp saved.entry live.entry }
+    {
+        FrozenIter {
+            live: Peeked::new(live),
+            saved: Peeked::new(saved),
+        }
+    }
+}
+
+impl<'a, K: Copy + Ord, V: Copy> Iterator for FrozenIter<'a, K, V> {
+    type Item = (K, V);
+
+    ghost next_gives = { TakesFirst (λ e. e) };
+
+    ghost remaining = { λ s. at_most (length s) };
+
+    fn next(&mut self) -> Option<(K, V)> {
+        while let Some((key, first)) = self.saved.peek() {
+            if let Some((k, v)) = self.live.next_before(key) {
+                return Some((*k, *v));
+            }
+            self.saved.next();
+            if let Some(v) = first {
+                return Some((*key, *v));
+            }
+        }
+        let (k, v) = self.live.next()?;
+        Some((*k, *v))
+    }
+}
