@@ -151,8 +151,8 @@ impl PoolBook {
     }
 }
 
-// What a registration makes of what was there.
-fn registered(known: Option<Pool>, terms: PoolTerms, deposit: u64) -> Pool
+/// What a registration with its terms and its deposit, in lovelace, makes of what the id had: a new pool, or the known one with these as its future terms and no retirement. (POOL of the formal specification)
+pub fn registered(known: Option<Pool>, terms: PoolTerms, deposit: u64) -> Pool
     ensures { result ≡ pool_after deposit terms known }
 {
     match known {

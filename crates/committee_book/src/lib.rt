@@ -1,9 +1,10 @@
 //! The book of what the committee's cold keys authorized.
 #![tactic(auto)]
 
-ghost use Rattle.std.specs.Prelude.{◌≡◌, [], option_map, OnOk, OnErr};
+ghost use Rattle.std.specs.Prelude.{◌≡◌, ◌&&◌, not, [], option_map, OnOk, OnErr};
+ghost use Rattle.std.specs.List.{list_any};
 ghost use Rattle.gov_ids.specs.Orders.{credential_cmp};
-ghost use Rattle.maps.specs.Maps.{IsMap, value_at, with_value, entry_after};
+ghost use Rattle.maps.specs.Maps.{IsMap, has_key, value_at, with_value, entry_after};
 ghost use Rattle.maps.specs.Replaced.{with_option};
 ghost use Rattle.gov_model.specs.Hot.{is_hot_key, is_named, is_member, of_members};
 
@@ -83,6 +84,18 @@ impl HotBook {
         self.entries.iter().any(|(_, s)| is_hot_key(s, hot))
     }
 
+    /// Whether a cold key that is not among the changed ones has this hot key. (Own)
+    pub fn others_name_hot(
+        &self,
+        changed: &BTreeMap<Credential, HotState>,
+        hot: &Credential,
+    ) -> bool
+        ensures { result ≡
+            list_any (λ h. not (has_key credential_cmp changed.now.entries h.0) && is_hot_key hot.now h.1) self.now }
+    {
+        self.entries.iter().any(|(cold, s)| !changed.contains_key(cold) && is_hot_key(s, hot))
+    }
+
     /// Only members keep their entries, and none where there is no committee. (EPOCH of the formal specification)
     pub fn keep_members(&mut self, c: Option<&Committee>)
         ensures { self.new ≡ of_members (option_map (λ c. c.now) c.entry) self.old }
@@ -99,8 +112,8 @@ impl HotBook {
     }
 }
 
-// Whether the entry is this hot key.
-fn is_hot_key(s: &HotState, hot: &Credential) -> bool
+/// Whether the entry of a cold key is this hot key. (GOV of the formal specification)
+pub fn is_hot_key(s: &HotState, hot: &Credential) -> bool
     ensures { result ≡ is_hot_key hot.now s.now }
 {
     match s {
@@ -109,8 +122,8 @@ fn is_hot_key(s: &HotState, hot: &Credential) -> bool
     }
 }
 
-// Whether a cold key is a member of the committee.
-fn is_member(c: Option<&Committee>, cold: &Credential) -> bool
+/// Whether a cold key is a member of the committee, none being one where there is no committee. (CIP-1694, The constitutional committee)
+pub fn is_member(c: Option<&Committee>, cold: &Credential) -> bool
     ensures { result ≡ is_member (option_map (λ c. c.now) c.entry) cold.now }
 {
     match c {

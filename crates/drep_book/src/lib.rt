@@ -4,6 +4,7 @@
 ghost use Rattle.std.specs.Prelude.{◌≡◌, ◌+◌, ◌^◌, ◌<◌, [], option_map, OnOk, OnErr, if◌then◌else◌};
 ghost use Rattle.gov_ids.specs.Orders.{credential_cmp};
 ghost use Rattle.maps.specs.Maps.{IsMap, value_at, with_value, without_key, entry_after};
+ghost use Rattle.maps.specs.Replaced.{with_option};
 ghost use Rattle.book_records.specs.Dormancy.{is_kept_active, extended, with_dormant_added, AllFit};
 ghost use Rattle.drep_book.specs.Dreps.{Dreps};
 
@@ -70,6 +71,20 @@ impl DrepBook {
         self.dreps.remove(c)
     }
 
+    /// The DRep of the credential becomes `to`. Want of memory changes nothing. (Own)
+    pub fn restore(&mut self, c: Credential, to: Option<DrepState>) -> Result<(), NoMemory>
+        ensures ok { OnOk result (self.new ≡ record self.old { dreps = with_option credential_cmp c to self.old.dreps }) }
+        ensures err { OnErr result (self.new ≡ self.old) }
+    {
+        match to {
+            Some(s) => self.put(c, s),
+            None => {
+                self.dreps.remove(&c);
+                Ok(())
+            }
+        }
+    }
+
     /// How many epochs ended without a proposal since a transaction proposed last. (Own)
     pub fn dormant(&self) -> u64
         ensures { result ≡ self.now.dormant }
@@ -119,8 +134,8 @@ impl DrepBook {
     }
 }
 
-// The DRep with the dormant epochs added, if it has not expired with them. A sum that does not fit stops at the last number.
-fn with_dormant(d: DrepState, epoch: u64, dormant: u64) -> DrepState
+/// A DRep with the dormant epochs added, if by the epoch it has not expired with them. A sum that does not fit stops at the last number. (Own)
+pub fn with_dormant(d: DrepState, epoch: u64, dormant: u64) -> DrepState
     ensures { d.expiry + dormant < 2 ^ 64 →
         result ≡ (if is_kept_active epoch dormant d then extended dormant d else d) }
 {

@@ -23,6 +23,9 @@ fn keeps_dreps_in_order(rt: HostRuntime) -> Result<(), Fail> {
     }
     assert_eq!(rt; book.get(&drep(32)), Some(state(9)));
     assert_eq!(rt; book.take(&drep(31)), Some(state(6)));
+    book.restore(drep(31), Some(state(4)))?;
+    assert_eq!(rt; book.get(&drep(31)), Some(state(4)));
+    book.restore(drep(31), None)?;
     assert_eq!(rt; book.take(&drep(31)), None);
     assert_eq!(rt; book.next(None), Some((drep(30), state(7))));
     assert_eq!(rt; book.next(Some(&drep(30))), Some((drep(32), state(9))));

@@ -1,20 +1,24 @@
 -- What a clearing does to one entry, and to the registrations of all.
-use Rattle.std.proofs.Common.{◌≡◌, List, [], ◌∷◌, true, false, cond, Option, Some, None, option_map, option_and_then, refl, ap, ◌∙◌, arith}
-use Rattle.std.specs.List.{cons_option}
+use Rattle.std.proofs.Common.{◌≡◌, List, [], ◌∷◌, Bool, true, false, cond, Option, Some, None, option_map, option_and_then, refl, ap, sym, ◌∙◌, arith}
+use Rattle.std.specs.List.{cons_option, list_any}
 use Rattle.gov_ids.specs.declared.Credential.{Credential}
 use Rattle.gov_ids.specs.declared.PoolId.{PoolId}
+use Rattle.gov_ids.specs.declared.Drep.{Drep}
+use Rattle.gov_ids.specs.declared.Drep.TheVariants as drep
 use Rattle.gov_ids.specs.Orders.{credential_cmp, pool_cmp}
-use Rattle.gov_ids.proofs.Totals.{pool_total}
+use Rattle.gov_ids.specs.Same.{same_drep}
+use Rattle.gov_ids.proofs.Totals.{credential_total, pool_total}
 use Rattle.book_records.specs.declared.Entry.{Entry}
 use Rattle.book_records.specs.declared.Registered.{Registered}
 use Rattle.maps.proofs.Sets.{has_member-in_order}
-use Rattle.maps.specs.Maps.{value_at, in_order, changed_where}
-use Rattle.maps.specs.Words.{some_and}
+use Rattle.ledger_model.specs.Changes.{without_drep}
+use Rattle.maps.specs.Maps.{value_at, has_member, in_order, changed_where}
+use Rattle.maps.specs.Words.{holds, some_and}
 use Rattle.accounts.specs.Accounts.{with_entry}
 use Rattle.stake_book.specs.declared.leaving.Leaving.{Leaving}
-use Rattle.stake_book.specs.declared.leaving.Leaving.TheVariants.{Pools, Drep}
+use Rattle.stake_book.specs.declared.leaving.Leaving.TheVariants.{Pools, Dreps}
 use Rattle.stake_book.specs.Ended.{is_cleared, cleared, change_of, entry_without, entries_without, accounts_without}
-use Rattle.stake_book.specs.Stakes.{Stakes, AreKept, HasRoom, registrations, stake_at, whole_entry, with_account, without_pool, without_pools}
+use Rattle.stake_book.specs.Stakes.{Stakes, AreKept, HasRoom, registrations, stake_at, whole_entry, with_account, without_pool, without_pools, delegates_to_dreps, without_dreps}
 use Rattle.stake_book.specs.Sums.{balance_of}
 use Rattle.stake_book.proofs.Entering.{entered_sum}
 use Rattle.stake_book.proofs.Registrations.{balances_is}
@@ -31,7 +35,7 @@ unchanged l e p =
 
 rewards_kept : (l : Leaving) (r : Registered) → (cleared l r).rewards ≡ r.rewards
 rewards_kept (Pools pools) r = refl
-rewards_kept (Drep c) r = refl
+rewards_kept (Dreps dreps) r = refl
 
 -- a change keeps the balance
 changed_balance : (l : Leaving) (e : Entry) (x : Registered) → option_and_then (change_of l) e.registered ≡ Some x → x.rewards ≡ balance_of e
@@ -74,3 +78,35 @@ registrations_without l (e ∷ es) =
 -- the pools may stand in any order
 pub any_order : (pools : List PoolId) (rs : List (Credential × Registered)) → without_pools (in_order pool_cmp pools) rs ≡ without_pools pools rs
 any_order pools rs = λ i. changed_where (λ c (r : Registered). some_and (λ q. has_member-in_order pool_total pools q i) r.pool) without_pool rs
+
+-- the DRep is that of one of these credentials
+abbrev pub names_one : List Credential → Option Drep → Bool
+names_one dreps (Some (drep.Registered c)) = has_member credential_cmp dreps c
+names_one dreps _ = false
+
+none_of : {A : Type 0} (xs : List A) → list_any (λ x. false) xs ≡ false
+none_of [] = refl
+none_of (x ∷ xs) = none_of xs
+
+named : (dreps : List Credential) (o : Option Drep) → list_any (λ c. holds same_drep o (drep.Registered c)) dreps ≡ names_one dreps o
+named dreps None = none_of dreps
+named dreps (Some (drep.Registered c)) = refl
+named dreps (Some drep.Abstain) = none_of dreps
+named dreps (Some drep.NoConfidence) = none_of dreps
+
+-- an account delegates to one of them where its DRep is one
+pub delegates_named : (dreps : List Credential) (r : Registered) → delegates_to_dreps dreps r ≡ names_one dreps r.drep
+delegates_named dreps r = named dreps r.drep
+
+names_in_order : (dreps : List Credential) (o : Option Drep) → names_one (in_order credential_cmp dreps) o ≡ names_one dreps o
+names_in_order dreps None = refl
+names_in_order dreps (Some (drep.Registered c)) = has_member-in_order credential_total dreps c
+names_in_order dreps (Some drep.Abstain) = refl
+names_in_order dreps (Some drep.NoConfidence) = refl
+
+-- so may the DReps
+pub any_drep_order : (dreps : List Credential) (rs : List (Credential × Registered)) → without_dreps (in_order credential_cmp dreps) rs ≡ without_dreps dreps rs
+any_drep_order dreps rs =
+    let same : (r : Registered) → delegates_to_dreps (in_order credential_cmp dreps) r ≡ delegates_to_dreps dreps r =
+    λ r. delegates_named (in_order credential_cmp dreps) r ∙ names_in_order dreps r.drep ∙ sym (delegates_named dreps r) in
+    λ i. changed_where (λ c (r : Registered). same r i) without_drep rs

@@ -1,7 +1,7 @@
 mod Clearing
 mod Entering
 mod Kept
-mod Ended
+pub mod Ended
 mod Moves
 mod Pools
 mod Registrations

@@ -1,23 +1,23 @@
--- What a clearing does to entries and registrations, for pools and for a DRep. (Own)
+-- What a clearing does to entries and registrations, for pools and for DReps. (Own)
 use Rattle.std.specs.Prelude.{Bool, List, Option, Some, None, option_map, if◌then◌else◌}
 use Rattle.gov_ids.specs.declared.Credential.{Credential}
 use Rattle.book_records.specs.declared.Entry.{Entry}
 use Rattle.book_records.specs.declared.Registered.{Registered}
-use Rattle.ledger_model.specs.Changes.{delegates_to_drep, without_drep}
+use Rattle.ledger_model.specs.Changes.{without_drep}
 use Rattle.maps.specs.Maps.{each_value, changed_where}
 use Rattle.stake_book.specs.declared.leaving.Leaving.{Leaving}
-use Rattle.stake_book.specs.declared.leaving.Leaving.TheVariants.{Pools, Drep}
-use Rattle.stake_book.specs.Stakes.{delegates_to_pools, without_pool}
+use Rattle.stake_book.specs.declared.leaving.Leaving.TheVariants.{Pools, Dreps}
+use Rattle.stake_book.specs.Stakes.{delegates_to_dreps, delegates_to_pools, without_pool}
 
 -- whether a registration delegates to what leaves
 abbrev pub is_cleared : Leaving → Registered → Bool
 is_cleared (Pools pools) r = delegates_to_pools pools.keys r
-is_cleared (Drep c) r = delegates_to_drep c r
+is_cleared (Dreps dreps) r = delegates_to_dreps dreps.keys r
 
 -- the registration without that delegation
 abbrev pub cleared : Leaving → Registered → Registered
 cleared (Pools pools) r = without_pool r
-cleared (Drep c) r = without_drep r
+cleared (Dreps dreps) r = without_drep r
 
 -- the same, where there is such a delegation
 abbrev pub change_of : Leaving → Registered → Option Registered

@@ -1,6 +1,6 @@
 -- The outputs and the accounts, and that each account's stake is what its outputs hold. (UTxOState and DState of the formal specification; the running stake is own)
 use Rattle.std.specs.Prelude.{ℕ, ◌≡◌, ◌+◌, ◌≤◌, Bool, false, List, [], Option, Some, None, option_map, sum_by, filter_map}
-use Rattle.std.specs.List.{All}
+use Rattle.std.specs.List.{All, list_any}
 use Rattle.std.specs.Map.{values_of}
 use Rattle.std.specs.Option.{option_and_then}
 use Rattle.gov_ids.specs.declared.Credential.{Credential}
@@ -136,6 +136,10 @@ without_pool r = record r { pool = None }
 abbrev pub without_pools : List PoolId → List (Credential × Registered) → List (Credential × Registered)
 without_pools pools accounts = changed_where (λ c r. delegates_to_pools pools r) without_pool accounts
 
--- the accounts without their delegations to the DRep
-abbrev pub without_delegations : Credential → List (Credential × Registered) → List (Credential × Registered)
-without_delegations drep accounts = changed_where (λ c r. delegates_to_drep drep r) without_drep accounts
+-- an account delegates its vote to one of these DReps
+abbrev pub delegates_to_dreps : List Credential → Registered → Bool
+delegates_to_dreps dreps r = list_any (λ c. delegates_to_drep c r) dreps
+
+-- the accounts without their delegations to these DReps
+abbrev pub without_dreps : List Credential → List (Credential × Registered) → List (Credential × Registered)
+without_dreps dreps accounts = changed_where (λ c r. delegates_to_dreps dreps r) without_drep accounts

@@ -1,6 +1,6 @@
 ghost use Rattle.std.specs.Prelude.{◌≡◌, option_and_then};
-ghost use Rattle.ledger_model.specs.Changes.{delegates_to_drep};
 ghost use Rattle.stake_book.specs.Ended.{change_of};
+ghost use Rattle.stake_book.specs.Stakes.{delegates_to_dreps};
 
 use book_records::Registered;
 use gov_ids::{Credential, Drep, PoolId};
@@ -11,15 +11,18 @@ use std::collections::BTreeSet;
 pub enum Leaving {
     /// These pools.
     Pools(BTreeSet<PoolId>),
-    /// The DRep of this credential.
-    Drep(Credential),
+    /// The DReps of these credentials.
+    Dreps(BTreeSet<Credential>),
 }
 
-// Whether a registration delegates its vote to the DRep of a credential.
-fn votes_by(r: &Registered, c: &Credential) -> bool
-    ensures { result ≡ delegates_to_drep c.now r.now }
+// Whether a registration delegates its vote to one of these DReps.
+fn votes_by(r: &Registered, dreps: &BTreeSet<Credential>) -> bool
+    ensures { result ≡ delegates_to_dreps dreps.now.keys r.now }
 {
-    r.drep == Some(Drep::Registered(*c))
+    match &r.drep {
+        Some(Drep::Registered(c)) => dreps.contains(c),
+        Some(Drep::Abstain | Drep::NoConfidence) | None => false,
+    }
 }
 
 impl Leaving {
@@ -35,7 +38,9 @@ impl Leaving {
                     .contains(&pool)
                     .then_some(Registered { pool: None, ..r })
             }
-            Leaving::Drep(c) => { votes_by(&r, c).then_some(Registered { drep: None, ..r }) }
+            Leaving::Dreps(dreps) => {
+                votes_by(&r, dreps).then_some(Registered { drep: None, ..r })
+            }
         }
     }
 }

@@ -11,7 +11,7 @@ ghost use Rattle.maps.specs.Replaced.{with_option};
 ghost use Rattle.view_map.specs.View.{frozen_of};
 ghost use Rattle.stake_book.specs.Stakes.{AreKept, HasRoom, accounts_of, balances_in, no_stakes, pool_stake_in};
 ghost use Rattle.stake_book.specs.Stakes.{stake_at, with_stake, spent, added, with_account, with_used};
-ghost use Rattle.stake_book.specs.Stakes.{without_pools, without_delegations};
+ghost use Rattle.stake_book.specs.Stakes.{without_pools, without_dreps};
 ghost use Rattle.stake_book.specs.Sums.{weight_in};
 ghost use Rattle.stake_book.specs.Ended.{entry_without, entries_without, accounts_without};
 
@@ -207,14 +207,24 @@ impl StakeBook {
         self.clear_pools(&[*p])
     }
 
-    /// Ends the delegations to a DRep; all else stays. It walks the accounts once. Want of memory leaves a book with some of them ended: the caller drops it. (GOVCERT of the formal specification; that they end at once is own)
-    pub fn clear_drep(&mut self, c: &Credential) -> Result<(), NoMemory>
+    /// Ends the delegations to each of some DReps; all else stays. It walks the accounts once. Want of memory leaves a book with some of them ended: the caller drops it. (GOVCERT of the formal specification; that they end at once is own)
+    pub fn clear_dreps(&mut self, dreps: &[Credential]) -> Result<(), NoMemory>
         ensures outputs { OnOk result (self.new.outputs ≡ self.old.outputs) }
-        ensures registered { OnOk result (accounts_of self.new ≡ without_delegations c.now (accounts_of self.old)) }
+        ensures registered { OnOk result (accounts_of self.new ≡ without_dreps dreps.now (accounts_of self.old)) }
         ensures frozen { OnOk result (frozen_of credential_cmp self.new.accounts ≡ frozen_of credential_cmp self.old.accounts) }
     {
-        self.clear(&Leaving::Drep(*c))?;
+        let dreps = set_of(self.alloc, dreps)?;
+        self.clear(&Leaving::Dreps(dreps))?;
         Ok(())
+    }
+
+    /// Ends the delegations to a DRep, as `clear_dreps` does. (GOVCERT of the formal specification; that they end at once is own)
+    pub fn clear_drep(&mut self, c: &Credential) -> Result<(), NoMemory>
+        ensures outputs { OnOk result (self.new.outputs ≡ self.old.outputs) }
+        ensures registered { OnOk result (accounts_of self.new ≡ without_dreps (c.now ∷ []) (accounts_of self.old)) }
+        ensures frozen { OnOk result (frozen_of credential_cmp self.new.accounts ≡ frozen_of credential_cmp self.old.accounts) }
+    {
+        self.clear_dreps(&[*c])
     }
 
     // Ends the delegations to what leaves, account by account.

@@ -1,20 +1,10 @@
-use Rattle.std.proofs.Common.{◌≡◌, ◌+◌, ◌^◌, ◌<◌, ℕ, true, false, List, [], ◌∷◌, cond, if◌then◌else◌, refl, ap, sym, subst, ◌∙◌, arith, rules}
-use Rattle.gov_ids.specs.declared.Credential.{Credential}
+use Rattle.std.proofs.Common.{◌≡◌, ◌+◌, ◌^◌, ◌<◌, ℕ, true, if◌then◌else◌, ap, sym, subst, ◌∙◌, rules}
 use Rattle.book_records.specs.declared.DrepState.{DrepState}
 use Rattle.book_records.specs.Dormancy.{is_kept_active, extended, with_dormant_added, AllFit}
 use Rattle.maps.proofs.Retained.{written_and_kept, entries_where_all}
 use Rattle.drep_book.specs.Dreps.{Dreps}
+use Rattle.drep_book.proofs.NoneAdded.{none_added}
 use Rattle.drep_book.proofs.DrepBook.refresh.Goals as goal
-
-extended_by_none : (d : DrepState) → extended 0 d ≡ d
-extended_by_none d = let n : d.expiry + 0 ≡ d.expiry = omega arith in ap (λ (e : ℕ). record d { expiry = e }) n
-
--- no dormant epoch changes nothing
-none_added : (epoch : ℕ) (es : List (Credential × DrepState)) → with_dormant_added epoch 0 es ≡ es
-none_added epoch [] = refl
-none_added epoch (e ∷ es) =
-    let here : cond (is_kept_active epoch 0 e.1) (extended 0 e.1) e.1 ≡ e.1 = elim (is_kept_active epoch 0 e.1) as (λ b. cond b (extended 0 e.1) e.1 ≡ e.1) [ true ↦ extended_by_none e.1 | false ↦ refl ] in
-    λ i. (e.0, here i) ∷ none_added epoch es i
 
 pub returns-then-self-eq0-clause-dreps : goal.returns-then-self-eq0-clause-dreps
 returns-then-self-eq0-clause-dreps c =
