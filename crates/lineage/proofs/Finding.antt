@@ -10,7 +10,7 @@ use Rattle.gov_ids.specs.declared.ActionId.{ActionId}
 use Rattle.gov_ids.specs.Orders.{action_id_cmp}
 use Rattle.gov_ids.proofs.Totals.{action_id_total}
 use Rattle.gov_model.proofs.Chains.{StandsIn, is_contained, stands_in}
-use Rattle.gov_model.proofs.KeptOf.{own_filter}
+use Rattle.gov_model.proofs.KeptOf.{from_filter, into_filter, own_filter}
 use Rattle.gov_model.specs.Kept.{is_kept, kept_of}
 use Rattle.gov_model.specs.Laws.{HaveDistinctIds, KeptByChains}
 use Rattle.gov_model.specs.Proposals.{children_of}
@@ -18,7 +18,6 @@ use Rattle.gov_model.specs.Ratified.{ids_of}
 use Rattle.maps.specs.Maps.{has_member, in_order}
 use Rattle.maps.proofs.Sets.{has_member-in_order}
 use Rattle.lineage.specs.Walks.{IsWalk, Reach, adopted, is_found, is_left, noted, noted_left, start_of}
-use Rattle.lineage.proofs.Standing.{from_filter, into_filter}
 use Rattle.lineage.proofs.Walking.{kept_found, starts, steps}
 
 -- what is left stands among all

@@ -3,6 +3,7 @@ use Rattle.std.proofs.Common.{◌≡◌, Bool, true, false, not, ◌&&◌, ◌||
 use Rattle.std.specs.Prelude.{◌⊎◌}
 use Rattle.std.specs.List.{AllByRecursion}
 use Rattle.std.specs.List.Sorted.{IsStrictlySortedBy}
+use Rattle.std.proofs.lemmas.Bool.{and_parts, cases_Bool, not-true, or_from, or_parts, or_right}
 use Rattle.std.proofs.lemmas.List.{append-nil}
 use Rattle.gov_actions.specs.declared.action.Proposal.{Proposal}
 use Rattle.gov_actions.specs.declared.action.Purpose.{Purpose}
@@ -27,11 +28,6 @@ use Rattle.lineage.proofs.Standing.{HasId, child_is, child_purpose, each_id, has
 
 same_self : (id : ActionId) → same_action id id ≡ true
 same_self id = (eq_by_cmp_equiv action_id_total).refl id
-
--- a test says true or false
-or_not : (b : Bool) → (b ≡ true) ⊎ (b ≡ false)
-or_not true = inl refl
-or_not false = inr refl
 
 -- ---- the start
 
@@ -107,10 +103,7 @@ module _ (last : LastIds) where
 
   open_behind : (o : Option Purpose) (id k : ActionId) (es : List (Purpose × ActionId)) → is_pending es k ≡ true → is_pending (entry_of o id ++ es) k ≡ true
   open_behind None id k es e = e
-  open_behind (Some u) id k es e = or_true (same_action k id) (is_pending es k) e where
-    or_true : (s t : Bool) → t ≡ true → (s || t) ≡ true
-    or_true true t e = refl
-    or_true false t e = e
+  open_behind (Some u) id k es e = or_right (same_action k id) (is_pending es k) e
 
   -- a root that has a purpose is pending
   open_here : (xs : List Proposal) (q : Proposal) (u : Purpose) → StandsIn q xs → is_root last q ≡ true → purpose_of q.action ≡ Some u
@@ -136,10 +129,6 @@ module _ (last : LastIds) where
   no_purpose_root : (a : Proposal) → purpose_of a.action ≡ None → is_root last a ≡ true
   no_purpose_root a none = ap (λ (o : Option Purpose). is_none o || names_last last a) none
 
-  not_true : (b : Bool) → not b ≡ true → b ≡ false
-  not_true true e = sym e
-  not_true false e = refl
-
   module _ (ps rest : List Proposal) (own : HaveDistinctIds ps) (part : (a : Proposal) → Contains rest a → Contains ps a) where
     abbrev first : Reach
     first = start_of last rest
@@ -151,11 +140,11 @@ module _ (last : LastIds) where
     nonroot_of a there e =
         let h : HasId (not_root last) rest a.id = has_id (not_root last) rest a.id (sym (orphan_is a.id) ∙ e) in
         let same : a ≡ h.0 = unique ps a h.0 own there (part h.0 h.1) h.3 in
-        (subst (λ (x : Proposal). Contains rest x) (sym same) h.1, subst (λ (x : Proposal). is_root last x ≡ false) (sym same) (not_true (is_root last h.0) h.2))
+        (subst (λ (x : Proposal). Contains rest x) (sym same) h.1, subst (λ (x : Proposal). is_root last x ≡ false) (sym same) (not-true (is_root last h.0) h.2))
 
     root_of : (a : Proposal) → Contains rest a → is_orphan first a ≡ false → is_root last a ≡ true
     root_of a there e =
-        elim (or_not (is_root last a)) [
+        elim (cases_Bool (is_root last a)) [
           | inl so ↦ so
           | inr other ↦
               let orphan : is_orphan first a ≡ true = orphan_is a.id ∙ id_among (not_root last) rest a.id a there (ap not other) (same_self a.id) in
@@ -164,7 +153,7 @@ module _ (last : LastIds) where
 
     root_stays : (a : Proposal) → Contains rest a → is_root last a ≡ true → is_orphan first a ≡ false
     root_stays a there root =
-        elim (or_not (is_orphan first a)) [
+        elim (cases_Bool (is_orphan first a)) [
           | inl so ↦
               let h = nonroot_of a (part a there) so in
               let never : true ≡ false = sym root ∙ h.1 in cc
@@ -206,29 +195,14 @@ all_front P Q (y ∷ xs) x f h = (f y h.0, all_front P Q xs x f h.1)
 
 open_with : (es : List (Purpose × ActionId)) (u : Purpose) (id k : ActionId) → is_pending es k ≡ false → same_action k id ≡ false → is_pending (es ++ (u, id) ∷ []) k ≡ false
 open_with [] u id k none other = ap (λ s. s || false) other
-open_with (e ∷ es) u id k none other = both_none (same_action k e.1) (is_pending es k) none (open_with es u id k) other where
-  both_none : (s t : Bool) → (s || t) ≡ false → (t ≡ false → same_action k id ≡ false → is_pending (es ++ (u, id) ∷ []) k ≡ false) → same_action k id ≡ false
-      → (s || is_pending (es ++ (u, id) ∷ []) k) ≡ false
-  both_none true t e f o = e
-  both_none false t e f o = f e o
-
-neither_left : (s t : Bool) → (s || t) ≡ false → s ≡ false
-neither_left true t e = e
-neither_left false t e = refl
-
-neither_right : (s t : Bool) → (s || t) ≡ false → t ≡ false
-neither_right true t e = cc
-neither_right false t e = e
+open_with (e ∷ es) u id k none other =
+    let parts = or_parts (same_action k e.1) (is_pending es k) none in or_from _ _ parts.0 (open_with es u id k parts.1 other)
 
 -- no orphan now and none that was found: no orphan before
 was_none : (h m : Bool) → (h && not m) ≡ false → (h && m) ≡ false → h ≡ false
 was_none true true e f = f
 was_none true false e f = e
 was_none false m e f = refl
-
-first_of : (h s : Bool) → (h && s) ≡ true → h ≡ true
-first_of true s e = refl
-first_of false s e = e
 
 module _ (ps rest : List Proposal) (last : LastIds) (orphans : List ActionId) (front : List (Purpose × ActionId)) (u : Purpose) (id : ActionId)
     (walk : IsWalk ps rest last (record { orphans = orphans; pending = front ++ (u, id) ∷ [] })) where
@@ -278,9 +252,9 @@ module _ (ps rest : List Proposal) (last : LastIds) (orphans : List ActionId) (f
 
   sound_at : (a : Proposal) → Contains rest a → is_orphan new a ≡ false → IsKept rest last a
   sound_at a there e =
-      elim (or_not (has_member action_id_cmp orphans a.id)) [
+      elim (cases_Bool (has_member action_id_cmp orphans a.id)) [
         | inr other ↦ walk.sound a there other
-        | inl so ↦ elim (or_not (among same_action a.id children)) [
+        | inl so ↦ elim (cases_Bool (among same_action a.id children)) [
           | inl is ↦ kept_by a there (sym (parent_is a) ∙ among_child a (walk.part a there) is) looked_kept
           | inr is ↦
               let orphan : is_orphan new a ≡ true = orphans_are a.id ∙ (λ i. so i && not (is i)) in
@@ -292,13 +266,13 @@ module _ (ps rest : List Proposal) (last : LastIds) (orphans : List ActionId) (f
   closed_at_step a q here there parent orphan pending =
       let opens : (is_pending front q.id || (has_member action_id_cmp orphans q.id && among same_action q.id children)) ≡ false = sym (adopted_open u children mid walk.ordered q.id) ∙ pending in
       let before : has_member action_id_cmp orphans q.id ≡ false =
-      was_none _ (among same_action q.id children) (sym (orphans_are q.id) ∙ orphan) (neither_right (is_pending front q.id) _ opens) in
-      elim (or_not (same_action q.id id)) [
+      was_none _ (among same_action q.id children) (sym (orphans_are q.id) ∙ orphan) (or_parts (is_pending front q.id) _ opens).1 in
+      elim (cases_Bool (same_action q.id id)) [
         | inl is ↦
             let same : q ≡ looked.0 =
             unique ps q looked.0 walk.own (walk.part q there) (walk.part looked.0 looked.1) (subst (λ (k : ActionId). same_action q.id k ≡ true) (sym looked.3) is) in
             no_child a.id (child_among a (walk.part a here) (parent_is a ∙ subst (λ (x : Proposal). is_parent a x ≡ true) same parent))
-        | inr other ↦ stays_none a.id (walk.closed a q here there parent before (open_with front u id q.id (neither_left (is_pending front q.id) _ opens) other))
+        | inr other ↦ stays_none a.id (walk.closed a q here there parent before (open_with front u id q.id (or_parts (is_pending front q.id) _ opens).0 other))
       ]
 
   pub steps : IsWalk ps rest last new
@@ -306,7 +280,7 @@ module _ (ps rest : List Proposal) (last : LastIds) (orphans : List ActionId) (f
     own = walk.own;
     part = walk.part;
     ordered = adopted_ordered u children mid walk.ordered;
-    left = λ a there e. walk.left a there (first_of _ (not (among same_action a.id children)) (sym (orphans_are a.id) ∙ e));
+    left = λ a there e. walk.left a there (and_parts _ (not (among same_action a.id children)) (sym (orphans_are a.id) ∙ e)).0;
     sound = sound_at;
     roots = λ a there root. stays_none a.id (walk.roots a there root);
     opened = adopted_all u (IsPending rest new.orphans) children mid walk.ordered
@@ -324,10 +298,6 @@ module _ (ps rest : List Proposal) (last : LastIds) (orphans : List ActionId) (w
   begins : (chain : List Proposal) (a : Proposal) → IsChain rest last (a ∷ chain) → Contains rest a
   begins [] a c = c.0
   begins (b ∷ chain) a c = c.0
-
-  or_right : (s t : Bool) → t ≡ true → (s || t) ≡ true
-  or_right true t e = refl
-  or_right false t e = e
 
   by_chain : (chain : List Proposal) (a : Proposal) → IsChain rest last (a ∷ chain) → has_member action_id_cmp orphans a.id ≡ false
   by_chain [] a c = walk.roots a c.0 (or_right (is_none (purpose_of a.action)) (names_last last a) c.1)
