@@ -8,13 +8,14 @@ use Rattle.gov_ids.specs.declared.Drep.TheVariants as drep
 use Rattle.gov_ids.specs.Orders.{credential_cmp, drep_cmp}
 use Rattle.gov_ids.proofs.Totals.{drep_total}
 use Rattle.book_records.specs.declared.DrepState.{DrepState}
+use Rattle.book_records.specs.declared.Entry.{Entry}
 use Rattle.maps.proofs.Lookups.{value_at-with_value}
 use Rattle.maps.proofs.Several.{has_key-with_values}
 use Rattle.maps.specs.Maps.{value_at, has_key, has_member, with_value, with_values}
 use Rattle.gov_model.specs.Snapshot.{Snapshot}
 use Rattle.gov_model.specs.Stake.{is_frozen_drep}
 use Rattle.drep_pulser.specs.Count.{sum_for, no_sums}
-use Rattle.drep_pulser.specs.Facts.{AreDeposits, AreDreps, IsCountable, IsCountOf}
+use Rattle.drep_pulser.specs.Facts.{AreDeposits, AreDreps, IsCountable, IsCountIn, IsCountOf}
 
 abbrev pub at_none : Credential × DrepState → Drep × ℕ
 at_none d = (drep.Registered d.0, 0)
@@ -46,20 +47,23 @@ no_cond : (b : Bool) → ◌≡◌ {A = ℕ} 0 (cond b 0 0)
 no_cond true = refl
 no_cond false = refl
 
-module _ (f : Snapshot) (ds : List (Credential × DrepState)) (is : AreDreps f ds) where
-  has_sums : (q : Drep) → has_key drep_cmp (no_sums ds) q ≡ is_frozen_drep f q
-  has_sums (drep.Registered c) = has_key-with_values drep_total (map at_none ds) (no_sums []) (drep.Registered c) ∙ registered_keys ds c ∙ sym (is c)
-  has_sums drep.Abstain = has_key-with_values drep_total (map at_none ds) (no_sums []) drep.Abstain
-  has_sums drep.NoConfidence = has_key-with_values drep_total (map at_none ds) (no_sums []) drep.NoConfidence
-
-  pub begun : (total : ℕ) (deposits : List (Credential × ℕ)) → total ≡ length f.entries → AreDeposits f deposits → IsCountable f.entries deposits
-      → IsCountOf f (record { cursor = None; done = 0; total = total; sums = no_sums ds; deposits = deposits })
-  begun total deposits n d c = record {
+module _ (ds : List (Credential × DrepState)) where
+  pub begun_in : (es : List (Credential × Entry)) (total : ℕ) (deposits : List (Credential × ℕ)) → total ≡ length es → IsCountable es deposits
+      → IsCountIn es (record { cursor = None; done = 0; total = total; sums = no_sums ds; deposits = deposits })
+  begun_in es total deposits n c = record {
     total = n;
     done = omega arith;
     cursor = refl;
-    dreps = has_sums;
-    sums = λ q. zeros ds (no_sums []) q (predefined_zero q) ∙ no_cond (is_frozen_drep f q);
-    deposits = d;
+    sums = λ q. zeros ds (no_sums []) q (predefined_zero q) ∙ no_cond (has_key drep_cmp (no_sums ds) q);
     countable = c;
   }
+
+  module _ (f : Snapshot) (is : AreDreps f ds) where
+    has_sums : (q : Drep) → has_key drep_cmp (no_sums ds) q ≡ is_frozen_drep f q
+    has_sums (drep.Registered c) = has_key-with_values drep_total (map at_none ds) (no_sums []) (drep.Registered c) ∙ registered_keys ds c ∙ sym (is c)
+    has_sums drep.Abstain = has_key-with_values drep_total (map at_none ds) (no_sums []) drep.Abstain
+    has_sums drep.NoConfidence = has_key-with_values drep_total (map at_none ds) (no_sums []) drep.NoConfidence
+
+    pub begun : (total : ℕ) (deposits : List (Credential × ℕ)) → total ≡ length f.entries → AreDeposits f deposits → IsCountable f.entries deposits
+        → IsCountOf f (record { cursor = None; done = 0; total = total; sums = no_sums ds; deposits = deposits })
+    begun total deposits n d c = record { counts = begun_in f.entries total deposits n c; dreps = has_sums; deposits = d }

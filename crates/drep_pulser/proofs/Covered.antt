@@ -20,8 +20,7 @@ use Rattle.maps.proofs.Lookups.{value_at-without_key, without_key_absent}
 use Rattle.maps.proofs.Sums.{sum_values-without_key}
 use Rattle.maps.specs.Maps.{IsMap, value_at, without_key}
 use Rattle.maps.specs.Words.{amount}
-use Rattle.drep_pulser.specs.Facts.{held_by, IsCountable}
-use Rattle.drep_pulser.specs.Visits.{weight_by}
+use Rattle.drep_pulser.specs.Facts.{held_by, weight_by, IsCountable}
 
 abbrev pub at : List (Credential × ℕ) → Credential → ℕ
 at deposits c = unwrap_or (value_at credential_cmp deposits c) 0

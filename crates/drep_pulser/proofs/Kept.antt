@@ -14,10 +14,10 @@ use Rattle.maps.proofs.Lookups.{value_at-changed_at}
 use Rattle.maps.specs.Maps.{IsMap, value_at, has_key}
 use Rattle.maps.specs.Words.{amount, holds, some_and}
 use Rattle.gov_model.specs.Snapshot.{Snapshot}
-use Rattle.gov_model.specs.Stake.{weight_of, votes_by, is_frozen_drep, drep_stake_of_first}
+use Rattle.gov_model.specs.Stake.{votes_by}
 use Rattle.drep_pulser.specs.Count.{Count, sum_for}
-use Rattle.drep_pulser.specs.Facts.{IsCountOf, cursor_at}
-use Rattle.drep_pulser.specs.Visits.{weight_by, drep_of, with_more, visited}
+use Rattle.drep_pulser.specs.Facts.{cursor_at, weight_by, AreSums, IsCountIn, IsCountOf}
+use Rattle.drep_pulser.specs.Visits.{drep_of, with_more, visited}
 use Rattle.drep_pulser.proofs.Walking.{cut_at, took_at}
 use Rattle.drep_pulser.proofs.Covered.{weighed, within, with_next}
 
@@ -56,53 +56,53 @@ joined : (b : Bool) (s S x T : ℕ) → s ≡ cond b S 0 → S + x ≡ T → con
 joined true s S x T p q = omega (arith, p, q)
 joined false s S x T p q = refl
 
+module _ (es : List (Credential × Entry)) (k : Count) (c : IsCountIn es k) (e : Credential × Entry) (m : slice_get es k.done ≡ Some e) where
+  sums_next : AreSums (take (k.done + 1) es) k.deposits (with_more (drep_of e.1) (weight_by k.deposits e) k.sums)
+  sums_next q =
+      let w = weight_by k.deposits e in
+      let front : ℕ = sum_by (weight_by k.deposits) (filter (votes_by q) (take k.done es)) in
+      let next : sum_by (weight_by k.deposits) (filter (votes_by q) (take (k.done + 1) es)) ≡ front + cond (holds same_drep (drep_of e.1) q) w 0 =
+      ap (λ (n : ℕ). sum_by (weight_by k.deposits) (filter (votes_by q) (take n es))) (add-one k.done)
+      ∙ ap (λ (l : List (Credential × Entry)). sum_by (weight_by k.deposits) (filter (votes_by q) l)) (took_at es k.done e m)
+      ∙ with_next (weight_by k.deposits) (votes_by q) (take k.done es) e
+      ∙ ap (λ b. front + cond b w 0) (votes_is q e) in
+      more_sums (drep_of e.1) w k.sums q
+      ∙ joined (has_key drep_cmp k.sums q) (sum_for k.sums q) front (cond (holds same_drep (drep_of e.1) q) w 0) _ (c.sums q) (sym next)
+      ∙ ap (λ b. cond b (sum_by (weight_by k.deposits) (filter (votes_by q) (take (k.done + 1) es))) 0) (sym (more_keys (drep_of e.1) w k.sums q))
+
+  pub count_kept : IsCountIn es (visited e k)
+  count_kept = record {
+    total = c.total;
+    done = omega (arith, slice_get_within es k.done e m, c.total);
+    cursor = sym (ap (λ (n : ℕ). cursor_at n es) (add-one k.done) ∙ ap (λ (x : Option (Credential × Entry)). option_map (λ e. e.0) x) m);
+    sums = sums_next;
+    countable = c.countable;
+  }
+
+  part : (b : Bool) (n : ℕ) → cond b n 0 ≤ n
+  part true n = omega arith
+  part false n = omega arith
+
+  all_within : IsMap credential_cmp k.deposits → sum_by (weight_by k.deposits) es < 2 ^ 64
+  all_within g = omega (arith, weighed es k.deposits g c.countable, c.countable.room)
+
+  pub weight_fits : IsMap credential_cmp k.deposits → weight_by k.deposits e < 2 ^ 64
+  weight_fits g = omega (arith, all_within g, within (weight_by k.deposits) (λ e. false) es k.done e _ (cut_at es k.done e m))
+
+  pub sum_fits : IsMap credential_cmp k.deposits → (d : Drep) → sum_for k.sums d + weight_by k.deposits e < 2 ^ 64
+  sum_fits g d =
+      omega (
+        arith,
+        all_within g,
+        c.sums d,
+        part (has_key drep_cmp k.sums d) (sum_by (weight_by k.deposits) (filter (votes_by d) (take k.done es))),
+        within (weight_by k.deposits) (votes_by d) es k.done e _ (cut_at es k.done e m),
+      )
+
 module _ (f : Snapshot) (k : Count) (c : IsCountOf f k) where
-  weights_are : weight_by k.deposits ≡ weight_of f
-  weights_are i e = e.1.stake + amount (λ (r : Registered). r.rewards) e.1.registered + c.deposits e.0 i
-
-  module _ (e : Credential × Entry) (m : slice_get f.entries k.done ≡ Some e) where
-    sums_next : (q : Drep) → sum_for (with_more (drep_of e.1) (weight_by k.deposits e) k.sums) q ≡ drep_stake_of_first (k.done + 1) f q
-    sums_next q =
-        let w = weight_by k.deposits e in
-        let front : ℕ = sum_by (weight_of f) (filter (votes_by q) (take k.done f.entries)) in
-        let here : w ≡ weight_of f e = ap (λ (g : Credential × Entry → ℕ). g e) weights_are in
-        let next : sum_by (weight_of f) (filter (votes_by q) (take (k.done + 1) f.entries)) ≡ front + cond (votes_by q e) (weight_of f e) 0 =
-        ap (λ (n : ℕ). sum_by (weight_of f) (filter (votes_by q) (take n f.entries))) (add-one k.done)
-        ∙ ap (λ (l : List (Credential × Entry)). sum_by (weight_of f) (filter (votes_by q) l)) (took_at f.entries k.done e m)
-        ∙ with_next (weight_of f) (votes_by q) (take k.done f.entries) e in
-        let gained : cond (holds same_drep (drep_of e.1) q) w 0 ≡ cond (votes_by q e) (weight_of f e) 0 = λ i. cond (sym (votes_is q e) i) (here i) 0 in
-        more_sums (drep_of e.1) w k.sums q
-        ∙ ap (λ b. cond b (sum_for k.sums q + cond (holds same_drep (drep_of e.1) q) w 0) 0) (c.dreps q)
-        ∙ joined (is_frozen_drep f q) (sum_for k.sums q) front (cond (holds same_drep (drep_of e.1) q) w 0) _ (c.sums q) (ap (λ (n : ℕ). front + n) gained ∙ sym next)
-
-    pub count_kept : IsCountOf f (visited e k)
-    count_kept = record {
-      total = c.total;
-      done = omega (arith, slice_get_within f.entries k.done e m, c.total);
-      cursor = sym (ap (λ (n : ℕ). cursor_at n f.entries) (add-one k.done) ∙ ap (λ (x : Option (Credential × Entry)). option_map (λ e. e.0) x) m);
-      dreps = λ q. more_keys (drep_of e.1) (weight_by k.deposits e) k.sums q ∙ c.dreps q;
-      sums = sums_next;
-      deposits = c.deposits;
-      countable = c.countable;
-    }
-
-    part : (b : Bool) (n : ℕ) → cond b n 0 ≤ n
-    part true n = omega arith
-    part false n = omega arith
-
-    all_within : IsMap credential_cmp k.deposits → sum_by (weight_by k.deposits) f.entries < 2 ^ 64
-    all_within g = omega (arith, weighed f.entries k.deposits g c.countable, c.countable.room)
-
-    pub weight_fits : IsMap credential_cmp k.deposits → weight_by k.deposits e < 2 ^ 64
-    weight_fits g = omega (arith, all_within g, within (weight_by k.deposits) (λ e. false) f.entries k.done e _ (cut_at f.entries k.done e m))
-
-    pub sum_fits : IsMap credential_cmp k.deposits → (d : Drep) → sum_for k.sums d + weight_by k.deposits e < 2 ^ 64
-    sum_fits g d =
-        omega (
-          arith,
-          all_within g,
-          c.sums d,
-          part (is_frozen_drep f d) (sum_by (weight_of f) (filter (votes_by d) (take k.done f.entries))),
-          ap (λ (w : Credential × Entry → ℕ). sum_by w (filter (votes_by d) (take k.done f.entries))) weights_are,
-          within (weight_by k.deposits) (votes_by d) f.entries k.done e _ (cut_at f.entries k.done e m),
-        )
+  pub count_of_kept : (e : Credential × Entry) → slice_get f.entries k.done ≡ Some e → IsCountOf f (visited e k)
+  count_of_kept e m = record {
+    counts = count_kept f.entries k c.counts e m;
+    dreps = λ q. more_keys (drep_of e.1) (weight_by k.deposits e) k.sums q ∙ c.dreps q;
+    deposits = c.deposits;
+  }

@@ -1,5 +1,5 @@
 -- A walk from key to key goes by the places of a map's entries.
-use Rattle.std.proofs.Common.{Bor, ◌≡◌, ℕ, zero, suc, ◌<◌, ◌≤◌, List, [], ◌∷◌, ◌++◌, true, false, cond, filter, length, take, drop, slice_get, Option, Some, None, option_map, refl, ap, sym, ◌∙◌, arith}
+use Rattle.std.proofs.Common.{Bor, ◌≡◌, ℕ, zero, suc, ◌<◌, ◌≤◌, List, [], ◌∷◌, ◌++◌, true, false, cond, length, take, drop, slice_get, Option, Some, None, option_map, refl, ap, sym, ◌∙◌, arith}
 use Rattle.std.specs.declared.cmp.Ordering.TheVariants.{Less}
 use Rattle.std.specs.Ordering.{is_lt, ordering_reverse}
 use Rattle.std.specs.List.{AllByRecursion}
@@ -13,6 +13,7 @@ use Rattle.gov_ids.specs.Orders.{credential_cmp}
 use Rattle.gov_ids.proofs.Totals.{credential_total}
 use Rattle.maps.proofs.Ties.{is_equal}
 use Rattle.maps.specs.Maps.{IsMap, comes_past, entry_after}
+use Rattle.view_map.specs.Walk.{entries_past}
 use Rattle.drep_pulser.specs.Facts.{cursor_at}
 
 itself : (c : Credential) → is_lt (credential_cmp c c) ≡ false
@@ -21,7 +22,7 @@ itself c = ap is_lt (is_equal (credential_cmp c c) ((eq_by_cmp_equiv credential_
 below : (c k : Credential) → credential_cmp c k ≡ Less → is_lt (credential_cmp k c) ≡ false
 below c k p = ap is_lt (credential_total.antisymm k c ∙ ap ordering_reverse p)
 
-copied_is : {K : Type 0} (r : Option (Bor K)) → option_copied r ≡ option_map (λ k. k.now) r
+pub copied_is : {K : Type 0} (r : Option (Bor K)) → option_copied r ≡ option_map (λ k. k.now) r
 copied_is None = refl
 copied_is (Some k) = refl
 
@@ -49,16 +50,15 @@ module _ {X : Type 0} where
   took_at (y ∷ xs) zero x m = cc
   took_at (y ∷ xs) (suc i) x m = ap (λ (l : List X). y ∷ l) (took_at xs i x m)
 
-  get_drop : (xs : List X) (i : ℕ) → slice_get (drop i xs) 0 ≡ slice_get xs i
+  pub get_drop : (xs : List X) (i : ℕ) → slice_get (drop i xs) 0 ≡ slice_get xs i
   get_drop [] zero = refl
   get_drop [] (suc i) = refl
   get_drop (x ∷ xs) zero = refl
   get_drop (x ∷ xs) (suc i) = get_drop xs i
 
 module _ {X : Type 0} where
-  -- the entries past a key
   abbrev pub past : Option Credential → List (Credential × X) → List (Credential × X)
-  past after es = filter (λ e. comes_past credential_cmp after e.0) es
+  past = entries_past credential_cmp
 
   all_past : (after : Option Credential) (es : List (Credential × X)) → AllByRecursion (λ q. comes_past credential_cmp after q ≡ true) (keys_of es) → past after es ≡ es
   all_past after [] h = refl
@@ -67,6 +67,9 @@ module _ {X : Type 0} where
   any : (es : List (Credential × X)) → AllByRecursion (λ q. comes_past credential_cmp None q ≡ true) (keys_of es)
   any [] = tt
   any (e ∷ es) = (refl, any es)
+
+  pub all_entries : (es : List (Credential × X)) → past None es ≡ es
+  all_entries es = all_past None es (any es)
 
   later : (k : Credential) (es : List (Credential × X)) → AllByRecursion (λ q. credential_cmp k q ≡ Less) (keys_of es) → AllByRecursion (λ q. comes_past credential_cmp (Some k) q ≡ true) (keys_of es)
   later k [] h = tt
@@ -80,7 +83,7 @@ module _ {X : Type 0} where
   -- the entries past the one at a place are those behind it
   pub rest_at : (c : ℕ) (es : List (Credential × X)) → IsMap credential_cmp es → c ≤ length es → past (cursor_at c es) es ≡ drop c es
   unfolding IsStrictlySortedBy
-  rest_at zero es h le = all_past None es (any es)
+  rest_at zero es h le = all_entries es
   rest_at (suc c) [] h le = absurd (omega arith)
   rest_at (suc zero) (e ∷ es) h le = ap (λ b. cond b (e ∷ past (Some e.0) es) (past (Some e.0) es)) (itself e.0) ∙ all_past (Some e.0) es (later e.0 es h.0)
   rest_at (suc (suc c)) (e ∷ es) h le =

@@ -1,19 +1,13 @@
 -- What a visit changes in a count. (Own)
-use Rattle.std.specs.Prelude.{ℕ, ◌≡◌, ◌+◌, List, Option, Some, None, option_and_then, slice_get, unwrap_or}
+use Rattle.std.specs.Prelude.{ℕ, ◌≡◌, ◌+◌, List, Option, Some, None, option_and_then, slice_get}
 use Rattle.gov_ids.specs.declared.Credential.{Credential}
 use Rattle.gov_ids.specs.declared.Drep.{Drep}
-use Rattle.gov_ids.specs.Orders.{credential_cmp, drep_cmp}
+use Rattle.gov_ids.specs.Orders.{drep_cmp}
 use Rattle.book_records.specs.declared.Entry.{Entry}
 use Rattle.book_records.specs.declared.Registered.{Registered}
-use Rattle.maps.specs.Maps.{value_at, changed_at}
-use Rattle.maps.specs.Words.{amount}
-use Rattle.gov_model.specs.Snapshot.{Snapshot}
+use Rattle.maps.specs.Maps.{changed_at}
 use Rattle.drep_pulser.specs.Count.{Count}
-use Rattle.drep_pulser.specs.Facts.{IsCountOf}
-
--- what an entry weighs by these deposits
-abbrev pub weight_by : List (Credential × ℕ) → Credential × Entry → ℕ
-weight_by deposits e = e.1.stake + amount (λ (r : Registered). r.rewards) e.1.registered + unwrap_or (value_at credential_cmp deposits e.0) 0
+use Rattle.drep_pulser.specs.Facts.{IsCountIn, weight_by}
 
 -- the DRep that a registered entry delegates to
 abbrev pub drep_of : Entry → Option Drep
@@ -34,6 +28,6 @@ visited e c = record {
   deposits = c.deposits;
 }
 
--- the entry is the next one of some snapshot that the count is of
+-- the entry is the next one of some entries that the count is of
 abbrev pub IsNextIn : Credential × Entry → Count → Type 0
-IsNextIn e c = (f : Snapshot) × IsCountOf f c × (slice_get f.entries c.done ≡ Some e)
+IsNextIn e c = (es : List (Credential × Entry)) × IsCountIn es c × (slice_get es c.done ≡ Some e)

@@ -4,9 +4,10 @@ ghost use Rattle.view_map.specs.View.{frozen_of};
 ghost use Rattle.gov_model.specs.Snapshot.{Snapshot};
 ghost use Rattle.gov_model.specs.Stake.{drep_stake_of_first};
 ghost use Rattle.drep_pulser.specs.Count.{Count, sum_for};
-ghost use Rattle.drep_pulser.specs.Facts.{HasFrozen, ForSnapshotOf, IsCountOf, IsCountIn, IsCountedOf};
+ghost use Rattle.coin_frac.specs.Totals.{total_of};
+ghost use Rattle.drep_pulser.specs.Facts.{held_by, HasFrozen, ForSnapshotOf, IsCountOf, IsCountIn, IsCountedOf};
 ghost use Rattle.drep_pulser.specs.Visits.{IsNextIn, visited};
-ghost use Rattle.drep_pulser.specs.Pulsers.{IsPulserOf, has_ended, done_by, total_of_pulser};
+ghost use Rattle.drep_pulser.specs.Pulsers.{IsPulserOf, GoesOnIn, has_ended, done_by, total_of_pulser};
 
 use crate::Pulser;
 use crate::counted::Counted;
@@ -55,6 +56,8 @@ pub fn begin(
     ensures none_visited { IfOk result (λ c. c.done ≡ 0) }
     ensures total { IfOk result (λ c. c.total ≡ length (frozen_of credential_cmp book.now)) }
     ensures counts { (f : Snapshot) → HasFrozen f book.now dreps.now deposits.now → IfOk result (IsCountOf f) }
+    ensures counts_in { held_by (frozen_of credential_cmp book.now) + total_of deposits.now < 2 ^ 64
+        → IfOk result (IsCountIn (frozen_of credential_cmp book.now)) }
 {
     Ok(Counting {
         cursor: None,
@@ -73,6 +76,7 @@ impl Counting {
         requires counts { IsCountIn (frozen_of credential_cmp book.now) self }
         requires fits { steps.old + min n (self.total - self.done) < 2 ^ 64 }
         ensures counts { ForSnapshotOf (frozen_of credential_cmp book.now) self (λ f. IsPulserOf f result) }
+        ensures goes_on { GoesOnIn (frozen_of credential_cmp book.now) result }
         ensures done { done_by result ≡ min (self.done + n) self.total }
         ensures total { total_of_pulser result ≡ self.total }
         ensures ends { IsTrue (has_ended result) ↔ (self.total ≤ self.done + n) }
@@ -127,12 +131,14 @@ impl Counting {
         requires counts { IsCountIn (frozen_of credential_cmp book.now) self.old }
         requires fits { steps.old + min most (self.old.total - self.old.done) < 2 ^ 64 }
         ensures counts { ForSnapshotOf (frozen_of credential_cmp book.now) self.old (λ f. IsCountOf f self.new) }
+        ensures counts_in { IsCountIn (frozen_of credential_cmp book.now) self.new }
         ensures done { self.new.done ≡ min (self.old.done + most) self.old.total }
         ensures total { self.new.total ≡ self.old.total }
         ensures steps { steps.new ≡ steps.old + min most (self.old.total - self.old.done) }
     {
+        let mut entries = book.frozen_past(self.cursor.as_ref());
         for _visit in 0..most {
-            let Some((c, entry)) = book.frozen_next(self.cursor.as_ref()) else {
+            let Some((c, entry)) = entries.next() else {
                 return;
             };
             self.visit(c, &entry);

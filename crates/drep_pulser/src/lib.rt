@@ -16,3 +16,6 @@ pub enum Pulser {
     /// All are visited.
     Counted(Counted),
 }
+
+#[cfg(test)]
+mod tests;

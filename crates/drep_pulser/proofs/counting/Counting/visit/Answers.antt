@@ -9,7 +9,8 @@ use Rattle.book_records.specs.declared.Entry.{Entry}
 use Rattle.book_records.specs.declared.Registered.{Registered}
 use Rattle.maps.specs.Maps.{IsMap, value_at, changed_at}
 use Rattle.drep_pulser.specs.Count.{Count}
-use Rattle.drep_pulser.specs.Visits.{IsNextIn, weight_by, drep_of, with_more, visited}
+use Rattle.drep_pulser.specs.Facts.{weight_by}
+use Rattle.drep_pulser.specs.Visits.{IsNextIn, drep_of, with_more, visited}
 use Rattle.drep_pulser.proofs.Kept.{weight_is, weight_fits, sum_fits}
 use Rattle.drep_pulser.proofs.counting.Counting.visit.Goals as goal
 
@@ -17,7 +18,7 @@ pub overflow_add-self : goal.overflow_add-self
 overflow_add-self c =
     let e : Credential × Entry = (c.args.c, c.args.entry.now) in
     let next = subst (λ (k : Count). IsNextIn e k) (sym c.self.view_is) c.requires in
-    omega (arith, c.self.invariant, slice_get_within next.0.entries c.self.inside.done e next.2, next.1.total)
+    omega (arith, c.self.invariant, slice_get_within next.0 c.self.inside.done e next.2, next.1.total)
 
 pub overflow_add-weight : goal.overflow_add-weight
 overflow_add-weight c =
