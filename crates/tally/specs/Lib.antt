@@ -2,3 +2,4 @@ pub mod Adding
 pub mod Active
 pub mod Stakes
 pub mod Greatest
+pub mod Counted

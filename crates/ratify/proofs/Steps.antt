@@ -1,0 +1,127 @@
+-- A proposal that is looked at.
+use Rattle.std.proofs.Common.{◌≡◌, ℕ, List, [], ◌∷◌, ◌++◌, Bool, true, false, not, ◌&&◌, cond, map, refl, ap, sym, ◌∙◌, append_assoc}
+use Rattle.std.proofs.lemmas.List.{map-append}
+use Rattle.std.proofs.lemmas.List.Folds.{list_all-append}
+use Rattle.maps.specs.Words.{fronts_from, with_fronts}
+use Rattle.gov_actions.specs.declared.action.Proposal.{Proposal}
+use Rattle.gov_actions.specs.declared.tally.Need.{Need}
+use Rattle.gov_actions.specs.declared.tally.Verdict.{Verdict}
+use Rattle.gov_actions.specs.declared.tally.Role.TheVariants as role
+use Rattle.gov_actions.specs.Kinds.{is_delaying}
+use Rattle.gov_model.specs.Enacted.{enacted_after, enacted_from}
+use Rattle.gov_model.specs.Need.{need_of}
+use Rattle.gov_model.specs.Ratified.{ids_of, roles}
+use Rattle.gov_model.specs.Ready.{follows_last, goes_on_after, has_allowed_terms, is_covered, is_met, is_ready}
+use Rattle.gov_model.specs.Sides.{vote_count}
+use Rattle.gov_model.specs.Snapshot.{Snapshot}
+use Rattle.drep_pulser.specs.Count.{Ended}
+use Rattle.snapshots.specs.declared.frozen.Frozen.{Frozen}
+use Rattle.snapshots.specs.Frozen.{frozen_of}
+use Rattle.tally.specs.Counted.{AreOf, ForSnapshot}
+use Rattle.ratify.specs.declared.pass.Pass.{Pass}
+use Rattle.ratify.specs.Passes.{LooksAt, are_met, can_be_enacted, chosen_of, is_next, pass_after, state_after, tally_after, tally_by, verdict_by, with_enacted, with_tally}
+use Rattle.ratify.proofs.Fronts.{chosen-push, fronts-push, with_one}
+use Rattle.ratify.proofs.Enacting.{enacted-none, enacted-push, left_true, right_true}
+
+grouped : (g l t c x y z : Bool) → (g && (l && t && c) && (x && (y && (z && true)))) ≡ (g && l && t && c && x && y && z)
+grouped false l t c x y z = refl
+grouped true false t c x y z = refl
+grouped true true false c x y z = refl
+grouped true true true false x y z = refl
+grouped true true true true false y z = refl
+grouped true true true true true false z = refl
+grouped true true true true true true true = refl
+grouped true true true true true true false = refl
+
+-- the test of a pass is the test of the definition
+pub ready_is : (s : Snapshot) (front : List Proposal) (a : Proposal)
+    → (goes_on_after (chosen_of s front) && can_be_enacted s.epoch (state_after s front) a.action
+    && are_met (map (λ r. need_of r s (state_after s front) a.action) roles) (map (λ r. vote_count r s a) roles))
+    ≡ is_ready s (chosen_of s front) a
+ready_is s front a =
+    let now = state_after s front in
+    grouped (goes_on_after (chosen_of s front)) (follows_last now a.action) (has_allowed_terms s.epoch now a.action) (is_covered now a.action)
+    (is_met role.Committee s now a) (is_met role.Drep s now a) (is_met role.Pool s now a)
+
+-- what is ready is covered
+pub ready_covered : (g l t c m : Bool) → (g && (l && t && c) && m) ≡ true → c ≡ true
+ready_covered g l t c m h = right_true (l && t) c (right_true g _ (left_true _ m h))
+
+told : (s : Snapshot) (front : List Proposal) (a : Proposal) → map (tally_after s) (with_fronts front) ++ tally_after s (front, a) ∷ [] ≡ map (tally_after s) (with_fronts (front ++ a ∷ []))
+told s front a =
+    sym (map-append (tally_after s) (with_fronts front) ((front, a) ∷ [])) ∙ ap (map (tally_after s)) (sym (fronts-push [] front a))
+
+-- one that is not ready leaves its tally
+pub passed_over : (s : Snapshot) (front : List Proposal) (a : Proposal) → is_ready s (chosen_of s front) a ≡ false
+    → with_tally (tally_after s (front, a)) (pass_after s front) ≡ pass_after s (front ++ a ∷ [])
+passed_over s front a h =
+    let chosen : chosen_of s front ≡ chosen_of s (front ++ a ∷ []) =
+    sym (chosen-push (is_ready s) front a ∙ ap (λ b. cond b (chosen_of s front ++ a ∷ []) (chosen_of s front)) h) in
+    λ i. record {
+      ratified = ids_of (chosen i);
+      goes_on = goes_on_after (chosen i);
+      state = enacted_after s (chosen i);
+      tallies = told s front a i;
+    }
+
+-- the first of the conditions
+ready_goes_on : (s : Snapshot) (es : List Proposal) (a : Proposal) → is_ready s es a ≡ true → goes_on_after es ≡ true
+ready_goes_on s es a h = left_true _ _ (left_true _ _ (left_true _ _ (left_true _ _ (left_true _ _ (left_true _ _ h)))))
+
+alone : (b : Bool) → b ≡ (true && (b && true))
+alone true = refl
+alone false = refl
+
+goes_on-push : (es : List Proposal) (a : Proposal) → goes_on_after es ≡ true → not (is_delaying a.action) ≡ goes_on_after (es ++ a ∷ [])
+goes_on-push es a h =
+    let test : Proposal → Bool = λ e. not (is_delaying e.action) in
+    alone (test a) ∙ sym (ap (λ b. b && (test a && true)) h) ∙ sym (list_all-append test es (a ∷ []))
+
+-- one that is ready is enacted, too
+pub enacted_next : (s : Snapshot) (front : List Proposal) (a : Proposal) → is_ready s (chosen_of s front) a ≡ true
+    → with_enacted a (with_tally (tally_after s (front, a)) (pass_after s front)) ≡ pass_after s (front ++ a ∷ [])
+enacted_next s front a h =
+    let es : List Proposal = chosen_of s front in
+    let on : goes_on_after es ≡ true = ready_goes_on s es a h in
+    let chosen : es ++ a ∷ [] ≡ chosen_of s (front ++ a ∷ []) = sym (chosen-push (is_ready s) front a ∙ ap (λ b. cond b (es ++ a ∷ []) es) h) in
+    λ i. record {
+      ratified = (sym (map-append (λ (b : Proposal). b.id) es (a ∷ [])) ∙ ap ids_of chosen) i;
+      goes_on = (goes_on-push es a on ∙ ap goes_on_after chosen) i;
+      state = (enacted-push s es a on ∙ ap (enacted_after s) chosen) i;
+      tallies = told s front a i;
+    }
+
+-- a proposal that is looked at, by what is computed of it
+module _ (f : Frozen) (c : Ended) (p : Pass) (a : Proposal) (counts : List (ℕ × ℕ)) (needs : List Need) (ready : Bool) (became : Verdict)
+    (counts_are : ForSnapshot f c (λ s. counts ≡ map (λ r. vote_count r s a) roles))
+    (needs_are : (s : Snapshot) → f ≡ frozen_of s → needs ≡ map (λ r. need_of r s p.state a.action) roles)
+    (tested : ready ≡ is_next f.epoch p a.action needs counts) (judged : became ≡ verdict_by ready a.expires_after f.epoch) where
+  module _ (s : Snapshot) (front : List Proposal) (is : AreOf s f c) (before : p ≡ pass_after s front) where
+    same_epoch : f.epoch ≡ s.epoch
+    same_epoch = ap (λ (g : Frozen). g.epoch) is.frozen
+
+    same_needs : needs ≡ map (λ r. need_of r s (state_after s front) a.action) roles
+    same_needs = needs_are s is.frozen ∙ ap (λ (q : Pass). map (λ r. need_of r s q.state a.action) roles) before
+
+    same_test : ready ≡ is_ready s (chosen_of s front) a
+    same_test = tested ∙ (λ i. is_next (same_epoch i) (before i) a.action (same_needs i) (counts_are s is i)) ∙ ready_is s front a
+
+    same_tally : tally_by a counts needs became ≡ tally_after s (front, a)
+    same_tally = λ i. tally_by a (counts_are s is i) (same_needs i) ((judged ∙ (λ j. verdict_by (same_test j) a.expires_after (same_epoch j))) i)
+
+  pub looked_over : ready ≡ false → LooksAt f c p (a ∷ []) (with_tally (tally_by a counts needs became) p)
+  looked_over h = λ s is front before.
+      (λ i. with_tally (same_tally s front is before i) (before i)) ∙ passed_over s front a (sym (same_test s front is before) ∙ h)
+
+  pub looked_enacted : ready ≡ true → LooksAt f c p (a ∷ []) (with_enacted a (with_tally (tally_by a counts needs became) p))
+  looked_enacted h = λ s is front before.
+      (λ i. with_enacted a (with_tally (same_tally s front is before i) (before i))) ∙ enacted_next s front a (sym (same_test s front is before) ∙ h)
+
+-- before the first
+pub none_looked_at : (f : Frozen) (s : Snapshot) (p : Pass) → f ≡ frozen_of s → p ≡ record { ratified = []; goes_on = true; state = f.start; tallies = [] } → p ≡ pass_after s []
+none_looked_at f s p of is = is ∙ (λ i. record { ratified = []; goes_on = true; state = (ap (λ (g : Frozen). g.start) of ∙ sym (enacted-none s)) i; tallies = [] })
+
+-- more after these
+pub looked_more : (f : Frozen) (c : Ended) (p q r : Pass) (xs ys zs : List Proposal) → xs ++ ys ≡ zs → LooksAt f c p xs q → LooksAt f c q ys r → LooksAt f c p zs r
+looked_more f c p q r xs ys zs all first then = λ s is front before.
+    then s is (front ++ xs) (first s is front before) ∙ ap (pass_after s) (append_assoc front xs ys ∙ ap (λ (l : List Proposal). front ++ l) all)

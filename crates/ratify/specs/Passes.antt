@@ -1,0 +1,87 @@
+-- How far a pass has come: what it knows after it has looked at the proposals of a front of the order. (Own: how it is kept)
+use Rattle.std.specs.Prelude.{◌≡◌, ℕ, ◌==◌, Bool, not, ◌&&◌, List, [], ◌∷◌, ◌++◌, filter, map, nat_lt, if◌then◌else◌}
+use Rattle.std.specs.List.{list_all, zip}
+use Rattle.maps.specs.Words.{with_fronts, chosen_after}
+use Rattle.gov_actions.specs.declared.action.Action.{Action}
+use Rattle.gov_actions.specs.declared.action.Proposal.{Proposal}
+use Rattle.gov_actions.specs.declared.state.EnactState.{EnactState}
+use Rattle.gov_actions.specs.declared.tally.Need.{Need}
+use Rattle.gov_actions.specs.declared.tally.Tally.{Tally}
+use Rattle.gov_actions.specs.declared.tally.Verdict.{Verdict}
+use Rattle.gov_actions.specs.declared.tally.Verdict.TheVariants.{Ratified, Expired, Waiting}
+use Rattle.gov_actions.specs.Kinds.{is_delaying, kind_of, priority_of}
+use Rattle.gov_model.specs.Enacted.{enacted_after, enacted_from}
+use Rattle.gov_model.specs.Need.{need_of}
+use Rattle.gov_model.specs.Ratified.{ids_of, roles}
+use Rattle.gov_model.specs.Ready.{follows_last, goes_on_after, has_allowed_terms, is_covered, is_ready, meets}
+use Rattle.gov_model.specs.Sides.{vote_count}
+use Rattle.gov_model.specs.Snapshot.{Snapshot}
+use Rattle.drep_pulser.specs.Count.{Ended}
+use Rattle.snapshots.specs.declared.frozen.Frozen.{Frozen}
+use Rattle.tally.specs.Counted.{ForSnapshot}
+use Rattle.ratify.specs.declared.pass.Pass.{Pass}
+
+-- those of front that are ratified
+abbrev pub chosen_of : Snapshot → List Proposal → List Proposal
+chosen_of s front = chosen_after (is_ready s) [] front
+
+-- the state that they leave
+abbrev pub state_after : Snapshot → List Proposal → EnactState
+state_after s front = enacted_after s (chosen_of s front)
+
+-- it follows the last action of its purpose, and asks for no more than the parameters and the treasury allow
+abbrev pub can_be_enacted : ℕ → EnactState → Action → Bool
+can_be_enacted epoch now a = follows_last now a && has_allowed_terms epoch now a && is_covered now a
+
+-- each count meets its need
+abbrev pub are_met : List Need → List (ℕ × ℕ) → Bool
+are_met needs counts = list_all (λ p. meets p.0 p.1) (zip needs counts)
+
+-- the next action is ratified, by what the roles need and by their counts
+abbrev pub is_next : ℕ → Pass → Action → List Need → List (ℕ × ℕ) → Bool
+is_next epoch p a needs counts = p.goes_on && can_be_enacted epoch p.state a && are_met needs counts
+
+-- what becomes of a proposal, by whether it is ready and by its last epoch
+abbrev pub verdict_by : Bool → ℕ → ℕ → Verdict
+verdict_by ready last epoch = if ready then Ratified else (if nat_lt last epoch then Expired else Waiting)
+
+-- a tally of a proposal
+abbrev pub tally_by : Proposal → List (ℕ × ℕ) → List Need → Verdict → Tally
+tally_by a counts needs verdict =
+    record { id = a.id; kind = kind_of a.action; counts = counts; needs = needs; verdict = verdict }
+
+-- the tally of a proposal after those of front
+abbrev pub tally_after : Snapshot → List Proposal × Proposal → Tally
+tally_after s (front, a) =
+    tally_by a (map (λ r. vote_count r s a) roles) (map (λ r. need_of r s (state_after s front) a.action) roles)
+    (verdict_by (is_ready s (chosen_of s front) a) a.expires_after s.epoch)
+
+-- the pass after the proposals of front
+abbrev pub pass_after : Snapshot → List Proposal → Pass
+pass_after s front = record {
+  ratified = ids_of (chosen_of s front);
+  goes_on = goes_on_after (chosen_of s front);
+  state = state_after s front;
+  tallies = map (tally_after s) (with_fronts front);
+}
+
+-- a pass with one more tally
+abbrev pub with_tally : Tally → Pass → Pass
+with_tally t p = record p { tallies = p.tallies ++ t ∷ [] }
+
+-- a pass with one more proposal that is enacted
+abbrev pub with_enacted : Proposal → Pass → Pass
+with_enacted a p = record p {
+  ratified = p.ratified ++ a.id ∷ [];
+  goes_on = not (is_delaying a.action);
+  state = enacted_from p.state ((a.id, a.action) ∷ []);
+}
+
+-- the proposals of a priority, in order of submission
+abbrev pub of_priority : ℕ → List Proposal → List Proposal
+of_priority n ps = filter (λ p. priority_of p.action == n) ps
+
+-- a pass that stood after some front stands after it and these
+abbrev pub LooksAt : Frozen → Ended → Pass → List Proposal → Pass → Type 0
+LooksAt f c before more after =
+    ForSnapshot f c (λ s. (front : List Proposal) → before ≡ pass_after s front → after ≡ pass_after s (front ++ more))

@@ -1,0 +1,77 @@
+ghost use Rattle.std.specs.Prelude.{◌≡◌, IfOk};
+ghost use Rattle.gov_ids.specs.Orders.{credential_cmp};
+ghost use Rattle.gov_model.specs.Ratified.{IsRatified, expired_of, is_one_of, tallies_of};
+ghost use Rattle.gov_model.specs.Sides.{members_of};
+ghost use Rattle.maps.specs.Maps.{IsMap};
+ghost use Rattle.ratify.specs.Outcomes.{expired_by, is_over, state_by};
+ghost use Rattle.tally.specs.Counted.{CanBeCounted, ForSnapshot};
+
+use crate::pass::Pass;
+use coin_frac::NoMemory;
+use drep_pulser::Counted;
+use gov_actions::{EnactState, Proposal, Tally};
+use gov_ids::ActionId;
+use listed::Listed;
+use snapshots::Frozen;
+use std::alloc::Global;
+
+/// What the pass over a frozen epoch comes to. (RatifyState of the formal specification)
+#[derive(Drop)]
+pub struct Outcome {
+    /// What the next boundary enacts, in the order in which it is enacted.
+    pub ratified: Listed<ActionId>,
+    /// What is not ratified and whose last epoch has passed, in order of submission.
+    pub expired: Listed<ActionId>,
+    /// The frozen state after all that is ratified was enacted.
+    pub state: EnactState,
+    /// Counts, needs and verdict of each frozen proposal, in the order in which they are looked at.
+    pub tallies: Listed<Tally>,
+}
+
+/// The pass over a frozen epoch and its count. The proposals are looked at in order of priority, each by the state after
+/// those ratified before it; once an action that delays is ratified, the others wait. (CIP-1694, Ratification; RATIFY of
+/// the formal specification)
+pub fn ratify(alloc: Global, f: &Frozen, c: &Counted) -> Result<Outcome, NoMemory>
+    requires counted { CanBeCounted f.now c.now }
+    ensures ratified { IfOk result (λ o. ForSnapshot f.now c.now (λ s. IsRatified s o.ratified)) }
+    ensures expired { IfOk result (λ o. ForSnapshot f.now c.now (λ s. o.expired ≡ expired_of s o.ratified)) }
+    ensures state { IfOk result (λ o. ForSnapshot f.now c.now (λ s. o.state ≡ state_by s o.ratified)) }
+    ensures tallies { IfOk result (λ o. ForSnapshot f.now c.now (λ s. o.tallies ≡ tallies_of s o.ratified)) }
+    ensures in_order { IfOk result (λ o. IsMap credential_cmp (members_of o.state.committee)) }
+{
+    let pass = Pass::over_all(alloc, f, c)?;
+    let expired = expired(alloc, f, pass.ratified.as_slice())?;
+    Ok(Outcome {
+        ratified: pass.ratified,
+        expired,
+        state: pass.state,
+        tallies: pass.tallies,
+    })
+}
+
+// The proposals that are not ratified and whose last epoch has passed.
+fn expired(alloc: Global, f: &Frozen, ratified: &[ActionId]) -> Result<Listed<ActionId>, NoMemory>
+    ensures { IfOk result (λ ids. ids ≡ expired_by f.now ratified.now) }
+{
+    let mut ids = Listed::new(alloc);
+    for a in f.proposals.as_slice() {
+        if is_over(f.epoch, ratified, a) {
+            ids.push(a.id)?;
+        }
+    }
+    Ok(ids)
+}
+
+// Whether a proposal is not ratified and its last epoch has passed.
+fn is_over(epoch: u64, ratified: &[ActionId], a: &Proposal) -> bool
+    ensures { result ≡ is_over epoch ratified.now a.now }
+{
+    !is_one_of(ratified, a) && a.expires_after < epoch
+}
+
+// Whether a proposal is one of these.
+fn is_one_of(ids: &[ActionId], a: &Proposal) -> bool
+    ensures { result ≡ is_one_of ids.now a.now }
+{
+    ids.contains(&a.id)
+}

@@ -1,0 +1,127 @@
+ghost use Rattle.std.specs.Prelude.{◌≡◌, map, nat_le, sum_by};
+ghost use Rattle.std.specs.List.{list_all};
+ghost use Rattle.gov_ids.specs.Orders.{voter_cmp};
+ghost use Rattle.gov_model.specs.Lineage.{is_last_enacted};
+ghost use Rattle.gov_model.specs.Need.{need_of};
+ghost use Rattle.gov_model.specs.Ratified.{roles};
+ghost use Rattle.gov_model.specs.Ready.{follows_last, has_allowed_terms, is_covered, meets};
+ghost use Rattle.gov_model.specs.Sides.{vote_count};
+ghost use Rattle.gov_model.specs.Snapshot.{Snapshot};
+ghost use Rattle.maps.specs.Maps.{IsMap};
+ghost use Rattle.ratify.specs.Passes.{are_met, can_be_enacted};
+ghost use Rattle.snapshots.specs.Frozen.{frozen_of};
+ghost use Rattle.tally.specs.Counted.{CanBeCounted, ForSnapshot};
+
+use coin_frac::reaches;
+use drep_pulser::Counted;
+use gov_actions::{Action, EnactState, LastIds, Need, Proposal, Purpose, Role};
+use gov_ids::{Account, ActionId, Credential};
+use snapshots::Frozen;
+use tally::{committee_count, drep_count, need, pool_count};
+
+// Yes and total of each role, in the order of a tally.
+pub(crate) fn counts_of(f: &Frozen, c: &Counted, a: &Proposal) -> [(u64, u64); 3]
+    requires counted { CanBeCounted f.now c.now }
+    requires voters { IsMap voter_cmp a.now.votes }
+    ensures { ForSnapshot f.now c.now (λ s. result ≡ map (λ r. vote_count r s a.now) roles) }
+{
+    [committee_count(f, a), drep_count(f, c, a), pool_count(f, a)]
+}
+
+// What each role needs, in the same order.
+pub(crate) fn needs_of(f: &Frozen, now: &EnactState, a: &Action) -> [Need; 3]
+    ensures { (s : Snapshot) → f.now ≡ frozen_of s → result ≡ map (λ r. need_of r s now.now a.now) roles }
+{
+    [
+        need(f, now, a, Role::Committee),
+        need(f, now, a, Role::Drep),
+        need(f, now, a, Role::Pool),
+    ]
+}
+
+// Whether the action follows the last one of its purpose, and asks for no more than the parameters and the treasury allow.
+pub(crate) fn can_be_enacted(epoch: u64, now: &EnactState, a: &Action) -> bool
+    ensures { result ≡ can_be_enacted epoch now.now a.now }
+{
+    follows_last(now, a) && has_allowed_terms(epoch, now, a) && is_covered(now, a)
+}
+
+// Whether each role's count meets what the role needs.
+pub(crate) fn are_met(needs: &[Need; 3], counts: &[(u64, u64); 3]) -> bool
+    ensures { result ≡ are_met needs.now counts.now }
+{
+    needs
+        .iter()
+        .zip(counts)
+        .all(|(need, count)| meets(*need, *count))
+}
+
+// Whether its previous action is the last enacted one of its purpose, if it has one.
+fn follows_last(now: &EnactState, a: &Action) -> bool
+    ensures { result ≡ follows_last now.now a.now }
+{
+    match a.purpose() {
+        Some(purpose) => is_last_enacted(&now.last, purpose, a.previous()),
+        None => true,
+    }
+}
+
+// Whether it is the last enacted action of the purpose.
+fn is_last_enacted(last: &LastIds, purpose: Purpose, previous: Option<ActionId>) -> bool
+    ensures { result ≡ is_last_enacted last.now purpose previous }
+{
+    previous == last.of(purpose)
+}
+
+// Whether the terms of new members are no longer than the parameters allow.
+fn has_allowed_terms(epoch: u64, now: &EnactState, a: &Action) -> bool
+    ensures { result ≡ has_allowed_terms epoch now.now a.now }
+{
+    let last = u128::from(epoch) + u128::from(now.params.committee_max_term_length);
+    match a {
+        Action::UpdateCommittee { add, .. } => end_by(last, add.as_slice()),
+        _ => true,
+    }
+}
+
+// Whether the terms of these members end by an epoch.
+fn end_by(last: u128, members: &[(Credential, u64)]) -> bool
+    ensures { result ≡ list_all (λ m. nat_le m.1 last) members.now }
+{
+    members.iter().all(|m| u128::from(m.1) <= last)
+}
+
+// Whether the treasury has what it withdraws.
+fn is_covered(now: &EnactState, a: &Action) -> bool
+    ensures { result ≡ is_covered now.now a.now }
+{
+    match a {
+        Action::TreasuryWithdrawals { targets, .. } => covers(now.treasury, targets.as_slice()),
+        _ => true,
+    }
+}
+
+// Whether an amount is enough for all of these.
+fn covers(amount: u64, targets: &[(Account, u64)]) -> bool
+    ensures { result ≡ nat_le (sum_by (λ t. t.1) targets.now) amount }
+{
+    let mut left = amount;
+    for (_, due) in targets {
+        if left < *due {
+            return false;
+        }
+        left -= *due;
+    }
+    true
+}
+
+// Whether a count meets a need.
+fn meets(need: Need, count: (u64, u64)) -> bool
+    ensures { result ≡ meets need count }
+{
+    match need {
+        Need::Nothing => true,
+        Need::Never => false,
+        Need::Share(threshold) => reaches(count.0, count.1, threshold),
+    }
+}
