@@ -10,6 +10,3 @@ mod thresholds;
 pub use actions::read_action;
 pub use kinds::{ActionField, ParamsField, UpdateField};
 pub use params::{read_params, read_update};
-
-#[cfg(test)]
-mod tests;

@@ -2,4 +2,3 @@ pub mod Json
 pub mod Gives
 pub mod KindsGive
 pub mod RecordsGive
-pub mod Walks

@@ -6,4 +6,3 @@ pub mod Certs
 pub mod Records
 pub mod Lines
 pub mod Reads
-pub mod Members

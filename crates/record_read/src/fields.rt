@@ -5,10 +5,10 @@ ghost use Rattle.record_read.specs.Fields.{needed, optional, defaulted, needed_l
 ghost use Rattle.record_read.specs.Reads.{ReadsRecord};
 
 use crate::fault::RecordFault;
-use crate::members::Members;
 use gov_ids::Named;
 use json_fields::{FieldFault, Kind, read_distinct_list, read_list};
 use listed::Listed;
+use record_members::Members;
 use std::alloc::Global;
 use tx_records::FieldName;
 

@@ -7,13 +7,9 @@ mod fault;
 mod fields;
 mod laws;
 mod lines;
-mod members;
 mod records;
 
 pub use action_read::read_action;
 pub use fault::RecordFault;
 pub use laws::lines_read_within_limits;
 pub use lines::read_record;
-
-#[cfg(test)]
-mod tests;

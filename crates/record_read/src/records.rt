@@ -16,12 +16,12 @@ use crate::fields::{
     defaulted_field, needed_distinct_list, needed_field, needed_list, optional_distinct_list,
     optional_field, optional_list,
 };
-use crate::members::Members;
 use action_read::ParamsField;
 use gov_ids::{Account, Credential, OutRef, TxId};
 use json_fields::{FieldFault, Kind, read_text};
 use listed::Boxed;
 use out_refs::OutRefs;
+use record_members::Members;
 use serde_json::Value;
 use std::alloc::Global;
 use tx_records::limits::{LIST_LIMIT, OUTPUT_LIMIT, TX_LIST_LIMIT};

@@ -2,9 +2,9 @@ use Rattle.std.proofs.Common.{◌≡◌, ℕ, ◌<◌, ◌+◌, List, length, tr
 use Rattle.std.specs.Prelude.{is_some}
 use Rattle.serde_json.specs.View.{members_view}
 use Rattle.serde_json.proofs.Views.{Entry}
-use Rattle.record_read.specs.Members.{names, place_of}
-use Rattle.record_read.proofs.Walks.{any_default, FindsWith, place_in-within, passed, kept, placed, finds_all, free_from, taken_from}
-use Rattle.record_read.proofs.members.found_among.Goals as goal
+use Rattle.record_members.specs.Members.{names, place_of}
+use Rattle.record_members.proofs.Walks.{any_default, FindsWith, place_in-within, passed, kept, placed, finds_all, free_from, taken_from}
+use Rattle.record_members.proofs.found_among.Goals as goal
 
 pub loop-key-preserved-then-is_none : goal.loop-key-preserved-then-is_none
 loop-key-preserved-then-is_none c =

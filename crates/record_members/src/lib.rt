@@ -1,11 +1,13 @@
 //! The members of an object that a transaction's fields have names for, found in one walk.
+#![tactic(auto)]
+
 ghost use Rattle.std.specs.Prelude.{◌≡◌, option_map};
 ghost use Rattle.std.specs.Result.{result_map_both};
 ghost use Rattle.serde_json.specs.Find.{get};
 ghost use Rattle.serde_json.specs.View.{view, members_view};
 ghost use Rattle.json_fields.specs.Kinds.{field_in, optional_in};
 ghost use Rattle.tx_records.specs.FieldTexts.{text_of_field};
-ghost use Rattle.record_read.specs.Members.{place_of, place_of_name, FindsAmong};
+ghost use Rattle.record_members.specs.Members.{place_of, place_of_name, FindsAmong};
 
 use json_fields::FieldFault;
 use serde_json::{Map, Value};
@@ -26,7 +28,7 @@ impl<'a> Model for Members<'a> {
     ghost use Rattle.serde_json.specs.contracts.value.Value as value;
     ghost use Rattle.serde_json.specs.declared.value.Value as declared;
     ghost use Rattle.std.specs.Coded.{codes};
-    ghost use Rattle.record_read.specs.Members.{Finds};
+    ghost use Rattle.record_members.specs.Members.{Finds};
 
     ghost Value = { declared.Value };
 

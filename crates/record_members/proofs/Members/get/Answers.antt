@@ -3,8 +3,8 @@ use Rattle.serde_json.specs.Find.{get}
 use Rattle.serde_json.specs.View.{view}
 use Rattle.serde_json.specs.declared.value.Value.{Value}
 use Rattle.tx_records.specs.FieldTexts.{text_of_field}
-use Rattle.record_read.proofs.Walks.{any_default}
-use Rattle.record_read.proofs.members.Members.get.Goals as goal
+use Rattle.record_members.proofs.Walks.{any_default}
+use Rattle.record_members.proofs.Members.get.Goals as goal
 
 pub returns-in-Some : goal.returns-in-Some
 returns-in-Some c =

@@ -11,7 +11,7 @@ use Rattle.serde_json.specs.Find.{as_object, get, get_member}
 use Rattle.serde_json.specs.View.{view, members_view}
 use Rattle.serde_json.specs.declared.value.Value.{Value}
 use Rattle.serde_json.proofs.Views.{Entry, member_here, member_later}
-use Rattle.record_read.specs.Members.{at, names, place_in, place_of, Finds, FindsAmong}
+use Rattle.record_members.specs.Members.{at, names, place_in, place_of, Finds, FindsAmong}
 
 within_by : (b : Bool) (k p n : ℕ) (rest : Option ℕ) → (rest ≡ Some p → (suc k ≤ p) × (p < suc k + n)) → (if b then Some k else rest) ≡ Some p → (k ≤ p) × (p < k + suc n)
 within_by true k p n rest h e = let same : k ≡ p = same_Some k p e in (omega (arith, same), omega (arith, same))

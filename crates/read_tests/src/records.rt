@@ -1,5 +1,5 @@
-//! Short lines, and what they read as; tests/ of the repository has tables of long ones.
-use super::*;
+// Short lines, and what they read as.
+use record_read::{RecordFault, read_record};
 use std::test::Fail;
 use tx_records::{FieldName, Record, What};
 
@@ -64,7 +64,6 @@ fn names_the_fault(rt: HostRuntime) {
         (r#"{"id":null,"kind":"tx"}"#, bad(FieldName::Id)),
     ];
     for (line, fault) in table {
-        let found = read_record(rt.alloc(), line.as_bytes()).err();
-        assert_eq!(rt; found, Some(fault), "{line}");
+        assert!(rt; read_record(rt.alloc(), line.as_bytes()).err() == Some(fault));
     }
 }
