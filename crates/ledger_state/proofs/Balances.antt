@@ -23,7 +23,7 @@ use Rattle.tx_records.specs.declared.cert.Cert.{Cert}
 use Rattle.tx_records.specs.declared.cert.Cert.TheVariants.{AccountReg, AccountUnreg, Delegate, PoolReg, PoolRetire, DrepReg, DrepUnreg, DrepUpdate, HotAuth, HotResign}
 use Rattle.tx_records.specs.declared.tx.Tx.{Tx}
 use Rattle.ledger_model.specs.Ledger.{Ledger}
-use Rattle.stake_book.specs.Stakes.{balances_in}
+use Rattle.stake_book.specs.Stakes.{balances_in, delegates_to_dreps, without_dreps}
 use Rattle.ledger_state.specs.Books.{NoneRises, balance_in}
 use Rattle.ledger_state.specs.Drafts.{with_registration, with_registrations}
 use Rattle.ledger_state.proofs.Laid.{IsMap-with_option, value_at-with_option, value_at-with_options}
@@ -105,6 +105,16 @@ where_lowers p f le es q =
       ap balance (value_at-changed_where credential_total credential_exact p f es q),
       falling (λ r. cond (p q r) (f r) r) (λ r. either_lower (p q r) f r le) (value_at credential_cmp es q),
     )
+
+without_keeps : (b : Registered → Bool) (x : Option Registered) → balance (option_map (λ r. cond (b r) (without_drep r) r) x) ≡ balance x
+without_keeps b None = refl
+without_keeps b (Some r) = elim (b r) as (λ t. (cond t (without_drep r) r).rewards ≡ r.rewards) [ true ↦ refl | false ↦ refl ]
+
+-- a delegation that ends leaves the balance
+pub ended_balance : (dreps : List Credential) (accounts : List (Credential × Registered)) (c : Credential) → balance_in (without_dreps dreps accounts) c ≡ balance_in accounts c
+ended_balance dreps accounts c =
+    ap balance (value_at-changed_where credential_total credential_exact (λ q r. delegates_to_dreps dreps r) without_drep accounts c)
+    ∙ without_keeps (delegates_to_dreps dreps) (value_at credential_cmp accounts c)
 
 -- a ledger whose accounts are a map, with no balance above that of another
 pub record IsLowered (l d : Ledger) : Type 0 where
@@ -232,8 +242,3 @@ module _ (e : Credential × Option Registered) (changes : List (Credential × Op
   -- so the balances together are at most what they were
   pub next_sum : balances_in next ≤ balances_in accounts
   next_sum = sum-lower credential_total (λ (r : Registered). r.rewards) next accounts next_map h (λ q. (both_lower q).0)
-
--- what comes after the first change stands in order
-pub changes_left : (e : Credential × Option Registered) (changes : List (Credential × Option Registered)) → IsMap credential_cmp (e ∷ changes) → IsMap credential_cmp changes
-unfolding IsStrictlySortedBy
-changes_left e changes g = g.1

@@ -1,19 +1,22 @@
 -- A ledger after an allowed transaction: what its parts are, that they fit, and that it keeps what a ledger keeps.
-use Rattle.std.proofs.Common.{◌≡◌, ℕ, ◌+◌, ◌<◌, ◌≤◌, ◌^◌, Bool, true, false, not, ◌&&◌, List, [], ◌++◌, None, length, map, sum_by, refl, ap, sym, ◌∙◌, subst, arith}
+use Rattle.std.proofs.Common.{◌≡◌, ℕ, ◌+◌, ◌<◌, ◌≤◌, ◌^◌, Bool, true, false, not, ◌&&◌, List, ◌++◌, None, length, map, sum_by, refl, ap, sym, ◌∙◌, subst, arith}
 use Rattle.std.specs.List.{AllByRecursion}
 use Rattle.std.specs.Map.{keys_of}
 use Rattle.std.specs.Option.{option_to_list}
-use Rattle.std.proofs.lemmas.Bool.{and_parts}
+use Rattle.std.proofs.lemmas.Bool.{and_parts, leb-true}
 use Rattle.book_records.specs.declared.Output.{Output}
+use Rattle.book_records.specs.Dormancy.{AllFit}
 use Rattle.book_records.specs.Outputs.{lovelace_in}
 use Rattle.gov_actions.specs.declared.action.Proposal.{Proposal}
+use Rattle.gov_actions.specs.declared.state.EnactState.{EnactState}
 use Rattle.gov_ids.specs.declared.OutRef.{OutRef}
+use Rattle.gov_ids.specs.declared.TxId.{TxId}
 use Rattle.gov_ids.specs.Orders.{outref_cmp, txid_cmp}
 use Rattle.gov_ids.proofs.Totals.{outref_total}
 use Rattle.gov_ids.proofs.Exacts.{outref_exact}
+use Rattle.gov_model.specs.Proposals.{deposits_of}
 use Rattle.maps.proofs.Several.{sum_values-with_values, sum_values-without_keys}
 use Rattle.maps.specs.Maps.{value_at, with_key, with_values, without_keys}
-use Rattle.maps.specs.Words.{with_places}
 use Rattle.tx_records.specs.TxLimits.{is_within_limits}
 use Rattle.tx_records.specs.declared.tx.ProposalRecord.{ProposalRecord}
 use Rattle.tx_records.specs.declared.tx.Scripts.{Scripts}
@@ -24,19 +27,28 @@ use Rattle.ledger_model.specs.Broken.{is_allowed}
 use Rattle.ledger_model.specs.CertRules.{rewards_at}
 use Rattle.ledger_model.specs.Draft.{last_draft}
 use Rattle.ledger_model.specs.Ledger.{Ledger}
-use Rattle.ledger_model.specs.Transaction.{after_failed, after_passed, after_scripts, kept_output, ledger_after_tx, made_outputs, made_proposal, made_proposals, made_return, with_votes}
+use Rattle.ledger_model.specs.Sound.{IsSound}
+use Rattle.ledger_model.specs.Supply.{supply_of}
+use Rattle.ledger_model.specs.Transaction.{after_failed, after_passed, after_scripts, kept_output, ledger_after_tx, made_outputs, made_proposals, made_return, with_votes}
 use Rattle.ledger_model.specs.UtxoRules.{collateral_left, collateral_sum, has_scripts, is_failed, returned}
 use Rattle.tx_balance.specs.Laws.{HasOwnWithdrawals}
 use Rattle.tx_balance.proofs.Failed.{made, returned_sum}
 use Rattle.tx_balance.proofs.OutputParts.{IsPassed, collateral_once, collateral_split, id_is_new, parts_of}
 use Rattle.tx_balance.proofs.Outputs.{made_from, made_not_there, made_once, not_there_after, sum-made}
-use Rattle.tx_balance.proofs.Sounds.{allowed_keeps_supply, allowed_stays_sound}
-use Rattle.stake_book.specs.Stakes.{balances_in}
-use Rattle.tx_records.specs.declared.limits.TheConstants.{SUPPLY_LIMIT}
+use Rattle.tx_balance.proofs.Sounds.{allowed_keeps_supply, allowed_stays_sound, new_used, tx_steady}
+use Rattle.proposal_store.specs.Store.{AllOrdered}
+use Rattle.run_model.specs.Laws.{IsWithinDormantBound}
+use Rattle.stake_book.specs.Stakes.{balances_in, without_dreps}
+use Rattle.tx_records.specs.declared.limits.TheConstants.{SUPPLY_LIMIT, TX_LIST_LIMIT}
 use Rattle.ledger_state.specs.Books.{NoneRises}
-use Rattle.ledger_state.specs.Drafts.{Changed, laid_over, with_registrations}
+use Rattle.ledger_state.specs.Drafts.{Changed, laid_over, with_registrations, without_votes_of}
 use Rattle.ledger_state.specs.Kept.{IsKept}
-use Rattle.ledger_state.proofs.Balances.{draft_lowers}
+use Rattle.ledger_state.specs.Proposed.{IsUnknown}
+use Rattle.run_laws.proofs.Dormant.{tx_timely}
+use Rattle.ledger_state.proofs.Balances.{draft_lowers, ended_balance}
+use Rattle.ledger_state.proofs.Cleared.{ordered-append, ordered-cleared, ordered-proposed, ordered-voted, used-cleared}
+use Rattle.ledger_state.proofs.Timely.{all_fit}
+use Rattle.ledger_state.proofs.Proposing.{AreUsed, deposits-append, deposits-proposed, used-append, used-more, used-proposed, used-voted, used_unknown}
 
 by_passed : (sc : Scripts) (l : Ledger) (tx : Tx) → is_failed sc ≡ false → after_passed l tx ≡ after_scripts sc l tx
 by_passed Absent l tx e = refl
@@ -59,11 +71,18 @@ left_of b c h = (and_parts b c h).0
 own_withdrawals : (tx : Tx) → is_within_limits tx ≡ true → HasOwnWithdrawals tx
 own_withdrawals tx h = not_true _ (and_parts _ _ (left_of _ _ (left_of _ _ (left_of _ _ (left_of _ _ (left_of _ _ (left_of _ _ (left_of _ _ h)))))))).1
 
+-- so many proposals at most
+pub few_proposals : (tx : Tx) → is_within_limits tx ≡ true → length tx.proposals ≤ TX_LIST_LIMIT
+few_proposals tx h =
+    let lists = left_of _ _ (left_of _ _ (left_of _ _ (left_of _ _ (left_of _ _ (left_of _ _ (left_of _ _ (left_of _ _ h))))))) in
+    leb-true (length tx.proposals) TX_LIST_LIMIT (and_parts _ _ (left_of _ _ lists)).1
+
 -- the ledger after a transaction whose scripts did not fail, with these changes
 abbrev pub after_changes : Ledger → Tx → Changed → Ledger
 after_changes l tx changes = record (laid_over changes l) {
   outputs = with_values outref_cmp (made_outputs tx) (without_keys outref_cmp tx.inputs l.outputs);
   used = with_key txid_cmp tx.id l.used;
+  proposals = map (with_votes tx) (map (without_votes_of changes.left) l.proposals) ++ made_proposals l tx;
   fees = l.fees + tx.fee;
   donations = l.donations + tx.donation;
 }
@@ -71,11 +90,14 @@ after_changes l tx changes = record (laid_over changes l) {
 -- the changes raise no balance, it is that of the definitions, it fits, and it keeps what a ledger keeps
 pub record IsPassing (l : Ledger) (tx : Tx) (changes : Changed) : Type 0 where
   pub before : lovelace_in l.outputs + balances_in l.accounts + 0 ≤ SUPPLY_LIMIT
-  pub lower : NoneRises changes.accounts l.accounts
+  pub lower : NoneRises changes.accounts (without_dreps changes.left l.accounts)
+  pub fit : AllFit l.dormant l.dreps
   pub absent : AllByRecursion (λ r. value_at outref_cmp (without_keys outref_cmp tx.inputs l.outputs) r ≡ None) (keys_of (made_outputs tx))
-  pub room : lovelace_in (without_keys outref_cmp tx.inputs l.outputs) + balances_in (with_registrations changes.accounts l.accounts) + sum_by (λ (o : TxOutput). o.lovelace) tx.outputs ≤ SUPPLY_LIMIT
+  pub room : lovelace_in (without_keys outref_cmp tx.inputs l.outputs) + balances_in (with_registrations changes.accounts (without_dreps changes.left l.accounts)) + sum_by (λ (o : TxOutput). o.lovelace) tx.outputs ≤ SUPPLY_LIMIT
   pub fee : l.fees + tx.fee < 2 ^ 64
   pub donation : l.donations + tx.donation < 2 ^ 64
+  pub unknown : IsUnknown tx.id (map (with_votes tx) (map (without_votes_of changes.left) l.proposals))
+  pub deposits : deposits_of (map (with_votes tx) (map (without_votes_of changes.left) l.proposals)) + sum_by (λ (p : ProposalRecord). p.deposit) tx.proposals < 2 ^ 64
   pub kept : IsKept (after_changes l tx changes)
   pub is : after_changes l tx changes ≡ ledger_after_tx l tx
 
@@ -92,11 +114,21 @@ module _ (l : Ledger) (tx : Tx) (k : IsKept l) (within : is_within_limits tx ≡
   parts : IsPassed l tx
   parts = parts_of l tx allowed
 
-  -- the ledger after it keeps what a ledger keeps
-  kept_after : IsKept (ledger_after_tx l tx)
-  kept_after =
+  -- the ledger after it keeps what a ledger keeps, if the transactions of its proposals are used and their votes are maps
+  kept_after : (m : Ledger) → m ≡ ledger_after_tx l tx → m.state ≡ l.state → AreUsed m.used m.proposals → AllOrdered m.proposals → IsKept m
+  kept_after m is state proposed voted =
       let supply = allowed_keeps_supply l tx k.sound (own_withdrawals tx within) allowed in
-      record { sound = allowed_stays_sound l tx k.sound allowed; balanced = supply.1 ∙ k.balanced ∙ sym supply.0; within = omega (arith, supply.0, k.within) }
+      let epoch : m.epoch ≡ l.epoch = ap (λ (x : Ledger). x.epoch) is ∙ ap (λ (x : Ledger). x.epoch) (sym (tx_steady l tx k.sound).only) in
+      record {
+        sound = subst (λ (x : Ledger). IsSound x) (sym is) (allowed_stays_sound l tx k.sound allowed);
+        balanced = ap (λ (x : Ledger). supply_of x) is ∙ supply.1 ∙ k.balanced ∙ sym supply.0 ∙ ap (λ (x : Ledger). x.supply) (sym is);
+        within = omega (arith, supply.0, k.within, ap (λ (x : Ledger). x.supply) is);
+        early = omega (arith, epoch, k.early);
+        timely = subst (λ (x : Ledger). IsWithinDormantBound x) (sym is) (tx_timely l tx k.sound.dreps k.timely k.active);
+        active = subst (λ (s : EnactState). s.params.drep_activity ≤ 2 ^ 32) (sym state) k.active;
+        proposed = proposed;
+        voted = voted;
+      }
 
   -- the outputs without these
   abbrev left : List OutRef → List (OutRef × Output)
@@ -115,18 +147,10 @@ module _ (l : Ledger) (tx : Tx) (k : IsKept l) (within : is_within_limits tx ≡
         sum-made tx.id kept_output n xs,
       )
 
-  with_proposals : Changed → List Proposal → Ledger
-  with_proposals changes ps = record (after_changes l tx changes) { proposals = ps }
-
-  -- nothing is proposed, and it proposes nothing
-  passed_is : (changes : Changed) → is_failed tx.scripts ≡ false → laid_over changes l ≡ last_draft l tx → tx.proposals ≡ [] → l.proposals ≡ [] → after_changes l tx changes ≡ ledger_after_tx l tx
-  unfolding with_proposals
-  passed_is changes e drafted none nothing =
-      let stay : map (with_votes tx) l.proposals ++ made_proposals l tx ≡ l.proposals =
-      ap (λ (ps : List ProposalRecord). map (with_votes tx) l.proposals ++ map (λ p. made_proposal l tx.id p.0 p.1) (with_places ps)) none
-      ∙ ap (λ (ps : List Proposal). map (with_votes tx) ps ++ []) nothing ∙ sym nothing in
-      sym (ap (with_proposals changes) stay)
-      ∙ (λ i. record (drafted i) {
+  -- it is that of the definitions
+  passed_is : (changes : Changed) → is_failed tx.scripts ≡ false → laid_over changes l ≡ last_draft l tx → after_changes l tx changes ≡ ledger_after_tx l tx
+  passed_is changes e drafted =
+      (λ i. record (drafted i) {
         outputs = with_values outref_cmp (made_outputs tx) (left tx.inputs);
         used = with_key txid_cmp tx.id l.used;
         proposals = map (with_votes tx) (drafted i).proposals ++ made_proposals l tx;
@@ -136,21 +160,36 @@ module _ (l : Ledger) (tx : Tx) (k : IsKept l) (within : is_within_limits tx ≡
       ∙ by_passed tx.scripts l tx e
 
   -- no balance rises
-  changes_lower : (changes : Changed) → laid_over changes l ≡ last_draft l tx → NoneRises changes.accounts l.accounts
+  changes_lower : (changes : Changed) → laid_over changes l ≡ last_draft l tx → NoneRises changes.accounts (without_dreps changes.left l.accounts)
   changes_lower changes drafted c =
-      omega (arith, (draft_lowers l tx (length tx.certs) k.sound.accounts).lower c, ap (λ (d : Ledger). rewards_at d c) drafted)
+      omega (
+        arith,
+        (draft_lowers l tx (length tx.certs) k.sound.accounts).lower c,
+        ap (λ (d : Ledger). rewards_at d c) drafted,
+        ended_balance changes.left l.accounts c,
+      )
 
-  passes : (changes : Changed) → is_failed tx.scripts ≡ false → laid_over changes l ≡ last_draft l tx → tx.proposals ≡ [] → l.proposals ≡ [] → IsPassing l tx changes
-  passes changes e drafted none nothing =
-      let is = passed_is changes e drafted none nothing in
-      let kept : IsKept (after_changes l tx changes) = subst (λ (x : Ledger). IsKept x) (sym is) kept_after in
+  passes : (changes : Changed) → is_failed tx.scripts ≡ false → laid_over changes l ≡ last_draft l tx → IsPassing l tx changes
+  passes changes e drafted =
+      let is = passed_is changes e drafted in
+      let now_used : List TxId = with_key txid_cmp tx.id l.used in
+      let left : List Proposal = map (without_votes_of changes.left) l.proposals in
+      let known : AreUsed l.used left = used-cleared l.used changes.left l.proposals k.proposed in
+      let old : List Proposal = map (with_votes tx) left in
+      let proposed = used-append now_used old (made_proposals l tx) (used-voted now_used tx.votes left (used-more l.used tx.id left known))
+      (used-proposed now_used l tx.id 0 tx.proposals (new_used l.used tx.id)) in
+      let voted = ordered-append old (made_proposals l tx) (ordered-voted tx.votes left (ordered-cleared changes.left l.proposals k.voted)) (ordered-proposed l tx.id 0 tx.proposals) in
+      let kept : IsKept (after_changes l tx changes) = kept_after (after_changes l tx changes) is refl proposed voted in
       record {
         before = omega (arith, k.balanced, k.within);
         lower = changes_lower changes drafted;
+        fit = all_fit l k.timely k.sound.dreps k.early;
         absent = made_absent tx.inputs 0 tx.outputs;
         room = omega (arith, kept.balanced, made_sum tx.inputs 0 tx.outputs, k.within);
         fee = omega (arith, kept.balanced, k.within);
         donation = omega (arith, kept.balanced, k.within);
+        unknown = used_unknown l.used tx.id old (id_is_new l tx parts) (used-voted l.used tx.votes left known);
+        deposits = omega (arith, kept.balanced, k.within, deposits-append old (made_proposals l tx), deposits-proposed l tx.id 0 tx.proposals);
         kept = kept;
         is = is;
       }
@@ -158,7 +197,7 @@ module _ (l : Ledger) (tx : Tx) (k : IsKept l) (within : is_within_limits tx ≡
   fails : is_failed tx.scripts ≡ true → IsFailing l tx
   fails e =
       let by = by_failed tx.scripts l tx e in
-      let kept : IsKept (after_failed l tx) = subst (λ (x : Ledger). IsKept x) (sym by.1) kept_after in
+      let kept : IsKept (after_failed l tx) = kept_after (after_failed l tx) by.1 refl (used-more l.used tx.id l.proposals k.proposed) k.voted in
       let n = length tx.outputs in
       let back = option_to_list tx.collateral_return in
       record {
@@ -178,10 +217,10 @@ module _ (l : Ledger) (tx : Tx) (k : IsKept l) (within : is_within_limits tx ≡
       }
 
 -- the same by what is said of the ledger as it was passed
-pub passing : (l now : Ledger) (tx : Tx) (changes : Changed) → l ≡ now → IsKept l → is_within_limits tx ≡ true → is_allowed now tx ≡ true → tx.proposals ≡ [] → is_failed tx.scripts ≡ false
-    → laid_over changes now ≡ last_draft now tx → l.proposals ≡ [] → IsPassing l tx changes
-passing l now tx changes e k within allowed none passed drafted nothing =
-    passes l tx k within (ap (λ (x : Ledger). is_allowed x tx) e ∙ allowed) changes passed (subst (λ (x : Ledger). laid_over changes x ≡ last_draft x tx) (sym e) drafted) none nothing
+pub passing : (l now : Ledger) (tx : Tx) (changes : Changed) → l ≡ now → IsKept l → is_within_limits tx ≡ true → is_allowed now tx ≡ true → is_failed tx.scripts ≡ false
+    → laid_over changes now ≡ last_draft now tx → IsPassing l tx changes
+passing l now tx changes e k within allowed passed drafted =
+    passes l tx k within (ap (λ (x : Ledger). is_allowed x tx) e ∙ allowed) changes passed (subst (λ (x : Ledger). laid_over changes x ≡ last_draft x tx) (sym e) drafted)
 
 pub failing : (l now : Ledger) (tx : Tx) → l ≡ now → IsKept l → is_within_limits tx ≡ true → is_allowed now tx ≡ true → is_failed tx.scripts ≡ true → IsFailing l tx
 failing l now tx e k within allowed failed = fails l tx k within (ap (λ (x : Ledger). is_allowed x tx) e ∙ allowed) failed

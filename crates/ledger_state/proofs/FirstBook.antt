@@ -1,4 +1,4 @@
--- A book into which the accounts and outputs of a genesis are put one by one.
+-- Books into which the accounts, outputs, pools and DReps of a genesis are put one by one.
 use Rattle.std.proofs.Common.{◌≡◌, ℕ, ◌+◌, ◌<◌, ◌≤◌, List, [], ◌∷◌, Option, None, false, drop, fold, get_or, length, map, sum_by, refl, ap, sym, subst, ◌∙◌, arith}
 use Rattle.std.specs.declared.cmp.Ordering.{Ordering}
 use Rattle.std.specs.declared.cmp.Ordering.TheVariants.{Less, Equal, Greater}
@@ -14,20 +14,25 @@ use Rattle.gov_ids.specs.declared.Drep.{Drep}
 use Rattle.gov_ids.specs.declared.OutRef.{OutRef}
 use Rattle.gov_ids.specs.declared.PoolId.{PoolId}
 use Rattle.gov_ids.specs.declared.TxId.{TxId}
-use Rattle.gov_ids.specs.Orders.{credential_cmp, outref_cmp, txid_cmp}
+use Rattle.gov_ids.specs.Orders.{credential_cmp, outref_cmp, pool_cmp, txid_cmp}
 use Rattle.gov_ids.proofs.Totals.{credential_total, outref_total}
 use Rattle.book_records.specs.Outputs.{lovelace_in}
+use Rattle.book_records.specs.declared.DrepState.{DrepState}
 use Rattle.book_records.specs.declared.Output.{Output}
 use Rattle.book_records.specs.declared.Registered.{Registered}
+use Rattle.book_records.specs.declared.pool.Pool.{Pool}
+use Rattle.book_records.specs.Pools.{pool_after}
 use Rattle.maps.proofs.Credits.{sum_by-plus}
 use Rattle.maps.proofs.Fresh.{AreFresh, distinct_from_repeats, fresh_from_absent}
 use Rattle.maps.proofs.Sums.{sum_values-with_value_absent}
 use Rattle.maps.specs.Maps.{sum_values, value_at, with_key, with_value, with_values}
 use Rattle.maps.specs.Words.{repeats}
 use Rattle.tx_records.specs.declared.genesis.Genesis.{Genesis}
+use Rattle.tx_records.specs.declared.genesis.GenesisPool.{GenesisPool}
 use Rattle.tx_records.specs.declared.limits.TheConstants.{SUPPLY_LIMIT}
 use Rattle.genesis_balance.proofs.Start.{sum-started, unbroken_genesis}
 use Rattle.run_model.specs.Genesis.{genesis_fault, ledger_of_genesis}
+use Rattle.drep_book.specs.Dreps.{Dreps}
 use Rattle.stake_book.specs.Stakes.{balances_in}
 use Rattle.utxo_set.specs.Utxos.{Utxos}
 use Rattle.ledger_state.proofs.Walks.{walk_on}
@@ -152,3 +157,35 @@ module _ (new : List (OutRef × Address × ℕ)) (u v w : Utxos) (i : ℕ) (d : 
   pub first_rest : v ≡ record u { outputs = with_value outref_cmp item.0 (first_entry item).1 u.outputs } → w ≡ record v { used = with_key txid_cmp item.0.tx v.used }
       → with_first (drop (i + 1) new) w ≡ with_first (drop i new) u
   first_rest p q = sym (at_drop_more (λ (left : List (OutRef × Address × ℕ)). with_first left u) new i d l ∙ rw (q, p))
+
+-- ---- the pools
+
+-- what is registered of a pool of a genesis
+abbrev pub first_pool : GenesisPool → Pool
+first_pool p = pool_after p.deposit (record { cost = p.cost; pledge = p.pledge; margin = p.margin; account = p.account }) None
+
+-- with these pools
+abbrev pub with_listed_pools : List GenesisPool → List (PoolId × Pool) → List (PoolId × Pool)
+with_listed_pools new es = with_values pool_cmp (map (λ (p : GenesisPool). (p.pool, first_pool p)) new) es
+
+pub pools_next : (new : List GenesisPool) (i : ℕ) (d p : GenesisPool) (v : Pool) (es fs : List (PoolId × Pool)) → i < length new → p ≡ get_or new i d → v ≡ first_pool p → fs ≡ with_value pool_cmp p.pool v es
+    → with_listed_pools (drop (i + 1) new) fs ≡ with_listed_pools (drop i new) es
+pools_next new i d p v es fs l here is put =
+    walk_on with_listed_pools (λ es p. with_value pool_cmp p.pool (first_pool p) es) (λ p rest es. refl) new i d es fs l
+    (put ∙ ap (λ (x : Pool). with_value pool_cmp p.pool x es) is ∙ ap (λ (x : GenesisPool). with_value pool_cmp x.pool (first_pool x) es) here)
+
+-- ---- the DReps
+
+abbrev pub Drep3 : Type 0
+Drep3 = Credential × ℕ × ℕ
+
+abbrev pub first_drep : Drep3 → DrepState
+first_drep d = record { deposit = d.1; expiry = d.2 }
+
+-- with these DReps
+abbrev pub with_listed_dreps : List Drep3 → Dreps → Dreps
+with_listed_dreps new b = record b { dreps = with_values credential_cmp (map (λ (d : Drep3). (d.0, first_drep d)) new) b.dreps }
+
+pub dreps_next : (new : List Drep3) (i : ℕ) (d : Drep3) (b c : Dreps) → i < length new → c ≡ record b { dreps = with_value credential_cmp (get_or new i d).0 (first_drep (get_or new i d)) b.dreps }
+    → with_listed_dreps (drop (i + 1) new) c ≡ with_listed_dreps (drop i new) b
+dreps_next new i d b c l e = walk_on with_listed_dreps (λ (b : Dreps) (p : Drep3). record b { dreps = with_value credential_cmp p.0 (first_drep p) b.dreps }) (λ p rest b. refl) new i d b c l e

@@ -1,4 +1,4 @@
--- Changes laid over a map: what they make of each key, and one change more.
+-- Values and changes laid over a map: what they make of each key, and one more of them.
 use Rattle.std.proofs.Common.{◌≡◌, List, [], ◌∷◌, Bool, true, false, cond, fold, Option, Some, None, unwrap_or, refl, ap, sym, ◌∙◌}
 use Rattle.std.specs.declared.cmp.Ordering.{Ordering}
 use Rattle.std.specs.Ordering.{eq_by_cmp}
@@ -6,12 +6,15 @@ use Rattle.std.specs.Cmp.{IsTotalOrder}
 use Rattle.std.specs.FinMap.{IsAntisymmetric}
 use Rattle.std.specs.List.Sorted.{IsStrictlySortedBy}
 use Rattle.std.specs.Map.{keys_of}
+use Rattle.std.specs.Option.{option_or}
 use Rattle.std.proofs.lemmas.Cmp.{eq_by_cmp_equiv}
-use Rattle.maps.proofs.Kept.{IsMap-with_value, IsMap-without_key}
+use Rattle.std.proofs.lemmas.Map.Keys.{IsDistinct-from_sorted}
+use Rattle.maps.proofs.Kept.{IsMap-with_value, IsMap-with_values, IsMap-without_key}
 use Rattle.maps.proofs.Lookups.{none_below, value_at-with_value, value_at-without_key}
 use Rattle.maps.proofs.Same.{map_from_value_at}
+use Rattle.maps.proofs.Several.{value_at-with_values_distinct}
 use Rattle.maps.proofs.Ties.{all_tied, is_equal}
-use Rattle.maps.specs.Maps.{IsMap, value_at, with_value}
+use Rattle.maps.specs.Maps.{IsMap, value_at, with_value, with_values}
 use Rattle.maps.specs.Replaced.{with_option}
 
 -- a change that stands decides, and beside it what was there
@@ -19,7 +22,27 @@ decides : {X : Type 0} (b : Bool) (r : Option X) (s : Option (Option X)) (v : Op
 decides true r s v = refl
 decides false r s v = refl
 
+-- a value that is put in decides, and beside it what stands first
+put_first : {X : Type 0} (b : Bool) (v : X) (s t : Option X) → option_or (cond b (Some v) s) t ≡ cond b (Some v) (option_or s t)
+put_first true v s t = refl
+put_first false v s t = refl
+
 module _ {K X : Type 0} {cmp : K → K → Ordering} (o : IsTotalOrder cmp) where
+  -- the value at a key among those that are put in, and what was there where there is none
+  pub value_at-with_map : (new es : List (K × X)) (q : K) → IsMap cmp new → value_at cmp (with_values cmp new es) q ≡ option_or (value_at cmp new q) (value_at cmp es q)
+  value_at-with_map new es q g = value_at-with_values_distinct o new es q (IsDistinct-from_sorted cmp (keys_of new) g)
+
+  -- one more value among those that are put in is put in last
+  pub with_values-with_value : IsAntisymmetric cmp → (k : K) (v : X) (new es : List (K × X)) → IsMap cmp new → IsMap cmp es → with_values cmp (with_value cmp k v new) es ≡ with_value cmp k v (with_values cmp new es)
+  with_values-with_value exact k v new es g h =
+      map_from_value_at o exact (with_values cmp (with_value cmp k v new) es) (with_value cmp k v (with_values cmp new es))
+      (IsMap-with_values o (with_value cmp k v new) es h) (IsMap-with_value o k v (with_values cmp new es) (IsMap-with_values o new es h))
+      (λ q. value_at-with_map (with_value cmp k v new) es q (IsMap-with_value o k v new g)
+      ∙ ap (λ (x : Option X). option_or x (value_at cmp es q)) (value_at-with_value o k v new q)
+      ∙ put_first (eq_by_cmp cmp k q) v (value_at cmp new q) (value_at cmp es q)
+      ∙ ap (λ (x : Option X). cond (eq_by_cmp cmp k q) (Some v) x) (sym (value_at-with_map new es q g))
+      ∙ sym (value_at-with_value o k v (with_values cmp new es) q))
+
   pub value_at-with_option : (k : K) (r : Option X) (es : List (K × X)) (q : K) → IsMap cmp es → value_at cmp (with_option cmp k r es) q ≡ cond (eq_by_cmp cmp k q) r (value_at cmp es q)
   value_at-with_option k None es q h = value_at-without_key o k es q h
   value_at-with_option k (Some v) es q h = value_at-with_value o k v es q

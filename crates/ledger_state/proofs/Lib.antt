@@ -3,9 +3,17 @@ pub mod Walks
 pub mod MemberWalks
 pub mod Listings
 pub mod Laid
+pub mod Replacing
 pub mod Frozen
 pub mod FirstBook
 pub mod Starting
 pub mod Balances
+pub mod Proposing
+pub mod Cleared
 pub mod Committing
 pub mod Parts
+pub mod AccountChanging
+pub mod Timely
+pub mod DraftChanging
+pub mod HotNames
+pub mod Numbers

@@ -1,22 +1,27 @@
 -- The parts that the code leaves are those of the ledger after the transaction.
-use Rattle.std.proofs.Common.{◌≡◌, ℕ, ◌+◌, List, ap, arith, ◌∙◌}
+use Rattle.std.proofs.Common.{◌≡◌, ℕ, ◌+◌, List, ◌++◌, map, ap, arith, ◌∙◌}
 use Rattle.book_records.specs.declared.Output.{Output}
+use Rattle.book_records.specs.declared.pool.Pool.{Pool}
 use Rattle.book_records.specs.Outputs.{lovelace_in}
 use Rattle.gov_ids.specs.declared.Credential.{Credential}
 use Rattle.gov_ids.specs.declared.OutRef.{OutRef}
+use Rattle.gov_ids.specs.declared.PoolId.{PoolId}
 use Rattle.gov_ids.specs.declared.TxId.{TxId}
-use Rattle.gov_ids.specs.Orders.{credential_cmp, outref_cmp, txid_cmp}
+use Rattle.gov_ids.specs.Orders.{credential_cmp, outref_cmp, pool_cmp, txid_cmp}
+use Rattle.gov_actions.specs.declared.action.Proposal.{Proposal}
 use Rattle.gov_actions.specs.declared.state.HotState.{HotState}
 use Rattle.maps.specs.Maps.{with_key, with_values, without_keys}
 use Rattle.tx_records.specs.declared.tx.Tx.{Tx}
 use Rattle.ledger_model.specs.Ledger.{Ledger}
-use Rattle.ledger_model.specs.Transaction.{after_failed, made_outputs, made_return}
+use Rattle.ledger_model.specs.Transaction.{after_failed, made_outputs, made_proposals, made_return, with_votes}
 use Rattle.ledger_model.specs.UtxoRules.{collateral_left, collateral_sum}
-use Rattle.stake_book.specs.Stakes.{Stakes, accounts_of, with_used}
+use Rattle.drep_book.specs.Dreps.{Dreps}
+use Rattle.stake_book.specs.Stakes.{Stakes, accounts_of, with_used, without_dreps}
 use Rattle.utxo_set.specs.Utxos.{Utxos}
 use Rattle.view_map.specs.View.{frozen_of}
 use Rattle.ledger_state.specs.Books.{KeepsAccounts, KeepsOutputs}
-use Rattle.ledger_state.specs.Drafts.{Changed, with_registrations}
+use Rattle.ledger_state.specs.ChangedDreps as changed_dreps
+use Rattle.ledger_state.specs.Drafts.{Changed, with_registrations, without_votes_of}
 use Rattle.ledger_state.proofs.Committing.{IsFailing, after_changes}
 
 -- a book from which outputs were taken
@@ -49,20 +54,27 @@ abbrev pub with_book : Stakes → Ledger → Ledger
 with_book s l = record l { outputs = s.outputs.outputs; used = s.outputs.used; accounts = accounts_of s }
 
 module _ (l : Ledger) (tx : Tx) (s : Stakes) where
-  pub passed_parts : (changes : Changed) (a t : Stakes) (hot : List (Credential × HotState)) → accounts_of a ≡ with_registrations changes.accounts (accounts_of s) → KeepsOutputs s a
-      → IsMade a t tx.inputs (made_outputs tx) tx.id → hot ≡ with_values credential_cmp changes.hot l.hot
-      → record (with_book t l) { hot = hot; fees = l.fees + tx.fee; donations = l.donations + tx.donation } ≡ after_changes (with_book s l) tx changes
-  passed_parts changes a t hot laid k m warm =
+  pub passed_parts : (changes : Changed) (a t : Stakes) (pools : List (PoolId × Pool)) (dreps : Dreps) (hot : List (Credential × HotState)) (proposals : List Proposal)
+      → accounts_of a ≡ with_registrations changes.accounts (without_dreps changes.left (accounts_of s)) → KeepsOutputs s a
+      → IsMade a t tx.inputs (made_outputs tx) tx.id → pools ≡ with_values pool_cmp changes.pools l.pools
+      → dreps ≡ changed_dreps.laid_over (record { dreps = changes.dreps; refreshed = changes.refreshed }) l.epoch (record { dreps = l.dreps; dormant = l.dormant })
+      → hot ≡ with_values credential_cmp changes.hot l.hot → proposals ≡ map (with_votes tx) (map (without_votes_of changes.left) l.proposals) ++ made_proposals l tx
+      → record (with_book t l) { dormant = dreps.dormant; pools = pools; dreps = dreps.dreps; hot = hot; proposals = proposals; fees = l.fees + tx.fee; donations = l.donations + tx.donation } ≡ after_changes (with_book s l) tx changes
+  passed_parts changes a t pools dreps hot proposals laid k m pooled standing warm proposed =
       let outputs = m.outputs ∙ ap (λ (u : Utxos). record {
         outputs = with_values outref_cmp (made_outputs tx) (without_keys outref_cmp tx.inputs u.outputs);
         used = with_key txid_cmp tx.id u.used;
       }) k.outputs in
       let accounts = m.kept.accounts ∙ laid in
       λ i. record l {
+        dormant = (standing i).dormant;
         outputs = (outputs i).outputs;
         used = (outputs i).used;
         accounts = accounts i;
+        pools = pooled i;
+        dreps = (standing i).dreps;
         hot = warm i;
+        proposals = proposed i;
         fees = l.fees + tx.fee;
         donations = l.donations + tx.donation;
       }

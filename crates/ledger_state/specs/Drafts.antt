@@ -1,16 +1,27 @@
 -- A draft of a transaction as contracts see it, what changes it, and what changes make of a ledger. (CERTS of the formal specification; that changes are laid over a ledger is own)
-use Rattle.std.specs.Prelude.{◌≡◌, ℕ, ◌+◌, List, Option, Some, None, fold, option_map}
-use Rattle.maps.specs.Maps.{with_values}
+use Rattle.std.specs.Prelude.{◌≡◌, ℕ, ◌+◌, ◌≤◌, ◌^◌, Bool, true, false, not, List, Option, Some, None, fold, map, option_map, if◌then◌else◌}
+use Rattle.maps.specs.Maps.{entries_where, has_member, value_at, with_value, with_values}
 use Rattle.maps.specs.Replaced.{with_option}
 use Rattle.gov_ids.specs.declared.Credential.{Credential}
-use Rattle.gov_ids.specs.Orders.{credential_cmp}
+use Rattle.gov_ids.specs.declared.PoolId.{PoolId}
+use Rattle.gov_ids.specs.declared.Voter.{Voter}
+use Rattle.gov_ids.specs.declared.Voter.TheVariants as voter
+use Rattle.gov_ids.specs.Orders.{credential_cmp, pool_cmp}
+use Rattle.book_records.specs.declared.DrepState.{DrepState}
 use Rattle.book_records.specs.declared.Registered.{Registered}
+use Rattle.book_records.specs.declared.pool.Pool.{Pool}
+use Rattle.book_records.specs.declared.pool.PoolTerms.{PoolTerms}
+use Rattle.book_records.specs.Dormancy.{with_dormant_added}
+use Rattle.book_records.specs.Pools.{with_registration as with_pool_registration, with_retirement}
+use Rattle.gov_actions.specs.declared.action.Proposal.{Proposal}
 use Rattle.gov_actions.specs.declared.state.HotState.{HotState}
 use Rattle.tx_records.specs.declared.tx.Scripts.{Scripts}
 use Rattle.tx_records.specs.declared.tx.Scripts.TheVariants.{Failed}
 use Rattle.tx_records.specs.declared.tx.Tx.{Tx}
-use Rattle.ledger_model.specs.Ledger.{Ledger, account_at}
+use Rattle.ledger_model.specs.Ledger.{Ledger, account_at, is_pool}
+use Rattle.ledger_model.specs.Changes.{dormant_added, drep_left}
 use Rattle.ledger_model.specs.Draft.{last_draft}
+use Rattle.stake_book.specs.Stakes.{without_dreps}
 
 -- the ledger before the transaction, the one that its changes so far make of it, what its certificates gave back and paid so far, and how many changes were made
 pub record Drafted : Type 0 where
@@ -20,9 +31,17 @@ pub record Drafted : Type 0 where
   pub deposits : ℕ
   pub changes : ℕ
 
--- the registrations that changed, none where an account left, and the hot entries that changed
+-- what a draft changed
 pub record Changed : Type 0 where
+  -- the registrations, none where an account left
   pub accounts : List (Credential × Option Registered)
+  -- the DReps that left: their votes left, and the delegations to them that are not among these registrations ended
+  pub left : List Credential
+  pub pools : List (PoolId × Pool)
+  -- the DReps, none where one left, and whether the dormant epochs were added to those before
+  pub dreps : List (Credential × Option DrepState)
+  pub refreshed : Bool
+  -- the hot entries
   pub hot : List (Credential × HotState)
 
 -- the registrations with that one for c, or without one
@@ -33,9 +52,39 @@ with_registration c to accounts = with_option credential_cmp c to accounts
 abbrev pub with_registrations : List (Credential × Option Registered) → List (Credential × Registered) → List (Credential × Registered)
 with_registrations changes accounts = fold (λ es p. with_registration p.0 p.1 es) accounts changes
 
+-- the DReps with each of these changes
+abbrev pub with_dreps : List (Credential × Option DrepState) → List (Credential × DrepState) → List (Credential × DrepState)
+with_dreps changes dreps = fold (λ es p. with_option credential_cmp p.0 p.1 es) dreps changes
+
+-- by whether they were added to the DReps, the dormant epochs that are left
+abbrev pub dormant_by : Bool → ℕ → ℕ
+dormant_by true dormant = 0
+dormant_by false dormant = dormant
+
+-- and the DReps
+abbrev pub dreps_by : Bool → ℕ → ℕ → List (Credential × DrepState) → List (Credential × DrepState)
+dreps_by true epoch dormant dreps = with_dormant_added epoch dormant dreps
+dreps_by false epoch dormant dreps = dreps
+
+-- the voter is one of these DReps
+abbrev pub is_drep_among : List Credential → Voter → Bool
+is_drep_among dreps (voter.Drep c) = has_member credential_cmp dreps c
+is_drep_among dreps _ = false
+
+-- a proposal without the votes of these DReps
+abbrev pub without_votes_of : List Credential → Proposal → Proposal
+without_votes_of dreps p = record p { votes = entries_where (λ v x. not (is_drep_among dreps v)) p.votes }
+
 -- a ledger with these changes
 abbrev pub laid_over : Changed → Ledger → Ledger
-laid_over changes l = record l { accounts = with_registrations changes.accounts l.accounts; hot = with_values credential_cmp changes.hot l.hot }
+laid_over changes l = record l {
+  dormant = dormant_by changes.refreshed l.dormant;
+  accounts = with_registrations changes.accounts (without_dreps changes.left l.accounts);
+  pools = with_values pool_cmp changes.pools l.pools;
+  dreps = with_dreps changes.dreps (dreps_by changes.refreshed l.epoch l.dormant l.dreps);
+  hot = with_values credential_cmp changes.hot l.hot;
+  proposals = map (without_votes_of changes.left) l.proposals;
+}
 
 -- a draft in which nothing is changed yet
 abbrev pub draft_at : Ledger → Drafted
@@ -68,6 +117,58 @@ with_account c to d = record d {
   deposits = d.deposits + paid_by (deposit_in (account_at d.ledger c)) (deposit_in to);
   changes = d.changes + 1;
 }
+
+-- the draft with this pool in place of what the id had, for which so much was paid
+abbrev pub with_pool : PoolId → Pool → ℕ → Drafted → Drafted
+with_pool p pool paid d = record d {
+  ledger = record d.ledger { pools = with_value pool_cmp p pool d.ledger.pools };
+  deposits = d.deposits + paid;
+  changes = d.changes + 1;
+}
+
+-- the draft with this pool registered: a first registration pays the deposit, a later one nothing
+abbrev pub with_pool_registered : PoolId → PoolTerms → ℕ → Drafted → Drafted
+with_pool_registered p terms deposit d = record d {
+  ledger = record d.ledger { pools = with_pool_registration p terms deposit d.ledger.pools };
+  deposits = d.deposits + (if is_pool d.ledger p then 0 else deposit);
+  changes = d.changes + 1;
+}
+
+-- the draft with this pool retiring
+abbrev pub with_pool_retiring : PoolId → ℕ → Drafted → Drafted
+with_pool_retiring p epoch d =
+    record d { ledger = record d.ledger { pools = with_retirement p epoch d.ledger.pools }; changes = d.changes + 1 }
+
+-- the deposit of a DRep
+abbrev pub drep_deposit_in : Option DrepState → Option ℕ
+drep_deposit_in s = option_map (λ (x : DrepState). x.deposit) s
+
+-- the ledger with that DRep for c, or without one, its votes and the delegations to it
+abbrev pub having_drep : Credential → Option DrepState → Ledger → Ledger
+having_drep c None l = drep_left c l
+having_drep c (Some s) l = record l { dreps = with_value credential_cmp c s l.dreps }
+
+-- the draft with that DRep for c, or without one
+abbrev pub with_drep : Credential → Option DrepState → Drafted → Drafted
+with_drep c to d = record d {
+  ledger = having_drep c to d.ledger;
+  refunds = d.refunds + given_back (drep_deposit_in (value_at credential_cmp d.ledger.dreps c)) (drep_deposit_in to);
+  deposits = d.deposits + paid_by (drep_deposit_in (value_at credential_cmp d.ledger.dreps c)) (drep_deposit_in to);
+  changes = d.changes + 1;
+}
+
+-- the draft with that entry for a cold key
+abbrev pub with_hot : Credential → HotState → Drafted → Drafted
+with_hot cold s d =
+    record d { ledger = record d.ledger { hot = with_value credential_cmp cold s d.ledger.hot }; changes = d.changes + 1 }
+
+-- the draft with the dormant epochs added
+abbrev pub with_refresh : Drafted → Drafted
+with_refresh d = record d { ledger = dormant_added d.ledger; changes = d.changes + 1 }
+
+-- the expiry and the dormant count together are within the dormant bound
+abbrev pub IsTimely : Ledger → DrepState → Type 0
+IsTimely l s = s.expiry + l.dormant ≤ 2 ^ 62 + 2 ^ 32 + l.epoch
 
 -- by whether the scripts failed
 abbrev pub draft_by : Scripts → Ledger → Tx → Ledger

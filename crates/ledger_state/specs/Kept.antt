@@ -1,22 +1,32 @@
--- What the program's ledger keeps true, and which parts of it have books so far. (Own)
-use Rattle.std.specs.Prelude.{◌≡◌, ◌≤◌, []}
-use Rattle.ledger_model.specs.Ledger.{Ledger}
+-- What the program's ledger keeps true, and the ledger that its parts are. (Own)
+use Rattle.std.specs.Prelude.{◌≡◌, ◌≤◌, ◌^◌, true}
+use Rattle.std.specs.List.{AllByRecursion}
+use Rattle.ledger_model.specs.Ledger.{Ledger, params_of}
 use Rattle.ledger_model.specs.Sound.{IsSound}
 use Rattle.ledger_model.specs.Supply.{supply_of}
+use Rattle.run_model.specs.Laws.{IsWithinDormantBound}
 use Rattle.tx_records.specs.declared.limits.TheConstants.{SUPPLY_LIMIT}
-use Rattle.gov_ids.specs.Orders.{credential_cmp}
+use Rattle.gov_actions.specs.declared.action.Proposal.{Proposal}
+use Rattle.gov_ids.specs.Orders.{credential_cmp, txid_cmp}
+use Rattle.maps.specs.Maps.{has_member}
 use Rattle.view_map.specs.View.{frozen_of}
+use Rattle.proposal_store.specs.Store.{AllOrdered}
 use Rattle.stake_book.specs.Stakes.{registrations}
 use Rattle.ledger_state.specs.Standing.{Standing}
 use Rattle.ledger_state.specs.declared.state.LedgerState.TheInside.{Inside}
 
--- its maps are maps, and its pots hold the supply, which is within its limit
+-- its maps are maps, its pots hold the supply, which is within its limit, its epoch, its expiries and its activity fit, and each proposal has the id of a used transaction and the votes of each voter once
 pub record IsKept (l : Ledger) : Type 0 where
   pub sound : IsSound l
   pub balanced : supply_of l ≡ l.supply
   pub within : l.supply ≤ SUPPLY_LIMIT
+  pub early : l.epoch ≤ 2 ^ 62
+  pub timely : IsWithinDormantBound l
+  pub active : (params_of l).drep_activity ≤ 2 ^ 32
+  pub proposed : AllByRecursion (λ (p : Proposal). has_member txid_cmp l.used p.id.tx ≡ true) l.proposals
+  pub voted : AllOrdered l.proposals
 
--- the ledger that these parts are: there is no pool, no DRep and no proposal, since these books are not there yet
+-- the ledger that these parts are
 abbrev pub ledger_view : Inside → Ledger
 ledger_view a = record {
   network = a.network;
@@ -24,7 +34,7 @@ ledger_view a = record {
   supply = a.supply;
   slot = a.slot;
   epoch = a.epoch;
-  dormant = 0;
+  dormant = a.dreps.dormant;
   reserves = a.reserves;
   fees = a.fees;
   donations = a.donations;
@@ -32,10 +42,10 @@ ledger_view a = record {
   outputs = a.stake.outputs.outputs;
   used = a.stake.outputs.used;
   accounts = registrations a.stake.accounts.live;
-  pools = [];
-  dreps = [];
+  pools = a.pools;
+  dreps = a.dreps.dreps;
   hot = a.hot;
-  proposals = [];
+  proposals = a.proposals;
 }
 
 -- and what was frozen beside it

@@ -1,8 +1,13 @@
 pub mod Kept
 pub mod Standing
-pub mod Built
 pub mod Starts
 pub mod Drafts
+pub mod Moved
 pub mod Listing
 pub mod Members
 pub mod Books
+pub mod ChangedAccounts
+pub mod ChangedDreps
+pub mod ChangedParts
+pub mod Numbered
+pub mod Proposed

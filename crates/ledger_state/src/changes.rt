@@ -1,70 +1,98 @@
-ghost use Rattle.std.specs.Prelude.{◌≡◌, IfOk};
-ghost use Rattle.gov_ids.specs.Orders.{credential_cmp};
+ghost use Rattle.std.specs.Prelude.{◌≡◌, IfOk, map};
+ghost use Rattle.book_records.specs.Dormancy.{AllFit};
+ghost use Rattle.gov_ids.specs.Orders.{credential_cmp, pool_cmp};
 ghost use Rattle.ledger_state.specs.Books.{KeepsOutputs, NoneRises};
-ghost use Rattle.ledger_state.specs.Drafts.{with_registrations};
+ghost use Rattle.ledger_state.specs.ChangedDreps.{laid_over};
+ghost use Rattle.ledger_state.specs.Drafts.{with_registrations, without_votes_of};
 ghost use Rattle.maps.specs.Maps.{IsMap, with_values};
-ghost use Rattle.stake_book.specs.Stakes.{HasRoom, accounts_of};
+ghost use Rattle.proposal_store.specs.Store.{AllOrdered};
+ghost use Rattle.stake_book.specs.Stakes.{HasRoom, accounts_of, without_dreps};
 
-use book_records::Registered;
+use crate::account_changes::AccountChanges;
+use crate::drep_changes::DrepChanges;
+use crate::proposals::without_votes;
+use book_records::Pool;
+use cert_pool::PoolBook;
 use coin_frac::NoMemory;
 use committee_book::HotBook;
+use drep_book::DrepBook;
 use gov_actions::HotState;
-use gov_ids::Credential;
+use gov_ids::{Credential, PoolId};
+use proposal_store::ProposalStore;
 use stake_book::StakeBook;
+use std::alloc::Global;
 use std::collections::BTreeMap;
 use std::marker::Model;
 
 /// What a draft changes. (Own)
 #[derive(Drop)]
 pub struct Changes {
-    pub(crate) accounts: BTreeMap<Credential, Option<Registered>>,
+    pub(crate) accounts: AccountChanges,
+    pub(crate) pools: BTreeMap<PoolId, Pool>,
+    pub(crate) dreps: DrepChanges,
     pub(crate) hot: BTreeMap<Credential, HotState>,
 }
 
 impl Model for Changes {
+    ghost use Rattle.ledger_state.specs.ChangedParts.{changed_of};
     ghost use Rattle.ledger_state.specs.Drafts.{Changed};
 
     ghost Value = { Changed };
 
-    ghost view = { λ a. record { accounts = a.accounts.entries; hot = a.hot.entries } };
+    ghost view = { λ a. changed_of a.accounts a.pools.entries a.dreps a.hot.entries };
 }
 
 impl Changes {
-    /// The book with the changed registrations and the hot entries with the changed ones. No change raises a balance, so there is room for all.
+    /// The books of an epoch with these changes. No change raises a balance, so there is room for all.
     pub(crate) fn laid_over(
         self,
-        stake: StakeBook,
-        hot: HotBook,
-    ) -> Result<(StakeBook, HotBook), NoMemory>
-        requires in_order { IsMap credential_cmp (accounts_of stake) }
-        requires room { HasRoom 0 stake }
-        requires lower { NoneRises self.accounts (accounts_of stake) }
-        ensures accounts { IfOk result (λ after. accounts_of after.0 ≡ with_registrations self.accounts (accounts_of stake)) }
-        ensures rest { IfOk result (λ after. KeepsOutputs stake after.0) }
-        ensures hot { IfOk result (λ after. after.1 ≡ with_values credential_cmp self.hot hot) }
+        alloc: Global,
+        epoch: u64,
+        books: Books,
+    ) -> Result<Books, NoMemory>
+        requires stake { IsMap credential_cmp (accounts_of books.stake) × HasRoom 0 books.stake }
+        requires lower { NoneRises self.accounts (without_dreps self.left (accounts_of books.stake)) }
+        requires fit { AllFit books.dreps.dormant books.dreps.dreps }
+        requires voted { AllOrdered books.proposals }
+        ensures accounts { IfOk result (λ after. accounts_of after.stake ≡
+            with_registrations self.accounts (without_dreps self.left (accounts_of books.stake))) }
+        ensures rest { IfOk result (λ after. KeepsOutputs books.stake after.stake) }
+        ensures pools { IfOk result (λ after. after.pools ≡ with_values pool_cmp self.pools books.pools) }
+        ensures dreps { IfOk result (λ after. after.dreps ≡
+            laid_over (record { dreps = self.dreps; refreshed = self.refreshed }) epoch books.dreps) }
+        ensures hot { IfOk result (λ after. after.hot ≡ with_values credential_cmp self.hot books.hot) }
+        ensures proposals { IfOk result (λ after. after.proposals ≡ map (without_votes_of self.left) books.proposals) }
     {
-        let stake = with_accounts(stake, self.accounts)?;
-        let hot = with_hot_entries(hot, self.hot)?;
-        Ok((stake, hot))
+        let left = self.accounts.left(alloc)?;
+        Ok(Books {
+            stake: self.accounts.lay_over(books.stake, &left)?,
+            pools: with_pools(books.pools, self.pools)?,
+            dreps: self.dreps.lay_over(books.dreps, epoch)?,
+            hot: with_hot_entries(books.hot, self.hot)?,
+            proposals: without_votes(books.proposals, &left),
+        })
     }
 }
 
-/// The book with these registrations, none of which raises a balance.
-fn with_accounts(
-    stake: StakeBook,
-    changed: BTreeMap<Credential, Option<Registered>>,
-) -> Result<StakeBook, NoMemory>
-    requires in_order { IsMap credential_cmp (accounts_of stake) }
-    requires room { HasRoom 0 stake }
-    requires lower { NoneRises changed.entries (accounts_of stake) }
-    ensures accounts { IfOk result (λ after. accounts_of after ≡ with_registrations changed.entries (accounts_of stake)) }
-    ensures rest { IfOk result (λ after. KeepsOutputs stake after) }
+/// The books that changes are laid over.
+#[derive(Drop)]
+pub(crate) struct Books {
+    pub stake: StakeBook,
+    pub pools: PoolBook,
+    pub dreps: DrepBook,
+    pub hot: HotBook,
+    pub proposals: ProposalStore,
+}
+
+/// The pools with these.
+fn with_pools(pools: PoolBook, changed: BTreeMap<PoolId, Pool>) -> Result<PoolBook, NoMemory>
+    ensures { IfOk result (λ after. after ≡ with_values pool_cmp changed.entries pools) }
 {
-    let mut stake = stake;
-    for (credential, registration) in changed {
-        stake.set_account(credential, registration)?;
+    let mut pools = pools;
+    for (p, pool) in changed {
+        pools.restore(p, Some(pool))?;
     }
-    Ok(stake)
+    Ok(pools)
 }
 
 /// The hot entries with these.

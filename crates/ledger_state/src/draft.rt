@@ -1,13 +1,22 @@
-ghost use Rattle.std.specs.Prelude.{◌≡◌, ◌<◌, ◌^◌, OnOk, OnErr};
+ghost use Rattle.std.specs.Prelude.{◌≡◌, ◌+◌, ◌<◌, ◌≤◌, ◌^◌, true, Some, None, is_some, if◌then◌else◌, OnOk, OnErr};
+ghost use Rattle.std.specs.Option.{ForSome, option_copied, option_or};
+ghost use Rattle.gov_model.specs.Hot.{is_named};
 ghost use Rattle.gov_ids.specs.Orders.{credential_cmp, pool_cmp};
-ghost use Rattle.ledger_model.specs.Ledger.{account_at};
-ghost use Rattle.ledger_state.specs.Drafts.{IsDraftOf, deposit_in, draft_at, given_back, laid_over, paid_by, with_account};
+ghost use Rattle.ledger_model.specs.Ledger.{account_at, is_pool};
+ghost use Rattle.ledger_state.specs.Drafts.{IsDraftOf, IsTimely, deposit_in, draft_at, drep_deposit_in, given_back, laid_over, paid_by};
+ghost use Rattle.ledger_state.specs.Drafts.{with_account, with_drep, with_hot, with_pool, with_pool_registered};
+ghost use Rattle.ledger_state.specs.Drafts.{with_pool_retiring, with_refresh};
 ghost use Rattle.maps.specs.Maps.{IsMap, value_at};
+ghost use Rattle.run_model.specs.Laws.{IsWithinDormantBound};
 
+use crate::account_changes::AccountChanges;
 use crate::changes::Changes;
+use crate::drep_changes::DrepChanges;
 use crate::state::LedgerState;
-use book_records::{DrepState, Pool, Registered};
+use book_records::{DrepState, Pool, PoolTerms, Registered};
+use cert_pool::registered;
 use coin_frac::NoMemory;
+use committee_book::is_hot_key;
 use gov_actions::HotState;
 use gov_ids::{Credential, PoolId};
 use std::alloc::Global;
@@ -18,7 +27,9 @@ use std::marker::Model;
 #[derive(Drop)]
 pub struct Draft<'a> {
     start: &'a LedgerState,
-    accounts: BTreeMap<Credential, Option<Registered>>,
+    accounts: AccountChanges,
+    pools: BTreeMap<PoolId, Pool>,
+    dreps: DrepChanges,
     hot: BTreeMap<Credential, HotState>,
     refunds: u128,
     deposits: u128,
@@ -26,10 +37,8 @@ pub struct Draft<'a> {
 }
 
 impl<'a> Model for Draft<'a> {
-    ghost use Rattle.std.specs.Prelude.{◌-◌, ◌≤◌, ◌*◌, ◌^◌};
     ghost use Rattle.std.specs.Coded.{codes};
-    ghost use Rattle.gov_ids.specs.Orders.{credential_cmp};
-    ghost use Rattle.maps.specs.Maps.{IsMap};
+    ghost use Rattle.ledger_state.specs.ChangedParts.{IsDrafted, changed_of};
     ghost use Rattle.ledger_state.specs.Drafts.{Drafted, laid_over};
 
     ghost Value = { Drafted };
@@ -38,15 +47,14 @@ impl<'a> Model for Draft<'a> {
 
     ghost view = { λ a. record {
       start = a.start.now.ledger;
-      ledger = laid_over (record { accounts = a.accounts.entries; hot = a.hot.entries }) a.start.now.ledger;
+      ledger = laid_over (changed_of a.accounts a.pools.entries a.dreps a.hot.entries) a.start.now.ledger;
       refunds = a.refunds;
       deposits = a.deposits;
       changes = a.changes;
     } };
 
-    ghost invariant = { λ a.
-        IsMap credential_cmp a.accounts.entries
-        × (a.refunds ≤ a.changes * (2 ^ 64 - 1)) × (a.deposits ≤ a.changes * (2 ^ 64 - 1)) × (a.changes ≤ 2 ^ 32) };
+    ghost invariant = { λ a. IsDrafted a.start.now.ledger (changed_of a.accounts a.pools.entries a.dreps a.hot.entries)
+        a.refunds a.deposits a.accounts.changes a.changes };
 }
 
 /// The deposit of a registration, in lovelace.
@@ -54,6 +62,13 @@ fn deposit_in(account: Option<Registered>) -> Option<u64>
     ensures { result ≡ deposit_in account }
 {
     Some(account?.deposit)
+}
+
+/// The deposit of a DRep, in lovelace.
+fn drep_deposit_in(drep: Option<DrepState>) -> Option<u64>
+    ensures { result ≡ drep_deposit_in drep }
+{
+    Some(drep?.deposit)
 }
 
 /// What an entry that comes pays, which is its deposit where there was none before, in lovelace.
@@ -76,6 +91,23 @@ fn given_back(before: Option<u64>, after: Option<u64>) -> u64
     }
 }
 
+/// The pool that was changed, or else the one before.
+fn latest(changed: Option<&Pool>, before: Option<Pool>) -> Option<Pool>
+    ensures { result ≡ option_or (option_copied changed.entry) before }
+{
+    match changed {
+        Some(pool) => Some(*pool),
+        None => before,
+    }
+}
+
+/// What the registration of a pool pays: its deposit where it was not registered, in lovelace.
+fn paid_for(known: &Option<Pool>, deposit: u64) -> u64
+    ensures { result ≡ (if is_some known.now then 0 else deposit) }
+{
+    if known.is_some() { 0 } else { deposit }
+}
+
 impl<'a> Draft<'a> {
     /// A draft in which nothing is changed yet. It takes no memory. (Own)
     pub fn new(alloc: Global, s: &'a LedgerState) -> Draft<'a>
@@ -83,7 +115,9 @@ impl<'a> Draft<'a> {
     {
         Draft {
             start: s,
-            accounts: BTreeMap::new(alloc),
+            accounts: AccountChanges::new(alloc),
+            pools: BTreeMap::new(alloc),
+            dreps: DrepChanges::new(alloc, s.dreps().dormant() == 0),
             hot: BTreeMap::new(alloc),
             refunds: 0,
             deposits: 0,
@@ -105,22 +139,52 @@ impl<'a> Draft<'a> {
         ensures map { IsMap credential_cmp self.now.ledger.accounts }
         ensures start_map { IsMap credential_cmp self.now.start.accounts }
     {
-        let before = self.start.stake().account(c);
-        self.accounts.get(c).copied().unwrap_or(before)
+        self.accounts.latest(c, self.start.stake().account(c))
     }
 
-    /// A registered pool: none so far, since there is no book of pools yet. (PState of the formal specification)
-    pub fn pool(&self, pool: &PoolId) -> Option<Pool>
-        ensures { result ≡ value_at pool_cmp self.now.ledger.pools pool.now }
+    /// A registered pool, none where it is not registered. (PState of the formal specification)
+    pub fn pool(&self, p: &PoolId) -> Option<Pool>
+        ensures value { result ≡ value_at pool_cmp self.now.ledger.pools p.now }
+        ensures map { IsMap pool_cmp self.now.ledger.pools }
+        ensures start_map { IsMap pool_cmp self.now.start.pools }
     {
-        self.start.pool(pool)
+        let before = self.start.pool(p);
+        latest(self.pools.get(p), before)
     }
 
-    /// A registered DRep: none so far, since there is no book of DReps yet. (GState of the formal specification)
+    /// A registered DRep, none where it is not registered. (GState of the formal specification)
     pub fn drep(&self, c: &Credential) -> Option<DrepState>
-        ensures { result ≡ value_at credential_cmp self.now.ledger.dreps c.now }
+        ensures value { result ≡ value_at credential_cmp self.now.ledger.dreps c.now }
+        ensures map { IsMap credential_cmp self.now.ledger.dreps }
+        ensures bound { IsWithinDormantBound self.now.ledger }
     {
-        self.start.drep(c)
+        self.dreps.latest(c, self.start.dreps(), self.start.epoch())
+    }
+
+    /// How many epochs ended without a proposal since a transaction proposed last. (Own)
+    pub fn dormant(&self) -> u64
+        ensures value { result ≡ self.now.ledger.dormant }
+        ensures within { self.now.ledger.dormant ≤ self.now.ledger.epoch }
+        ensures early { self.now.ledger.epoch ≤ 2 ^ 62 }
+    {
+        self.dreps.dormant(self.start.dreps())
+    }
+
+    /// What a cold key authorized, none where it did nothing. (GState of the formal specification)
+    pub fn hot(&self, cold: &Credential) -> Option<HotState>
+        ensures value { result ≡ value_at credential_cmp self.now.ledger.hot cold.now }
+        ensures map { IsMap credential_cmp self.now.ledger.hot }
+    {
+        let before = self.start.hot().get(cold);
+        self.hot.get(cold).copied().or(before)
+    }
+
+    /// Whether a cold key has this hot key: it may vote for the committee. It walks the hot entries. (GOV of the formal specification)
+    pub fn names_hot(&self, hot: &Credential) -> bool
+        ensures { result ≡ is_named self.now.ledger.hot hot.now }
+    {
+        self.hot.iter().any(|(_, s)| is_hot_key(s, hot))
+            || self.start.hot().others_name_hot(&self.hot, hot)
     }
 
     /// What the certificates so far gave back, and what they paid, in lovelace. (DELEG, POOL and GOVCERT of the formal specification)
@@ -140,9 +204,123 @@ impl<'a> Draft<'a> {
     {
         let before = deposit_in(self.account(&c));
         let after = deposit_in(to);
-        self.accounts.insert(c, to)?;
+        self.accounts.set(c, to)?;
         self.refunds += u128::from(given_back(before, after));
         self.deposits += u128::from(paid_by(before, after));
+        self.changes += 1;
+        Ok(())
+    }
+
+    /// Registers a pool with its terms and its deposit, in lovelace. A first registration adds the deposit to what was paid; a later one sets the future terms, cancels the retirement and pays nothing. Want of memory changes nothing. (POOL of the formal specification)
+    pub fn register_pool(
+        &mut self,
+        p: PoolId,
+        terms: PoolTerms,
+        deposit: u64,
+    ) -> Result<(), NoMemory>
+        requires few { self.old.changes < 2 ^ 32 }
+        ensures ok { OnOk result (self.new ≡ with_pool_registered p terms deposit self.old) }
+        ensures err { OnErr result (self.new ≡ self.old) }
+    {
+        let known = self.pool(&p);
+        let paid = paid_for(&known, deposit);
+        self.put_pool(p, registered(known, terms, deposit), paid)?;
+        Ok(())
+    }
+
+    /// A registered pool retires with the epoch that is named: that epoch begins without it. Want of memory changes nothing. (POOL of the formal specification)
+    pub fn retire_pool(&mut self, p: PoolId, epoch: u64) -> Result<(), NoMemory>
+        requires registered { is_pool self.old.ledger p ≡ true }
+        requires few { self.old.changes < 2 ^ 32 }
+        ensures ok { OnOk result (self.new ≡ with_pool_retiring p epoch self.old) }
+        ensures err { OnErr result (self.new ≡ self.old) }
+    {
+        let Some(mut pool) = self.pool(&p) else {
+            unreachable!()
+        };
+        pool.retires = Some(epoch);
+        self.put_pool(p, pool, 0)?;
+        Ok(())
+    }
+
+    /// The pool in place of what the id had, for which so much was paid, in lovelace.
+    fn put_pool(&mut self, p: PoolId, pool: Pool, paid: u64) -> Result<(), NoMemory>
+        requires few { self.old.changes < 2 ^ 32 }
+        requires in_order { IsMap pool_cmp self.old.start.pools }
+        ensures ok { OnOk result (self.new ≡ with_pool p pool paid self.old) }
+        ensures err { OnErr result (self.new ≡ self.old) }
+    {
+        let terms: PoolTerms = pool.terms;
+        self.pools.insert(p, Pool { terms, ..pool })?;
+        self.deposits += u128::from(paid);
+        self.changes += 1;
+        Ok(())
+    }
+
+    /// Registers a DRep with a credential, changes what is stored of it or ends it. One that comes adds its deposit to what was paid, one that leaves adds its stored deposit to what was given back, and one that changes adds nothing. One that leaves ends the delegations to it, also those that were made in this draft; one that is made later stands. After want of memory the caller drops the draft. (GOVCERT of the formal specification; that delegations end at once is own)
+    pub fn set_drep(&mut self, c: Credential, to: Option<DrepState>) -> Result<(), NoMemory>
+        requires few { self.old.changes < 2 ^ 32 }
+        requires timely { ForSome to (IsTimely self.old.ledger) }
+        ensures ok { OnOk result (self.new ≡ with_drep c to self.old) }
+        ensures start { self.new.start ≡ self.old.start }
+        ensures few_more { self.new.changes ≤ self.old.changes + 1 }
+    {
+        match to {
+            Some(s) => self.put_drep(c, s),
+            None => self.remove_drep(c),
+        }
+    }
+
+    /// The DRep in place of what the credential had.
+    fn put_drep(&mut self, c: Credential, s: DrepState) -> Result<(), NoMemory>
+        requires few { self.old.changes < 2 ^ 32 }
+        requires timely { IsTimely self.old.ledger s }
+        ensures ok { OnOk result (self.new ≡ with_drep c (Some s) self.old) }
+        ensures err { OnErr result (self.new ≡ self.old) }
+    {
+        let before = drep_deposit_in(self.drep(&c));
+        let after = Some(s.deposit);
+        self.dreps.set(c, Some(s))?;
+        self.refunds += u128::from(given_back(before, after));
+        self.deposits += u128::from(paid_by(before, after));
+        self.changes += 1;
+        Ok(())
+    }
+
+    /// No DRep any more, and no delegation to it.
+    fn remove_drep(&mut self, c: Credential) -> Result<(), NoMemory>
+        requires few { self.old.changes < 2 ^ 32 }
+        ensures ok { OnOk result (self.new ≡ with_drep c None self.old) }
+        ensures start { self.new.start ≡ self.old.start }
+        ensures few_more { self.new.changes ≤ self.old.changes + 1 }
+    {
+        let before = drep_deposit_in(self.drep(&c));
+        self.dreps.set(c, None)?;
+        self.accounts.leave(c)?;
+        self.refunds += u128::from(given_back(before, None));
+        self.deposits += u128::from(paid_by(before, None));
+        self.changes += 1;
+        Ok(())
+    }
+
+    /// A hot key or a resignation in place of what the cold key had. Want of memory changes nothing. (GOVCERT of the formal specification)
+    pub fn set_hot(&mut self, cold: Credential, s: HotState) -> Result<(), NoMemory>
+        requires few { self.old.changes < 2 ^ 32 }
+        ensures ok { OnOk result (self.new ≡ with_hot cold s self.old) }
+        ensures err { OnErr result (self.new ≡ self.old) }
+    {
+        self.hot.insert(cold, s)?;
+        self.changes += 1;
+        Ok(())
+    }
+
+    /// The dormant epochs are added to the expiry of each DRep that with them has not expired, and none are left. It walks the DReps that the draft changed, and none where no epoch is dormant. (Own)
+    pub fn refresh(&mut self) -> Result<(), NoMemory>
+        requires few { self.old.changes < 2 ^ 32 }
+        ensures ok { OnOk result (self.new ≡ with_refresh self.old) }
+        ensures err { OnErr result (self.new ≡ self.old) }
+    {
+        self.dreps.refresh(self.start.dreps(), self.start.epoch());
         self.changes += 1;
         Ok(())
     }
@@ -153,6 +331,8 @@ impl<'a> Draft<'a> {
     {
         Changes {
             accounts: self.accounts,
+            pools: self.pools,
+            dreps: self.dreps,
             hot: self.hot,
         }
     }

@@ -5,8 +5,10 @@ ghost use Rattle.run_model.specs.Genesis.{genesis_fault, ledger_of_genesis};
 ghost use Rattle.stake_book.specs.Stakes.{accounts_of};
 ghost use Rattle.view_map.specs.View.{frozen_of};
 
-use book_records::{Output, Registered};
+use book_records::{DrepState, Output, PoolTerms, Registered};
+use cert_pool::{PoolBook, registered};
 use coin_frac::NoMemory;
+use drep_book::DrepBook;
 use stake_book::StakeBook;
 use std::alloc::Global;
 use tx_records::Genesis;
@@ -63,4 +65,37 @@ fn with_first_outputs(stake: StakeBook, genesis: &Genesis) -> Result<StakeBook, 
         stake.mark_used(at.tx)?;
     }
     Ok(stake)
+}
+
+/// The book of the pools of a genesis. (Own)
+pub fn first_pools(alloc: Global, genesis: &Genesis) -> Result<PoolBook, NoMemory>
+    ensures { IfOk result (λ pools. pools ≡ (ledger_of_genesis genesis.now).pools) }
+{
+    let mut pools = PoolBook::new(alloc);
+    for listed in genesis.pools.as_slice() {
+        let terms = PoolTerms {
+            cost: listed.cost,
+            pledge: listed.pledge,
+            margin: listed.margin,
+            account: listed.account,
+        };
+        pools.restore(listed.pool, Some(registered(None, terms, listed.deposit)))?;
+    }
+    Ok(pools)
+}
+
+/// The book of the DReps of a genesis, with no dormant epoch. (Own)
+pub fn first_dreps(alloc: Global, genesis: &Genesis) -> Result<DrepBook, NoMemory>
+    ensures dreps { IfOk result (λ dreps. dreps.dreps ≡ (ledger_of_genesis genesis.now).dreps) }
+    ensures dormant { IfOk result (λ dreps. dreps.dormant ≡ 0) }
+{
+    let mut dreps = DrepBook::new(alloc);
+    for (credential, deposit, expiry) in genesis.dreps.as_slice() {
+        let drep = DrepState {
+            deposit: *deposit,
+            expiry: *expiry,
+        };
+        dreps.put(*credential, drep)?;
+    }
+    Ok(dreps)
 }

@@ -2,7 +2,8 @@ ghost use Rattle.std.specs.Prelude.{◌≡◌};
 ghost use Rattle.gov_ids.specs.Orders.{credential_cmp, pool_cmp};
 ghost use Rattle.ledger_model.specs.Ledger.{params_of};
 ghost use Rattle.ledger_model.specs.Supply.{pots_of};
-ghost use Rattle.maps.specs.Maps.{value_at};
+ghost use Rattle.ledger_state.specs.Kept.{IsKept};
+ghost use Rattle.maps.specs.Maps.{IsMap, value_at};
 ghost use Rattle.stake_book.specs.Stakes.{registrations};
 ghost use Rattle.view_map.specs.View.{frozen_of};
 
@@ -10,18 +11,24 @@ mod commit;
 mod genesis;
 
 use book_records::{DrepState, Pool};
+use cert_pool::PoolBook;
 use committee_book::HotBook;
+use drep_book::DrepBook;
 use gov_actions::EnactState;
 use gov_ids::{Credential, PoolId};
+use listed::Boxed;
 use pparams::Params;
+use proposal_store::ProposalStore;
 use stake_book::StakeBook;
+use std::alloc::Global;
 use std::marker::Model;
 use tx_records::Pots;
 use utxo_set::UtxoSet;
 
-/// The ledger after some records. Its pots hold the supply, and its maps are maps. (LState of the formal specification)
+/// The ledger after some records. Its pots hold the supply, its maps are maps, and its expiries are within the dormant bound. (LState of the formal specification)
 #[derive(Drop)]
 pub struct LedgerState {
+    alloc: Global,
     network: u8,
     epoch_length: u32,
     supply: u64,
@@ -30,9 +37,12 @@ pub struct LedgerState {
     reserves: u64,
     fees: u64,
     donations: u64,
-    state: EnactState,
+    state: Boxed<EnactState>,
     stake: StakeBook,
+    pools: PoolBook,
+    dreps: DrepBook,
     hot: HotBook,
+    proposals: ProposalStore,
 }
 
 impl Model for LedgerState {
@@ -111,14 +121,14 @@ impl LedgerState {
     pub fn state(&self) -> &EnactState
         ensures { result.now ≡ self.now.ledger.state }
     {
-        &self.state
+        self.state.get()
     }
 
     /// The protocol parameters. (PParams of the formal specification)
     pub fn params(&self) -> &Params
         ensures { result.now ≡ params_of self.now.ledger }
     {
-        &self.state.params
+        &self.state.get().params
     }
 
     /// The unspent outputs and the used transaction ids. (UTxOState of the formal specification; that used ids are kept is own)
@@ -146,20 +156,43 @@ impl LedgerState {
         &self.hot
     }
 
-    /// A registered pool: none so far, since there is no book of pools yet. (PState of the formal specification)
-    pub fn pool(&self, _pool: &PoolId) -> Option<Pool>
-        ensures { result ≡ value_at pool_cmp self.now.ledger.pools _pool.now }
+    /// The registered pools with their terms and retirements. (PState of the formal specification)
+    pub fn pools(&self) -> &PoolBook
+        ensures { result.now ≡ self.now.ledger.pools }
     {
-        let _ = &self.stake;
-        None
+        &self.pools
     }
 
-    /// A registered DRep: none so far, since there is no book of DReps yet. (GState of the formal specification)
-    pub fn drep(&self, _c: &Credential) -> Option<DrepState>
-        ensures { result ≡ value_at credential_cmp self.now.ledger.dreps _c.now }
+    /// A registered pool, none where it is not registered. (PState of the formal specification)
+    pub fn pool(&self, p: &PoolId) -> Option<Pool>
+        ensures value { result ≡ value_at pool_cmp self.now.ledger.pools p.now }
+        ensures in_order { IsMap pool_cmp self.now.ledger.pools }
     {
-        let _ = &self.stake;
-        None
+        self.pools.get(p)
+    }
+
+    /// The live proposals with their votes, in order of submission. (GovState of the formal specification)
+    pub fn proposals(&self) -> &ProposalStore
+        ensures { result.now ≡ self.now.ledger.proposals }
+    {
+        &self.proposals
+    }
+
+    /// The registered DReps and the dormant count. (GState of the formal specification; how the count acts is own)
+    pub fn dreps(&self) -> &DrepBook
+        ensures dreps { result.now.dreps ≡ self.now.ledger.dreps }
+        ensures dormant { result.now.dormant ≡ self.now.ledger.dormant }
+        ensures kept { IsKept self.now.ledger }
+    {
+        &self.dreps
+    }
+
+    /// A registered DRep, none where it is not registered. (GState of the formal specification)
+    pub fn drep(&self, c: &Credential) -> Option<DrepState>
+        ensures value { result ≡ value_at credential_cmp self.now.ledger.dreps c.now }
+        ensures in_order { IsMap credential_cmp self.now.ledger.dreps }
+    {
+        self.dreps.get(c)
     }
 
     /// The seven pots, in lovelace. They hold the supply, so the deposits are what the others leave of it. (The preservation of value of the formal specification)
@@ -172,7 +205,7 @@ impl LedgerState {
             + rewards
             + self.fees
             + self.donations
-            + self.state.treasury
+            + self.state().treasury
             + self.reserves;
         Pots {
             outputs,
@@ -180,7 +213,7 @@ impl LedgerState {
             rewards,
             fees: self.fees,
             donations: self.donations,
-            treasury: self.state.treasury,
+            treasury: self.state().treasury,
             reserves: self.reserves,
         }
     }

@@ -1,4 +1,4 @@
-ghost use Rattle.std.specs.Prelude.{◌≡◌, [], false, true, IfOk};
+ghost use Rattle.std.specs.Prelude.{◌≡◌, false, true, IfOk};
 ghost use Rattle.ledger_model.specs.Broken.{is_allowed};
 ghost use Rattle.ledger_model.specs.Draft.{last_draft};
 ghost use Rattle.ledger_model.specs.Transaction.{ledger_after_tx};
@@ -9,16 +9,16 @@ ghost use Rattle.tx_records.specs.TxLimits.{is_within_limits};
 
 use super::LedgerState;
 use crate::books::{with_outputs, with_return, without_outputs};
-use crate::changes::Changes;
+use crate::changes::{Books, Changes};
+use crate::proposals::{with_proposals, with_votes};
 use coin_frac::NoMemory;
 use tx_records::{Scripts, Tx};
 
 impl LedgerState {
-    /// The ledger after an allowed transaction, whose changes these are. It proposes nothing, since the book of proposals is to come. What was frozen stays. After want of memory there is no ledger. (UTXO and LEDGER of the formal specification)
+    /// The ledger after an allowed transaction, whose changes these are. What was frozen stays. After want of memory there is no ledger. (UTXO and LEDGER of the formal specification)
     pub fn commit(self, changes: Changes, tx: &Tx) -> Result<LedgerState, NoMemory>
         requires within { is_within_limits tx.now ≡ true }
         requires allowed { is_allowed self.ledger tx.now ≡ true }
-        requires unproposed { tx.now.proposals ≡ [] }
         requires drafted { laid_over changes self.ledger ≡ draft_of self.ledger tx.now }
         ensures { IfOk result (λ s. s ≡ on_ledger (λ l. ledger_after_tx l tx.now) self) }
     {
@@ -28,24 +28,36 @@ impl LedgerState {
         }
     }
 
-    /// The ledger after an allowed transaction whose scripts did not fail: it is changed, its inputs are spent, its outputs are made, and its fee and donation join their pots.
+    /// The ledger after an allowed transaction whose scripts did not fail: it is changed, its inputs are spent, its outputs are made, its votes and then its proposals join the others, and its fee and donation their pots.
     fn passed(self, changes: Changes, tx: &Tx) -> Result<LedgerState, NoMemory>
         requires within { is_within_limits tx.now ≡ true }
         requires allowed { is_allowed self.ledger tx.now ≡ true }
-        requires unproposed { tx.now.proposals ≡ [] }
         requires passed { is_failed tx.now.scripts ≡ false }
         requires drafted { laid_over changes self.ledger ≡ last_draft self.ledger tx.now }
         ensures { IfOk result (λ s. s ≡ on_ledger (λ l. ledger_after_tx l tx.now) self) }
     {
-        let (stake, hot) = changes.laid_over(self.stake, self.hot)?;
-        let stake = without_outputs(stake, tx.inputs.as_slice())?;
+        let last = self.epoch + u64::from(self.params().gov_action_lifetime);
+        let books = Books {
+            stake: self.stake,
+            pools: self.pools,
+            dreps: self.dreps,
+            hot: self.hot,
+            proposals: self.proposals,
+        };
+        let books = changes.laid_over(self.alloc, self.epoch, books)?;
+        let stake = without_outputs(books.stake, tx.inputs.as_slice())?;
         let mut stake = with_outputs(stake, tx)?;
         stake.mark_used(tx.id)?;
+        let proposals = with_votes(books.proposals, tx)?;
+        let proposals = with_proposals(self.alloc, proposals, last, tx)?;
         Ok(LedgerState {
             fees: self.fees + tx.fee,
             donations: self.donations + tx.donation,
             stake,
-            hot,
+            pools: books.pools,
+            dreps: books.dreps,
+            hot: books.hot,
+            proposals,
             ..self
         })
     }

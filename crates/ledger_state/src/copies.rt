@@ -1,0 +1,62 @@
+ghost use Rattle.std.specs.Prelude.{◌≡◌, IfOk};
+
+use coin_frac::NoMemory;
+use gov_actions::Action;
+use listed::Listed;
+use std::alloc::Global;
+
+/// The same action, in memory of its own. (Own)
+pub fn copied(alloc: Global, action: &Action) -> Result<Action, NoMemory>
+    ensures { IfOk result (λ copy. copy ≡ action.now) }
+{
+    match action {
+        Action::NoConfidence { previous } => Ok(Action::NoConfidence {
+            previous: *previous,
+        }),
+        Action::UpdateCommittee {
+            previous,
+            remove,
+            add,
+            threshold,
+        } => Ok(Action::UpdateCommittee {
+            previous: *previous,
+            remove: copied_list(alloc, remove)?,
+            add: copied_list(alloc, add)?,
+            threshold: *threshold,
+        }),
+        Action::NewConstitution {
+            previous,
+            document,
+            script,
+        } => Ok(Action::NewConstitution {
+            previous: *previous,
+            document: *document,
+            script: *script,
+        }),
+        Action::HardForkInitiation { previous, version } => Ok(Action::HardForkInitiation {
+            previous: *previous,
+            version: *version,
+        }),
+        Action::ParameterChange {
+            previous,
+            update,
+            policy,
+        } => Ok(Action::ParameterChange {
+            previous: *previous,
+            update: *update,
+            policy: *policy,
+        }),
+        Action::TreasuryWithdrawals { targets, policy } => Ok(Action::TreasuryWithdrawals {
+            targets: copied_list(alloc, targets)?,
+            policy: *policy,
+        }),
+        Action::Info => Ok(Action::Info),
+    }
+}
+
+/// The same list, in memory of its own.
+fn copied_list<T: Copy>(alloc: Global, list: &Listed<T>) -> Result<Listed<T>, NoMemory>
+    ensures { IfOk result (λ copy. copy ≡ list.now) }
+{
+    Ok(Listed::from_vec(Vec::from_slice(alloc, list.as_slice())?))
+}

@@ -1,0 +1,89 @@
+ghost use Rattle.std.specs.Prelude.{◌≡◌, ◌+◌, ◌<◌, ◌≤◌, ◌^◌, ◌++◌, [], IfOk, length, map, sum_by};
+ghost use Rattle.gov_model.specs.Proposals.{deposits_of};
+ghost use Rattle.ledger_model.specs.Ledger.{Ledger};
+ghost use Rattle.ledger_model.specs.Transaction.{made_proposals, with_votes};
+ghost use Rattle.ledger_state.specs.Drafts.{without_votes_of};
+ghost use Rattle.proposal_store.specs.Store.{AllOrdered};
+ghost use Rattle.ledger_state.specs.Proposed.{IsLast, IsUnknown};
+ghost use Rattle.tx_records.specs.declared.tx.ProposalRecord.{ProposalRecord};
+
+use crate::copies::copied;
+use coin_frac::NoMemory;
+use gov_actions::Proposal;
+use gov_ids::{ActionId, Credential};
+use listed::Listed;
+use proposal_store::ProposalStore;
+use std::alloc::Global;
+use tx_records::{ProposalRecord, Tx};
+
+/// The live proposals with the votes of a transaction, a later one of a voter in place of an earlier one. (GOV of the formal specification)
+pub fn with_votes(store: ProposalStore, tx: &Tx) -> Result<ProposalStore, NoMemory>
+    ensures { IfOk result (λ after. after ≡ map (with_votes tx.now) store) }
+{
+    let mut store = store;
+    for cast in tx.votes.as_slice() {
+        store.vote(&cast.action, cast.voter, cast.vote)?;
+    }
+    Ok(store)
+}
+
+/// The live proposals without the votes of these DReps. (GOVCERT of the formal specification; that they leave at once is own)
+pub fn without_votes(store: ProposalStore, dreps: &[Credential]) -> ProposalStore
+    requires voted { AllOrdered store }
+    ensures { result ≡ map (without_votes_of dreps.now) store }
+{
+    let mut store = store;
+    for drep in dreps {
+        store.clear_votes(drep);
+    }
+    store
+}
+
+/// With the proposals of a transaction, as id#0, id#1 and so on, with no votes; `last` is the last epoch in which they may be voted on. (GOV of the formal specification)
+pub fn with_proposals(
+    alloc: Global,
+    store: ProposalStore,
+    last: u64,
+    tx: &Tx,
+) -> Result<ProposalStore, NoMemory>
+    requires few { length tx.now.proposals ≤ 65536 }
+    requires unknown { IsUnknown tx.now.id store }
+    requires room { deposits_of store + sum_by (λ (p : ProposalRecord). p.deposit) tx.now.proposals < 2 ^ 64 }
+    ensures { IfOk result (λ after. (l : Ledger) → IsLast l last → after ≡ store ++ made_proposals l tx.now) }
+{
+    let mut store = store;
+    for (index, proposal) in tx.proposals.as_slice().iter().enumerate() {
+        let id = ActionId {
+            tx: tx.id,
+            index: index as u16,
+        };
+        store.add(made(alloc, id, last, proposal)?)?;
+    }
+    Ok(store)
+}
+
+/// What the ledger keeps of a proposal.
+fn made(
+    alloc: Global,
+    id: ActionId,
+    last: u64,
+    proposal: &ProposalRecord,
+) -> Result<Proposal, NoMemory>
+    ensures { IfOk result (λ made. made ≡ record {
+      id = id;
+      action = proposal.now.action;
+      deposit = proposal.now.deposit;
+      account = proposal.now.account;
+      expires_after = last;
+      votes = [];
+    }) }
+{
+    Ok(Proposal {
+        id,
+        action: copied(alloc, &proposal.action)?,
+        deposit: proposal.deposit,
+        account: proposal.account,
+        expires_after: last,
+        votes: Listed::new(alloc),
+    })
+}
