@@ -1,3 +1,2 @@
-pub mod Replacing
 pub mod Emptying
 pub mod Delegating

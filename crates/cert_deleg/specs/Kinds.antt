@@ -6,15 +6,17 @@ use Rattle.ledger_model.specs.CertRules.{is_unknown_drep, is_unknown_pool}
 use Rattle.ledger_model.specs.Checks.{Check, breaks}
 use Rattle.ledger_model.specs.Ledger.{Ledger}
 use Rattle.tx_records.specs.declared.cert.Cert.{Cert}
-use Rattle.tx_records.specs.declared.cert.Cert.TheVariants.{AccountReg, AccountUnreg, Delegate}
+use Rattle.tx_records.specs.declared.cert.Cert.TheVariants.{AccountReg, AccountUnreg, Delegate, PoolReg, PoolRetire}
 use Rattle.tx_records.specs.declared.rules.TheConstants.{POOL_UNKNOWN, DREP_UNKNOWN}
 
--- one that registers an account, ends it or delegates
-abbrev pub is_account_cert : Cert → Bool
-is_account_cert (AccountReg cred deposit pool drep) = true
-is_account_cert (AccountUnreg cred refund) = true
-is_account_cert (Delegate cred pool drep) = true
-is_account_cert _ = false
+-- one that registers an account, ends it or delegates, or registers a pool or retires it
+abbrev pub is_account_or_pool_cert : Cert → Bool
+is_account_or_pool_cert (AccountReg cred deposit pool drep) = true
+is_account_or_pool_cert (AccountUnreg cred refund) = true
+is_account_or_pool_cert (Delegate cred pool drep) = true
+is_account_or_pool_cert (PoolReg pool cost pledge margin account) = true
+is_account_or_pool_cert (PoolRetire pool epoch) = true
+is_account_or_pool_cert _ = false
 
 -- the rules on the pool and the DRep that are named
 abbrev pub name_checks : Ledger → Option PoolId → Option Drep → List Check

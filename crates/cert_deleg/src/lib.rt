@@ -1,9 +1,9 @@
-//! Withdrawals and the certificates of accounts: each is refused, or it changes a draft.
+//! Withdrawals and the certificates of accounts and pools: each is refused, or it changes a draft.
 #![tactic(auto)]
 
 ghost use Rattle.std.specs.Prelude.{◌≡◌, ◌+◌, ◌≤◌, ◌^◌, true, OnOk, length, map};
-ghost use Rattle.cert_deleg.specs.Kinds.{is_account_cert};
-ghost use Rattle.cert_deleg.specs.Moved.{HasMoved};
+ghost use Rattle.cert_deleg.specs.Kinds.{is_account_or_pool_cert};
+ghost use Rattle.ledger_state.specs.Moved.{HasMoved};
 ghost use Rattle.ledger_model.specs.CertRules.{cert_checks, withdrawal_checks};
 ghost use Rattle.ledger_model.specs.Changes.{changed_by, withdrawn};
 ghost use Rattle.ledger_model.specs.Checks.{at_place, first_among, per_place};
@@ -11,21 +11,22 @@ ghost use Rattle.ledger_model.specs.Flows.{flows_of_cert};
 ghost use Rattle.rule_checks.specs.Answered.{IsAnswered};
 ghost use Rattle.tx_records.specs.TxLimits.{is_within_limits};
 
+mod account_changes;
+mod account_rules;
 mod changes;
 mod kinds;
+mod pool_changes;
+mod pool_rules;
 mod rules;
 mod withdrawals;
 
 use crate::changes::change;
 use crate::rules::check_cert;
 use crate::withdrawals::{check_withdrawals, empty_accounts};
-pub use kinds::is_account_cert;
+pub use kinds::is_account_or_pool_cert;
 use ledger_state::Draft;
 use rule_checks::{as_fault, at_place};
 use tx_records::{Cert, Tx, TxFault};
-
-#[cfg(test)]
-mod tests;
 
 /// Empties each account that a transaction withdraws from, or refuses with the first broken rule of a withdrawal and its place. The rules look at the ledger before the transaction. (CERTS of the formal specification; that the vote delegation is that of the ledger before the transaction is own)
 pub fn withdraw(d: &mut Draft, tx: &Tx) -> Result<(), TxFault>
@@ -42,9 +43,9 @@ pub fn withdraw(d: &mut Draft, tx: &Tx) -> Result<(), TxFault>
     Ok(())
 }
 
-/// Registers an account, ends it or delegates for it, as the certificate at this place says, or refuses with the first rule that it breaks. (DELEG of the formal specification)
+/// Registers an account, ends it or delegates for it, or registers a pool or retires it, as the certificate at this place says, or refuses with the first rule that it breaks. (DELEG and POOL of the formal specification)
 pub fn cert(d: &mut Draft, place: u32, c: &Cert) -> Result<(), TxFault>
-    requires kind { is_account_cert c.now ≡ true }
+    requires kind { is_account_or_pool_cert c.now ≡ true }
     requires few { d.old.changes ≤ 2 ^ 31 }
     ensures rule { IsAnswered (first_among (map (at_place place) (cert_checks d.old.start d.old.ledger c.now))) result }
     ensures ledger { OnOk result (d.new.ledger ≡ changed_by c.now d.old.ledger) }

@@ -1,20 +1,17 @@
-ghost use Rattle.std.specs.Prelude.{◌≡◌, true, Option};
-ghost use Rattle.cert_deleg.specs.Kinds.{is_account_cert, name_checks};
-ghost use Rattle.ledger_model.specs.CertRules.{cert_checks, is_unknown_drep, is_unknown_pool};
+ghost use Rattle.std.specs.Prelude.{◌≡◌, true};
+ghost use Rattle.cert_deleg.specs.Kinds.{is_account_or_pool_cert};
+ghost use Rattle.ledger_model.specs.CertRules.{cert_checks};
 ghost use Rattle.ledger_model.specs.Checks.{answer_of};
-ghost use Rattle.tx_records.specs.declared.cert.Cert.TheVariants.{AccountReg, AccountUnreg, Delegate};
 
-use gov_ids::{Credential, Drep, PoolId};
+use crate::account_rules::{check_delegation, check_end, check_registration};
+use crate::pool_rules::{check_retirement, check_terms};
+use book_records::PoolTerms;
 use ledger_state::Draft;
-use tx_records::rules::{
-    ACCOUNT_REGISTERED, ACCOUNT_UNKNOWN, BALANCE_NOT_ZERO, DEPOSIT_WRONG, DREP_UNKNOWN,
-    POOL_UNKNOWN, REFUND_WRONG,
-};
 use tx_records::{Cert, Rule};
 
-/// The first rule that a certificate of an account breaks, if there is one; its place is not told yet.
+/// The first rule that a certificate of an account or a pool breaks, if there is one; its place is not told yet.
 pub fn check_cert(d: &Draft, c: &Cert) -> Result<(), Rule>
-    requires { is_account_cert c.now ≡ true }
+    requires { is_account_or_pool_cert c.now ≡ true }
     ensures { result ≡ answer_of (cert_checks d.now.start d.now.ledger c.now) }
 {
     match *c {
@@ -26,90 +23,22 @@ pub fn check_cert(d: &Draft, c: &Cert) -> Result<(), Rule>
         } => check_registration(d, &cred, deposit, pool, drep),
         Cert::AccountUnreg { cred, refund } => check_end(d, &cred, refund),
         Cert::Delegate { cred, pool, drep } => check_delegation(d, &cred, pool, drep),
+        Cert::PoolReg {
+            cost,
+            pledge,
+            margin,
+            account,
+            ..
+        } => {
+            let terms = PoolTerms {
+                cost,
+                pledge,
+                margin,
+                account,
+            };
+            check_terms(d, &terms)
+        }
+        Cert::PoolRetire { pool, epoch } => check_retirement(d, &pool, epoch),
         _ => unreachable!(),
-    }
-}
-
-/// The rules on the registration of an account.
-fn check_registration(
-    d: &Draft,
-    cred: &Credential,
-    deposit: Option<u64>,
-    pool: Option<PoolId>,
-    drep: Option<Drep>,
-) -> Result<(), Rule>
-    ensures { result ≡ answer_of (cert_checks d.now.start d.now.ledger (AccountReg cred.now deposit pool drep)) }
-{
-    let due = d.start().params().key_deposit;
-    if d.account(cred).is_some() {
-        return Err(Rule::new(ACCOUNT_REGISTERED));
-    }
-    if deposit.is_some_and(|stated| stated != due) {
-        return Err(Rule::keeping(DEPOSIT_WRONG, u128::from(due)));
-    }
-    check_names(d, pool, drep)
-}
-
-/// The rules on the end of an account.
-fn check_end(d: &Draft, cred: &Credential, refund: Option<u64>) -> Result<(), Rule>
-    ensures { result ≡ answer_of (cert_checks d.now.start d.now.ledger (AccountUnreg cred.now refund)) }
-{
-    let Some(registered) = d.account(cred) else {
-        return Err(Rule::new(ACCOUNT_UNKNOWN));
-    };
-    if refund.is_some_and(|stated| stated != registered.deposit) {
-        return Err(Rule::keeping(REFUND_WRONG, u128::from(registered.deposit)));
-    }
-    if registered.rewards != 0 {
-        return Err(Rule::keeping(BALANCE_NOT_ZERO, u128::from(registered.rewards)));
-    }
-    Ok(())
-}
-
-/// The rules on a delegation.
-fn check_delegation(
-    d: &Draft,
-    cred: &Credential,
-    pool: Option<PoolId>,
-    drep: Option<Drep>,
-) -> Result<(), Rule>
-    ensures { result ≡ answer_of (cert_checks d.now.start d.now.ledger (Delegate cred.now pool drep)) }
-{
-    if d.account(cred).is_none() {
-        return Err(Rule::new(ACCOUNT_UNKNOWN));
-    }
-    check_names(d, pool, drep)
-}
-
-/// The rules on the pool and the DRep that are named.
-fn check_names(d: &Draft, pool: Option<PoolId>, drep: Option<Drep>) -> Result<(), Rule>
-    ensures { result ≡ answer_of (name_checks d.now.ledger pool drep) }
-{
-    if is_unknown_pool(d, pool) {
-        return Err(Rule::new(POOL_UNKNOWN));
-    }
-    if is_unknown_drep(d, drep) {
-        return Err(Rule::new(DREP_UNKNOWN));
-    }
-    Ok(())
-}
-
-/// Whether a pool is named that is not registered.
-fn is_unknown_pool(d: &Draft, pool: Option<PoolId>) -> bool
-    ensures { result ≡ is_unknown_pool d.now.ledger pool }
-{
-    match pool {
-        Some(named) => d.pool(&named).is_none(),
-        None => false,
-    }
-}
-
-/// Whether a DRep is named by a credential that is not registered as one.
-fn is_unknown_drep(d: &Draft, drep: Option<Drep>) -> bool
-    ensures { result ≡ is_unknown_drep d.now.ledger drep }
-{
-    match drep {
-        Some(Drep::Registered(named)) => d.drep(&named).is_none(),
-        Some(Drep::Abstain | Drep::NoConfidence) | None => false,
     }
 }

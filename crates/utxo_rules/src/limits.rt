@@ -1,6 +1,5 @@
 ghost use Rattle.std.specs.Prelude.{◌≡◌, true};
 ghost use Rattle.ledger_model.specs.Checks.{answer_of};
-ghost use Rattle.ledger_model.specs.Ledger.{Ledger};
 ghost use Rattle.ledger_model.specs.UtxoRules.{fee_checks, is_outside, least_fee, treasury_checks, unless_failed};
 
 use ledger_state::LedgerState;
@@ -15,7 +14,7 @@ pub fn check_fee(s: &LedgerState, tx: &Tx) -> Result<(), Rule>
     if tx.size > most {
         return Err(Rule::keeping(TX_TOO_LARGE, u128::from(most)));
     }
-    if is_outside(s.slot(), tx) {
+    if is_outside(s, tx) {
         return Err(Rule::keeping(OUTSIDE_VALIDITY, u128::from(s.slot())));
     }
     let least = least_fee(s, tx);
@@ -25,10 +24,11 @@ pub fn check_fee(s: &LedgerState, tx: &Tx) -> Result<(), Rule>
     Ok(())
 }
 
-/// Whether the transaction may not stand at this slot.
-fn is_outside(slot: u64, tx: &Tx) -> bool
-    ensures { (l : Ledger) → l.slot ≡ slot → result ≡ is_outside l tx.now }
+/// Whether the transaction may not stand at the last slot.
+fn is_outside(s: &LedgerState, tx: &Tx) -> bool
+    ensures { result ≡ is_outside s.now.ledger tx.now }
 {
+    let slot = s.slot();
     tx.from.is_some_and(|from| slot < from) || tx.until.is_some_and(|until| slot >= until)
 }
 

@@ -6,11 +6,11 @@ use Rattle.utxo_rules.proofs.limits.check_fee.Goals as goal
 pub returns-then-from-least : goal.returns-then-from-least
 returns-then-from-least c =
     let least = c.least_fee-least.ensures in
-    let outside = c.is_outside.ensures c.args.s.now.ledger in
+    let outside = c.is_outside.ensures in
     search rules
 
 pub returns : goal.returns
 returns c =
     let least = c.least_fee-least.ensures in
-    let outside = c.is_outside.ensures c.args.s.now.ledger in
+    let outside = c.is_outside.ensures in
     grind (arith, common_steps, nat_tests)

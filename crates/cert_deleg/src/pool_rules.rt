@@ -1,0 +1,41 @@
+ghost use Rattle.std.specs.Prelude.{◌≡◌};
+ghost use Rattle.ledger_model.specs.CertRules.{cert_checks};
+ghost use Rattle.ledger_model.specs.Checks.{answer_of};
+ghost use Rattle.tx_records.specs.declared.cert.Cert.TheVariants.{PoolReg, PoolRetire};
+
+use book_records::PoolTerms;
+use gov_ids::PoolId;
+use ledger_state::Draft;
+use tx_records::Rule;
+use tx_records::rules::{
+    POOL_COST_TOO_LOW, POOL_UNKNOWN, POOL_WRONG_NETWORK, RETIREMENT_EPOCH_WRONG,
+};
+
+/// The rules on the terms with which a pool is registered, whichever pool it is, a new one or not.
+pub fn check_terms(d: &Draft, terms: &PoolTerms) -> Result<(), Rule>
+    ensures { (pool : PoolId) → result ≡ answer_of (cert_checks d.now.start d.now.ledger
+        (PoolReg pool terms.now.cost terms.now.pledge terms.now.margin terms.now.account)) }
+{
+    let least = d.start().params().min_pool_cost;
+    if terms.cost < least {
+        return Err(Rule::keeping(POOL_COST_TOO_LOW, u128::from(least)));
+    }
+    if terms.account.network != d.start().network() {
+        return Err(Rule::new(POOL_WRONG_NETWORK));
+    }
+    Ok(())
+}
+
+/// The rules on the retirement of a pool: it is registered, and the epoch is above the current one by 1 to eMax.
+pub fn check_retirement(d: &Draft, pool: &PoolId, epoch: u64) -> Result<(), Rule>
+    ensures { result ≡ answer_of (cert_checks d.now.start d.now.ledger (PoolRetire pool.now epoch)) }
+{
+    if d.pool(pool).is_none() {
+        return Err(Rule::new(POOL_UNKNOWN));
+    }
+    let now = d.start().epoch();
+    if epoch <= now || epoch - now > u64::from(d.start().params().e_max) {
+        return Err(Rule::keeping(RETIREMENT_EPOCH_WRONG, u128::from(now)));
+    }
+    Ok(())
+}

@@ -1,0 +1,39 @@
+ghost use Rattle.std.specs.Prelude.{◌≡◌, Option, nat_le};
+ghost use Rattle.std.specs.List.{list_any};
+ghost use Rattle.coin_frac.specs.Fraction.{Fraction};
+ghost use Rattle.gov_actions.specs.declared.action.Action.TheVariants.{UpdateCommittee};
+ghost use Rattle.gov_ids.specs.declared.ActionId.{ActionId};
+ghost use Rattle.ledger_model.specs.Checks.{answer_of};
+ghost use Rattle.ledger_model.specs.Ledger.{Ledger};
+ghost use Rattle.ledger_model.specs.ProposalRules.{action_checks};
+
+use crate::conflict::is_any_on_both;
+use gov_ids::Credential;
+use ledger_state::LedgerState;
+use tx_records::Rule;
+use tx_records::rules::{CONFLICTING_UPDATE, TERM_TOO_SMALL};
+
+/// The rules on a change of the committee.
+pub fn check_members(
+    s: &LedgerState,
+    remove: &[Credential],
+    add: &[(Credential, u64)],
+) -> Result<(), Rule>
+    ensures { (d : Ledger) (previous : Option ActionId) (threshold : Fraction) →
+        result ≡ answer_of (action_checks s.now.ledger d (UpdateCommittee previous remove.now add.now threshold)) }
+{
+    if is_any_on_both(remove, add) {
+        return Err(Rule::new(CONFLICTING_UPDATE));
+    }
+    if is_any_over(s.epoch(), add) {
+        return Err(Rule::new(TERM_TOO_SMALL));
+    }
+    Ok(())
+}
+
+/// Whether some term is over by the end of this epoch.
+fn is_any_over(epoch: u64, add: &[(Credential, u64)]) -> bool
+    ensures { result ≡ list_any (λ m. nat_le m.1 epoch) add.now }
+{
+    add.iter().any(|(_, term)| *term <= epoch)
+}

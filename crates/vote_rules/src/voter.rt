@@ -1,0 +1,16 @@
+ghost use Rattle.std.specs.Prelude.{◌≡◌};
+ghost use Rattle.ledger_model.specs.ProposalRules.{is_known_voter};
+
+use gov_ids::Voter;
+use ledger_state::Draft;
+
+/// Whether a voter may vote at all: it is a hot key of some cold key, a registered DRep or a registered pool. (CIP-1694, Votes)
+pub fn is_known_voter(d: &Draft, voter: &Voter) -> bool
+    ensures { result ≡ is_known_voter d.now.ledger voter.now }
+{
+    match voter {
+        Voter::Committee(key) => d.names_hot(key),
+        Voter::Drep(c) => d.drep(c).is_some(),
+        Voter::Pool(p) => d.pool(p).is_some(),
+    }
+}
