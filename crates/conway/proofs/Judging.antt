@@ -1,56 +1,70 @@
--- The answer to a record that is built is that of the whole ledger.
-use Rattle.std.proofs.Common.{◌≡◌, true, [], ◌∷◌, Option, Some, None, codes, if◌then◌else◌, refl, ap, sym, ◌∙◌}
+-- What is judged over the ledger is what the whole says of a World that holds it.
+use Rattle.std.proofs.Common.{◌≡◌, [], ◌∷◌, Option, Some, None, Ok, refl, ap, sym, ◌∙◌}
 use Rattle.ledger_model.specs.Broken.{first_broken}
 use Rattle.ledger_model.specs.Ledger.{Ledger}
-use Rattle.ledger_model.specs.Supply.{pots_of}
-use Rattle.ledger_model.specs.Transaction.{tx_step, tx_step_by}
-use Rattle.report.specs.declared.pots.PotsWord.TheVariants as pots_words_of
-use Rattle.run_model.specs.Step.{step, step_by}
+use Rattle.ledger_model.specs.Transaction.{accepted_as, tx_step_by}
+use Rattle.ledger_state.specs.Standing.{Standing}
+use Rattle.run_model.specs.Step.{step_by, world_after_accepted}
 use Rattle.run_model.specs.World.{World}
-use Rattle.text_model.specs.Replies.{pots_words, reply_words}
-use Rattle.text_model.specs.Runs as text
-use Rattle.tx_records.specs.declared.record.Reading.TheVariants.{Read}
+use Rattle.text_model.specs.Replies.{reply_words}
+use Rattle.text_model.specs.Runs.{lines_by}
+use Rattle.tx_records.specs.declared.record.Reading.{Reading}
+use Rattle.tx_records.specs.declared.record.Reading.TheVariants.{Read, Malformed, TooLong}
 use Rattle.tx_records.specs.declared.record.Record.TheVariants as records
-use Rattle.tx_records.specs.declared.record.What.TheVariants.{Pots}
+use Rattle.tx_records.specs.declared.record.What.TheVariants.{Pots, State}
 use Rattle.tx_records.specs.declared.reply.Reply.{Reply}
 use Rattle.tx_records.specs.declared.reply.Reply.TheVariants.{Accepted, AcceptedFailedScripts, Refused}
 use Rattle.tx_records.specs.declared.reply.Rule.{Rule}
-use Rattle.tx_records.specs.declared.report.Pots as report
 use Rattle.tx_records.specs.declared.tx.Tx.{Tx}
-use Rattle.tx_rule.specs.Built.{is_built_tx}
-use Rattle.conway.specs.Answers.{Follows}
-use Rattle.conway.specs.declared.outcome.Outcome.TheVariants as outcomes
-use Rattle.conway.specs.Runs.{not_built}
+use Rattle.conway.specs.Answers.{Judges, ledger_left, outcome_of}
+use Rattle.conway.specs.declared.outcome.Outcome.{Outcome}
+use Rattle.conway.specs.Outcomes.{outcome_lines}
+use Rattle.conway.specs.Runs.{answer_lines, world_left}
 
--- a step on a transaction is that of its ledger
-step_ledger : (w : World) (tx : Tx) (found : Option Rule) → (step_by found w (records.Tx tx)).0.ledger ≡ (tx_step_by found w.ledger tx).0
-step_ledger w tx (Some rule) = refl
-step_ledger w tx None = refl
+-- ---- the ledger
 
-step_reply : (w : World) (tx : Tx) (found : Option Rule) → (step_by found w (records.Tx tx)).1 ≡ (tx_step_by found w.ledger tx).1
-step_reply w tx (Some rule) = refl
-step_reply w tx None = refl
+ledger_by : (found : Option Rule) (w : World) (tx : Tx) → (tx_step_by found w.ledger tx).0 ≡ (step_by found w (records.Tx tx)).0.ledger
+ledger_by (Some rule) w tx = refl
+ledger_by None w tx = refl
+
+ledger_is : (w : World) (r : Reading) → ledger_left w.ledger r ≡ (world_left w r).ledger
+ledger_is w TooLong = refl
+ledger_is w (Malformed field place) = refl
+ledger_is w (Read (records.Genesis g)) = refl
+ledger_is w (Read (records.Block slot pulse)) = refl
+ledger_is w (Read (records.Rewards u)) = refl
+ledger_is w (Read (records.Tx tx)) = ledger_by (first_broken w.ledger tx) w tx
+ledger_is w (Read (records.Print Pots)) = refl
+ledger_is w (Read (records.Print State)) = refl
+
+-- ---- the lines
 
 -- a transaction is answered with one line, that of its reply
-line_by : (reply : Reply) (w v : World) (tx : Tx) → text.lines_by reply (records.Tx tx) w v ≡ reply_words reply ∷ []
-line_by Accepted w v tx = refl
-line_by AcceptedFailedScripts w v tx = refl
-line_by (Refused rule) w v tx = refl
+one_line : (reply : Reply) (w v : World) (tx : Tx) → lines_by reply (records.Tx tx) w v ≡ reply_words reply ∷ []
+one_line Accepted w v tx = refl
+one_line AcceptedFailedScripts w v tx = refl
+one_line (Refused rule) w v tx = refl
 
-pub follows_tx : (w : World) (tx : Tx) (l after : Ledger) (reply : Reply) → is_built_tx tx ≡ true → l ≡ w.ledger
-    → after ≡ (tx_step l tx).0 → reply ≡ (tx_step l tx).1 → Follows w (Read (records.Tx tx)) after (outcomes.Answered reply)
-follows_tx w tx l after reply built is ledger replied = record {
-  ledger =
-      ledger ∙ ap (λ (m : Ledger). (tx_step m tx).0) is ∙ sym (step_ledger w tx (first_broken w.ledger tx))
-      ∙ ap (λ b. (if b then (step w (records.Tx tx)).0 else w).ledger) (sym built);
-  lines =
-      ap (λ b. if b then text.reading_lines w (Read (records.Tx tx)) else reply_words not_built ∷ []) built
-      ∙ line_by (step w (records.Tx tx)).1 w (step w (records.Tx tx)).0 tx
-      ∙ ap (λ (r : Reply). reply_words r ∷ []) (step_reply w tx (first_broken w.ledger tx) ∙ sym (ap (λ (m : Ledger). (tx_step m tx).1) is) ∙ sym replied);
-}
+lines_of_tx : (found : Option Rule) (w : World) (tx : Tx)
+    → lines_by (step_by found w (records.Tx tx)).1 (records.Tx tx) w (step_by found w (records.Tx tx)).0 ≡ reply_words (tx_step_by found w.ledger tx).1 ∷ []
+lines_of_tx (Some rule) w tx = refl
+lines_of_tx None w tx = one_line (accepted_as tx.scripts) w (world_after_accepted w (records.Tx tx)) tx
 
-pub follows_print : (w : World) (l : Ledger) (pots : report.Pots) → l ≡ w.ledger → pots ≡ pots_of l → Follows w (Read (records.Print Pots)) l (outcomes.Pots pots_words_of.Pots pots)
-follows_print w l pots is e = record {
-  ledger = is;
-  lines = ap (λ (p : report.Pots). pots_words (codes "pots") p ∷ []) (ap (λ (m : Ledger). pots_of m) (sym is) ∙ sym e);
-}
+lines_are : (w : World) (r : Reading) → answer_lines w r ≡ outcome_lines (outcome_of w.ledger r)
+lines_are w TooLong = refl
+lines_are w (Malformed field place) = refl
+lines_are w (Read (records.Genesis g)) = refl
+lines_are w (Read (records.Block slot pulse)) = refl
+lines_are w (Read (records.Rewards u)) = refl
+lines_are w (Read (records.Tx tx)) = lines_of_tx (first_broken w.ledger tx) w tx
+lines_are w (Read (records.Print Pots)) = refl
+lines_are w (Read (records.Print State)) = refl
+
+-- ---- both
+
+pub judged : (w : World) (l : Standing) (r : Reading) (after : Standing) (outcome : Outcome) → l.ledger ≡ w.ledger → Judges l r (Ok (after, outcome))
+    → (after.ledger ≡ (world_left w r).ledger) × (answer_lines w r ≡ outcome_lines outcome)
+judged w l r after outcome is judges = (
+  judges.0 ∙ ap (λ (m : Ledger). ledger_left m r) is ∙ ledger_is w r,
+  lines_are w r ∙ sym (ap outcome_lines (judges.1 ∙ ap (λ (m : Ledger). outcome_of m r) is)),
+)

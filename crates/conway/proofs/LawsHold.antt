@@ -132,13 +132,11 @@ by_rule n g rs (Some rule) e = refl
 by_rule n g rs None e = ap (λ (t : Text). Some (text_of_lines n (genesis_lines g) ++ t)) (all_text (world_of_genesis g) rs e)
 
 pub text_is : TextIsOfTheWhole
-text_is [] s e = refl
-text_is ((n, Malformed field place) ∷ rs) s e = refl
-text_is ((n, TooLong) ∷ rs) s e = refl
-text_is ((n, Read (records.Block slot pulse)) ∷ rs) s e = refl
-text_is ((n, Read (records.Rewards u)) ∷ rs) s e = refl
-text_is ((n, Read (records.Tx tx)) ∷ rs) s e = refl
-text_is ((n, Read (records.Print _)) ∷ rs) s e = refl
-text_is ((n, Read (records.Genesis g)) ∷ rs) s e =
-    ap (λ b. text_by_cause (if b then option_map causes.Broken (genesis_fault g) else Some causes.NotBuilt) n (Read (records.Genesis g)) rs) s
-    ∙ by_rule n g rs (genesis_fault g) e
+text_is [] e = refl
+text_is ((n, Malformed field place) ∷ rs) e = refl
+text_is ((n, TooLong) ∷ rs) e = refl
+text_is ((n, Read (records.Block slot pulse)) ∷ rs) e = refl
+text_is ((n, Read (records.Rewards u)) ∷ rs) e = refl
+text_is ((n, Read (records.Tx tx)) ∷ rs) e = refl
+text_is ((n, Read (records.Print _)) ∷ rs) e = refl
+text_is ((n, Read (records.Genesis g)) ∷ rs) e = by_rule n g rs (genesis_fault g) e

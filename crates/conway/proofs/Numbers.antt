@@ -1,9 +1,14 @@
--- The number with which a run ends says how.
-use Rattle.std.proofs.Common.{◌≡◌, ℕ, refl}
+-- The number with which a run ends says how, and a fault of the sink is no fault of the source.
+use Rattle.std.proofs.Common.{◌≡◌, ℕ, Result, Ok, Err, refl, arith}
+use Rattle.std.specs.Prelude.{⊤}
 use Rattle.byte_lines.specs.Faults.{CountsFaults}
+use Rattle.byte_lines.specs.declared.sink.SinkFault.{SinkFault}
+use Rattle.byte_lines.specs.declared.sink.SinkFault.TheVariants as sink_faults
+use Rattle.conway.specs.declared.fault.ReplayFault.{ReplayFault}
+use Rattle.conway.specs.declared.fault.ReplayFault.TheVariants as faults
 use Rattle.conway.specs.declared.status.Status.{Status}
 use Rattle.conway.specs.declared.status.Status.TheVariants as statuses
-use Rattle.conway.specs.Statuses.{status_number}
+use Rattle.conway.specs.Statuses.{fault_of_sink, status_number}
 
 pub is_usage : (status : Status) → status_number status ≡ 2 → status ≡ statuses.Usage
 is_usage statuses.Usage e = refl
@@ -39,3 +44,29 @@ counts_as failed other old new to back counts = record {
   stays = λ no. counts.stays (λ f. no (to f));
   never_falls = counts.never_falls;
 }
+
+-- where there was no fault, none is counted
+pub none_counted : (failed : Type 0) (old new : ℕ) → (failed → ⊥) → new ≡ old → CountsFaults failed old new
+none_counted failed old new none same = record {
+  rose = λ f. absurd (none f);
+  stays = λ no. same;
+  never_falls = omega (arith, same);
+}
+
+-- what went well is no fault
+pub not_err : (value fault : Type 0) (r : Result value fault) (v : value) (e : fault) → r ≡ Ok v → r ≡ Err e → ⊥
+not_err value fault r v e is h = cc
+
+-- a fault of the sink is none of the source
+pub not_read : (e : SinkFault) (r : Result ⊤ ReplayFault) → r ≡ Err (fault_of_sink e) → r ≡ Err faults.ReadFault → ⊥
+not_read sink_faults.WriteFault r is h = cc
+not_read sink_faults.NoMemory r is h = cc
+
+-- it is a write that failed exactly where the sink says so
+pub to_replay : (e : SinkFault) (r : Result ⊤ ReplayFault) (s : Result ⊤ SinkFault) → r ≡ Err (fault_of_sink e) → s ≡ Err e → s ≡ Err sink_faults.WriteFault → r ≡ Err faults.WriteFault
+to_replay sink_faults.WriteFault r s is at h = is
+to_replay sink_faults.NoMemory r s is at h = cc
+
+pub to_sink : (e : SinkFault) (r : Result ⊤ ReplayFault) (s : Result ⊤ SinkFault) → r ≡ Err (fault_of_sink e) → s ≡ Err e → r ≡ Err faults.WriteFault → s ≡ Err sink_faults.WriteFault
+to_sink sink_faults.WriteFault r s is at h = at
+to_sink sink_faults.NoMemory r s is at h = cc

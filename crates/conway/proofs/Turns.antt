@@ -10,7 +10,6 @@ use Rattle.byte_lines.specs.declared.lines.LineFault.{LineFault}
 use Rattle.byte_lines.specs.declared.lines.LineFault.TheVariants as line_faults
 use Rattle.byte_lines.specs.declared.sink.SinkFault.{SinkFault}
 use Rattle.byte_lines.specs.declared.sink.SinkFault.TheVariants as sink_faults
-use Rattle.ledger_state.specs.Built.{is_built_genesis}
 use Rattle.ledger_state.specs.Standing.{Standing}
 use Rattle.run_model.specs.Genesis.{genesis_fault, world_of_genesis}
 use Rattle.run_model.specs.World.{World}
@@ -37,6 +36,7 @@ use Rattle.conway.specs.Records.{records_of}
 use Rattle.conway.specs.Runs.{answer_lines, genesis_cause, genesis_lines, reading_fault, start_fault, text_by_cause, text_from, text_of_records, text_so_far, world_left}
 use Rattle.conway.specs.Statuses.{fault_of_answer, fault_of_line, fault_of_sink, status_of_fault}
 use Rattle.conway.specs.Turns.{Leaves, Stands, Writes}
+use Rattle.conway.proofs.Judging.{judged}
 
 -- ---- what a sink took
 
@@ -99,14 +99,14 @@ writes_more records None written n r after outcome writes answers = (
 )
 writes_more records (Some l) written n r after outcome writes answers =
     let w : World = writes.0 in
-    let follows = answers w writes.1 in (
+    let is = judged w l r after outcome writes.1 answers in (
       world_left w r,
-      follows.ledger,
+      is.0,
       λ more.
           ap (λ (rs : List (ℕ × Reading)). text_of_records rs) (append_assoc records ((n, r) ∷ []) more)
           ∙ writes.2 ((n, r) ∷ more)
           ∙ ap Some (sym (append_assoc written (text_of_lines n (answer_lines w r)) (text_from (world_left w r) more)))
-          ∙ ap (λ (ls : List (List Text)). Some ((written ++ text_of_lines n ls) ++ text_from (world_left w r) more)) follows.lines,
+          ∙ ap (λ (ls : List (List Text)). Some ((written ++ text_of_lines n ls) ++ text_from (world_left w r) more)) is.1,
     )
 
 -- ---- fronts
@@ -130,15 +130,14 @@ not_over : (status : Status) (came : List ℕ) → status ≢ statuses.TooMuch �
 not_over status came other within = (λ is. absurd (other is), λ over. absurd (omega (arith, within, over)))
 
 -- a cause against a reading is not that there is none
-not_missing_by : (b : Bool) (fault : Option GenesisRule) → (if b then option_map causes.Broken fault else Some causes.NotBuilt) ≡ Some causes.Missing → ⊥
-not_missing_by true None e = cc
-not_missing_by true (Some rule) e = cc
-not_missing_by false fault e = cc
+not_missing_by : (fault : Option GenesisRule) → option_map causes.Broken fault ≡ Some causes.Missing → ⊥
+not_missing_by None e = cc
+not_missing_by (Some rule) e = cc
 
 not_missing : (r : Reading) → reading_fault r ≡ Some causes.Missing → ⊥
 not_missing readings.TooLong e = cc
 not_missing (readings.Malformed field place) e = cc
-not_missing (readings.Read (kinds.Genesis g)) e = not_missing_by (is_built_genesis g) (genesis_fault g) e
+not_missing (readings.Read (kinds.Genesis g)) e = not_missing_by (genesis_fault g) e
 not_missing (readings.Read (kinds.Block slot pulse)) e = cc
 not_missing (readings.Read (kinds.Rewards u)) e = cc
 not_missing (readings.Read (kinds.Tx tx)) e = cc

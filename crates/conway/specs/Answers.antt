@@ -2,18 +2,27 @@
 use Rattle.std.specs.Prelude.{◌≡◌, Option, Some, None, Result, Ok, Err, ⊤}
 use Rattle.coin_frac.specs.declared.NoMemory.{NoMemory}
 use Rattle.ledger_model.specs.Ledger.{Ledger}
+use Rattle.ledger_model.specs.Supply.{pots_of}
+use Rattle.ledger_model.specs.Transaction.{tx_step}
 use Rattle.ledger_state.specs.Standing.{Standing}
+use Rattle.report.specs.declared.pots.PotsWord.TheVariants as words
 use Rattle.run_model.specs.Genesis.{ledger_of_genesis}
-use Rattle.run_model.specs.World.{World}
+use Rattle.text_model.specs.Runs.{line_rule}
 use Rattle.tx_records.specs.declared.genesis.Genesis.{Genesis}
 use Rattle.tx_records.specs.declared.record.Reading.{Reading}
-use Rattle.tx_records.specs.declared.record.Reading.TheVariants.{Read}
+use Rattle.tx_records.specs.declared.record.Reading.TheVariants.{Read, Malformed, TooLong}
+use Rattle.tx_records.specs.declared.record.Record.{Record}
 use Rattle.tx_records.specs.declared.record.Record.TheVariants as records
+use Rattle.tx_records.specs.declared.record.What.TheVariants as prints
+use Rattle.tx_records.specs.declared.reply.Reply.TheVariants.{Refused}
+use Rattle.tx_records.specs.declared.rules.TheConstants.{GENESIS_AGAIN, MALFORMED, TOO_LONG}
+use Rattle.tx_records.specs.Rules.{plain_rule}
 use Rattle.conway.specs.declared.fault.AnswerFault.{AnswerFault}
 use Rattle.conway.specs.declared.fault.AnswerFault.TheVariants as faults
 use Rattle.conway.specs.declared.outcome.Outcome.{Outcome}
+use Rattle.conway.specs.declared.outcome.Outcome.TheVariants.{Answered, Pots}
 use Rattle.conway.specs.Outcomes.{outcome_lines}
-use Rattle.conway.specs.Runs.{answer_lines, genesis_cause, genesis_lines, reading_fault, world_left}
+use Rattle.conway.specs.Runs.{genesis_cause, genesis_lines, not_built, reading_fault}
 
 -- the ledger of a genesis and its pots, or the cause for which there is none
 abbrev pub Begins : Genesis → Result (Standing × Outcome) AnswerFault → Type 0
@@ -28,14 +37,27 @@ BeginsWith r (Ok p) = (g : Genesis) × (r ≡ Read (records.Genesis g)) × Begin
 BeginsWith r (Err (faults.BadGenesis cause)) = reading_fault r ≡ Some cause
 BeginsWith r (Err faults.NoMemory) = ⊤
 
--- the ledger of the whole after what was read, and what that comes to
-pub record Follows (w : World) (r : Reading) (after : Ledger) (outcome : Outcome) : Type 0 where
-  pub ledger : after ≡ (world_left w r).ledger
-  pub lines : answer_lines w r ≡ outcome_lines outcome
+-- the ledger that what was read leaves: a transaction changes it
+abbrev pub ledger_left : Ledger → Reading → Ledger
+ledger_left l (Read (records.Tx tx)) = (tx_step l tx).0
+ledger_left l _ = l
 
--- the same, but where memory ran out
+-- what a record comes to
+abbrev pub record_outcome : Ledger → Record → Outcome
+record_outcome l (records.Genesis g) = Answered (Refused (plain_rule GENESIS_AGAIN))
+record_outcome l (records.Tx tx) = Answered (tx_step l tx).1
+record_outcome l (records.Print prints.Pots) = Pots words.Pots (pots_of l)
+record_outcome l _ = Answered not_built
+
+-- what was read comes to
+abbrev pub outcome_of : Ledger → Reading → Outcome
+outcome_of l (Read r) = record_outcome l r
+outcome_of l (Malformed field place) = Answered (Refused (line_rule MALFORMED (Some field) place))
+outcome_of l TooLong = Answered (Refused (plain_rule TOO_LONG))
+
+-- the ledger after what was read, and what that comes to, but where memory ran out
 abbrev pub Judges : Standing → Reading → Result (Standing × Outcome) NoMemory → Type 0
-Judges l r (Ok (after, outcome)) = (w : World) → l.ledger ≡ w.ledger → Follows w r after.ledger outcome
+Judges l r (Ok (after, outcome)) = (after.ledger ≡ ledger_left l.ledger r) × (outcome ≡ outcome_of l.ledger r)
 Judges l r (Err e) = ⊤
 
 -- the answer to what was read; there is no ledger before the genesis

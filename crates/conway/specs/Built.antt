@@ -5,14 +5,13 @@ use Rattle.tx_records.specs.declared.record.Reading.TheVariants.{Read, Malformed
 use Rattle.tx_records.specs.declared.record.Record.{Record}
 use Rattle.tx_records.specs.declared.record.Record.TheVariants as records
 use Rattle.tx_records.specs.declared.record.What.TheVariants.{Pots, State}
-use Rattle.tx_rule.specs.Built.{is_built_tx}
 
 -- whether a record is built; a second genesis is, since it is refused
 abbrev pub is_built : Record → Bool
 is_built (records.Genesis g) = true
 is_built (records.Block slot pulse) = false
 is_built (records.Rewards u) = false
-is_built (records.Tx tx) = is_built_tx tx
+is_built (records.Tx tx) = true
 is_built (records.Print Pots) = true
 is_built (records.Print State) = false
 

@@ -2,7 +2,6 @@
 use Rattle.std.specs.Prelude.{◌≡◌, ℕ, Bool, true, List, ◌∷◌, Option, Some, None, filter_map, fold, if◌then◌else◌}
 use Rattle.std.specs.List.{list_all}
 use Rattle.ledger_model.specs.Supply.{supply_of}
-use Rattle.ledger_state.specs.Built.{is_built_genesis}
 use Rattle.run_model.specs.Genesis.{genesis_fault, world_of_genesis}
 use Rattle.tx_records.specs.GenesisLimits as genesis_limits
 use Rattle.run_model.specs.Runs as whole
@@ -13,7 +12,6 @@ use Rattle.tx_records.specs.declared.genesis.Genesis.{Genesis}
 use Rattle.tx_records.specs.declared.record.Reading.{Reading}
 use Rattle.tx_records.specs.declared.record.Reading.TheVariants.{Read, Malformed, TooLong}
 use Rattle.tx_records.specs.declared.record.Record.{Record}
-use Rattle.tx_records.specs.declared.record.Record.TheVariants as records
 use Rattle.tx_records.specs.declared.reply.Reply.TheVariants.{Refused}
 use Rattle.tx_records.specs.declared.reply.Rule.{Rule}
 use Rattle.conway.specs.Built.{is_built, is_built_reading}
@@ -35,15 +33,9 @@ abbrev pub RunsAreOfTheWhole : Type 0
 RunsAreOfTheWhole = (w : World) (rs : List (ℕ × Reading)) →
     world_after_all w rs ≡ whole.world_after_all w (filter_map built_record rs)
 
--- the genesis is built, where the first record is one
-abbrev pub starts_built : List (ℕ × Reading) → Bool
-starts_built ((n, Read (records.Genesis g)) ∷ rs) = is_built_genesis g
-starts_built _ = true
-
 -- where all that was read is built, the text is that of the whole ledger
 abbrev pub TextIsOfTheWhole : Type 0
-TextIsOfTheWhole = (rs : List (ℕ × Reading)) → starts_built rs ≡ true
-    → list_all (λ (r : ℕ × Reading). is_built_reading r.1) rs ≡ true
+TextIsOfTheWhole = (rs : List (ℕ × Reading)) → list_all (λ (r : ℕ × Reading). is_built_reading r.1) rs ≡ true
     → text_of_records rs ≡ text.text_of_readings rs
 
 -- all that was read is within the limits of records

@@ -1,7 +1,6 @@
 -- The text of a whole run: that of the whole ledger, but for what is not built. (Own)
 use Rattle.std.specs.Prelude.{ℕ, List, [], ◌∷◌, ◌++◌, Option, Some, None, codes, option_map, unwrap_or, if◌then◌else◌}
 use Rattle.ledger_model.specs.Supply.{pots_of}
-use Rattle.ledger_state.specs.Built.{is_built_genesis}
 use Rattle.run_model.specs.Genesis.{genesis_fault, ledger_of_genesis, world_of_genesis}
 use Rattle.run_model.specs.World.{World}
 use Rattle.text_model.specs.Replies.{pots_words, reply_words}
@@ -44,7 +43,7 @@ text_from w (r ∷ rs) = text_of_lines r.0 (answer_lines w r.1) ++ text_from (wo
 
 -- why a genesis gives no ledger, where it gives none
 abbrev pub genesis_cause : Genesis → Option GenesisCause
-genesis_cause g = if is_built_genesis g then option_map causes.Broken (genesis_fault g) else Some causes.NotBuilt
+genesis_cause g = option_map causes.Broken (genesis_fault g)
 
 -- why what was read first is no genesis to begin with, where it is not
 abbrev pub reading_fault : Reading → Option GenesisCause

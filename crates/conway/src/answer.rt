@@ -12,21 +12,18 @@ use crate::fault::AnswerFault;
 use crate::outcome::Outcome;
 use crate::status::GenesisCause;
 use coin_frac::NoMemory;
-use ledger_state::{LedgerState, is_built_genesis};
+use ledger_state::LedgerState;
 use report::PotsWord;
 use std::alloc::Global;
 use tx_records::rules::{GENESIS_AGAIN, MALFORMED, NOT_BUILT, TOO_LONG};
 use tx_records::{FieldName, Genesis, Reading, Record, Reply, Rule, Tx, What};
-use tx_rule::{apply_tx, is_built_tx};
+use tx_rule::apply_tx;
 
-/// The ledger of a genesis and its pots, where it is built and breaks no rule.
+/// The ledger of a genesis and its pots, where it breaks no rule.
 fn begin(alloc: Global, genesis: &Genesis) -> Result<(LedgerState, Outcome), AnswerFault>
     requires within { genesis_limits.is_within_limits genesis.now ≡ true }
     ensures { Begins genesis.now result }
 {
-    if !is_built_genesis(genesis) {
-        return Err(AnswerFault::BadGenesis(GenesisCause::NotBuilt));
-    }
     let ledger = LedgerState::from_genesis(alloc, genesis)?;
     let pots = ledger.pots();
     Ok((ledger, Outcome::Pots(PotsWord::Genesis, pots)))
@@ -74,9 +71,6 @@ fn judge_tx(alloc: Global, ledger: LedgerState, tx: &Tx) -> Result<(LedgerState,
     requires within { tx_limits.is_within_limits tx.now ≡ true }
     ensures { Judges ledger (Read (Record.Tx tx.now)) result }
 {
-    if !is_built_tx(tx) {
-        return Ok((ledger, refused(NOT_BUILT)));
-    }
     let (after, reply) = apply_tx(alloc, ledger, tx)?;
     Ok((after, Outcome::Answered(reply)))
 }

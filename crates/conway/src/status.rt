@@ -33,8 +33,6 @@ pub enum GenesisCause {
     Malformed { what: FieldName, place: Option<u32> },
     /// It is a record of another kind.
     NoGenesis,
-    /// It has pools or DReps, which are not built yet.
-    NotBuilt,
     /// The first genesis rule that it breaks.
     Broken(GenesisRule),
 }

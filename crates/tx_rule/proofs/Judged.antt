@@ -1,26 +1,24 @@
--- The first broken rule of a transaction that is built, group after group, and what its step makes of the ledger.
+-- The first broken rule of a transaction, group after group, and what its step makes of the ledger.
 use Rattle.std.proofs.Common.{◌≡◌, List, [], ◌++◌, Result, Ok, Option, Some, None, true, is_none, subst, refl, ap, sym, ◌∙◌, append_assoc, append-nil}
 use Rattle.std.specs.Prelude.{⊤}
 use Rattle.maps.specs.Words.{or_else}
 use Rattle.tx_records.specs.declared.reply.Reply.TheVariants.{Refused}
 use Rattle.tx_records.specs.declared.reply.Rule.{Rule}
 use Rattle.tx_records.specs.declared.reply.TxFault.{TxFault}
-use Rattle.tx_records.specs.declared.tx.ProposalRecord.{ProposalRecord}
 use Rattle.tx_records.specs.declared.tx.Tx.{Tx}
-use Rattle.tx_records.specs.declared.tx.VoteRecord.{VoteRecord}
 use Rattle.ledger_model.specs.Broken.{balance_checks, body_checks, first_broken, is_allowed}
 use Rattle.ledger_model.specs.CertRules.{withdrawal_checks}
-use Rattle.ledger_model.specs.Checks.{Check, answer_by, first_among, per_place}
+use Rattle.ledger_model.specs.Checks.{Check, answer_by, answer_of, first_among, per_place}
 use Rattle.ledger_model.specs.Draft.{last_draft}
 use Rattle.ledger_model.specs.Ledger.{Ledger}
 use Rattle.ledger_model.specs.ProposalRules.{proposal_checks, vote_checks}
 use Rattle.ledger_model.specs.Transaction.{accepted_as, ledger_after_tx, tx_step, tx_step_by}
 use Rattle.ledger_model.specs.UtxoRules.{unless_failed, utxo_checks}
-use Rattle.ledger_model.proofs.CheckLaws.{first_among-append}
+use Rattle.ledger_model.proofs.CheckLaws.{answer-append, first_among-append}
 use Rattle.ledger_state.specs.Standing.{Standing, on_ledger}
 use Rattle.rule_checks.specs.Answered.{IsAnswered, as_fault}
-use Rattle.tx_rule.specs.Built.{is_built_tx}
-use Rattle.tx_rule.proofs.Begun.{no_proposal, no_vote}
+use Rattle.rule_checks.proofs.Groups.{before}
+use Rattle.tx_rule.specs.Drafted.{drafted_checks}
 use Rattle.tx_rule.proofs.Certified.{checks_from}
 
 -- ---- answers
@@ -39,23 +37,32 @@ answered_later a b whole r is none h = subst (λ (o : Option Rule). IsAnswered o
 
 -- ---- the groups
 
-five : (a b c d e : List Check) → c ≡ [] → d ≡ [] → or_else (first_among a) (or_else (first_among b) (first_among e)) ≡ first_among (a ++ b ++ c ++ d ++ e)
-five a b c d e p q =
-    let all : a ++ b ++ [] ++ [] ++ e ≡ a ++ (b ++ e) = simp (append_assoc, append-nil) in
-    ap (or_else (first_among a)) (sym (first_among-append b e))
-    ∙ sym (first_among-append a (b ++ e))
+five : (a b c d e : List Check) → or_else (first_among a) (or_else (first_among b) (first_among (c ++ d ++ e))) ≡ first_among (a ++ b ++ c ++ d ++ e)
+five a b c d e =
+    let all : a ++ b ++ c ++ d ++ e ≡ a ++ (b ++ (c ++ d ++ e)) = simp append_assoc in
+    ap (or_else (first_among a)) (sym (first_among-append b (c ++ d ++ e)))
+    ∙ sym (first_among-append a (b ++ (c ++ d ++ e)))
     ∙ ap first_among (sym all)
-    ∙ (λ i. first_among (a ++ b ++ sym p i ++ sym q i ++ e))
+
+three : (a b c : List Check) → before a (before b (answer_of c)) ≡ answer_of (a ++ b ++ c)
+unfolding before
+three a b c =
+    let right : a ++ b ++ c ≡ a ++ (b ++ c) = simp append_assoc in
+    sym (ap answer_of right ∙ answer-append a (b ++ c) ∙ ap (before a) (answer-append b c))
 
 module _ (l : Ledger) (tx : Tx) where
-  -- the rules on withdrawals, on certificates and on the balance
-  pub body_groups : is_built_tx tx ≡ true
-      → or_else (first_among (per_place (withdrawal_checks l) tx.withdrawals)) (or_else (first_among (checks_from l tx 0)) (first_among (balance_checks l tx))) ≡ first_among (body_checks l tx)
-  body_groups built =
+  -- the rules on withdrawals, on certificates and after them
+  pub body_groups : or_else (first_among (per_place (withdrawal_checks l) tx.withdrawals)) (or_else (first_among (checks_from l tx 0)) (first_among (drafted_checks l tx))) ≡ first_among (body_checks l tx)
+  body_groups =
       five (per_place (withdrawal_checks l) tx.withdrawals) (checks_from l tx 0) (per_place (proposal_checks l (last_draft l tx)) tx.proposals) (per_place (vote_checks l (last_draft l tx)) tx.votes)
       (balance_checks l tx)
-      (ap (λ (ps : List ProposalRecord). per_place (proposal_checks l (last_draft l tx)) ps) (no_proposal tx built))
-      (ap (λ (vs : List VoteRecord). per_place (vote_checks l (last_draft l tx)) vs) (no_vote tx built))
+
+  -- the rules after the certificates
+  pub drafted_answer : (answer : Result ⊤ Rule)
+      → answer ≡ before (per_place (proposal_checks l (last_draft l tx)) tx.proposals) (before (per_place (vote_checks l (last_draft l tx)) tx.votes) (answer_of (balance_checks l tx)))
+      → answer ≡ answer_of (drafted_checks l tx)
+  drafted_answer answer e =
+      e ∙ three (per_place (proposal_checks l (last_draft l tx)) tx.proposals) (per_place (vote_checks l (last_draft l tx)) tx.votes) (balance_checks l tx)
 
   -- the first rules, and those of the body
   pub two_groups : or_else (first_among (utxo_checks l tx)) (first_among (unless_failed tx.scripts (body_checks l tx))) ≡ first_broken l tx

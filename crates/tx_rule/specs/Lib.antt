@@ -1,2 +1,2 @@
-pub mod Built
+pub mod Drafted
 pub mod Judged

@@ -1,20 +1,19 @@
-ghost use Rattle.std.specs.Prelude.{◌≡◌, ◌+◌, ◌≤◌, ◌^◌, true, OnOk};
-ghost use Rattle.cert_deleg.specs.Moved.{HasMoved};
+ghost use Rattle.std.specs.Prelude.{◌≡◌, ◌+◌, ◌≤◌, ◌^◌, true, map, OnOk};
+ghost use Rattle.ledger_state.specs.Moved.{HasMoved};
 ghost use Rattle.ledger_model.specs.CertRules.{cert_checks};
-ghost use Rattle.ledger_model.specs.Checks.{first_among, per_place};
+ghost use Rattle.ledger_model.specs.Changes.{changed_by};
+ghost use Rattle.ledger_model.specs.Checks.{at_place, first_among, per_place};
 ghost use Rattle.ledger_model.specs.Draft.{draft_after, last_draft};
-ghost use Rattle.ledger_model.specs.Flows.{flows_of_certs};
+ghost use Rattle.ledger_model.specs.Flows.{flows_of_cert, flows_of_certs};
 ghost use Rattle.rule_checks.specs.Answered.{IsAnswered};
 ghost use Rattle.tx_records.specs.TxLimits.{is_within_limits};
-ghost use Rattle.tx_rule.specs.Built.{is_built_tx};
 
-use cert_deleg::cert;
+use cert_deleg::is_account_or_pool_cert;
 use ledger_state::Draft;
-use tx_records::{Tx, TxFault};
+use tx_records::{Cert, Tx, TxFault};
 
 /// Each certificate of a transaction acts on the draft, from left to right, or the first that breaks a rule is refused with its place.
 pub fn certify(draft: &mut Draft, tx: &Tx) -> Result<(), TxFault>
-    requires built { is_built_tx tx.now ≡ true }
     requires within { is_within_limits tx.now ≡ true }
     requires begun { draft.old.ledger ≡ draft_after draft.old.start tx.now 0 }
     requires few { draft.old.changes ≤ 2 ^ 30 }
@@ -26,7 +25,23 @@ pub fn certify(draft: &mut Draft, tx: &Tx) -> Result<(), TxFault>
 {
     let certs = tx.certs.as_slice();
     for (place, c) in certs.iter().enumerate() {
-        cert(draft, place as u32, c)?;
+        act(draft, place as u32, c)?;
     }
     Ok(())
+}
+
+/// A certificate acts on the draft, or is refused with the first rule that it breaks, at this place.
+fn act(draft: &mut Draft, place: u32, c: &Cert) -> Result<(), TxFault>
+    requires few { draft.old.changes ≤ 2 ^ 31 }
+    ensures rule { IsAnswered (first_among (map (at_place place) (cert_checks draft.old.start draft.old.ledger c.now))) result }
+    ensures ledger { OnOk result (draft.new.ledger ≡ changed_by c.now draft.old.ledger) }
+    ensures moved { OnOk result (HasMoved (flows_of_cert draft.old.ledger c.now) draft.old draft.new) }
+    ensures start { draft.new.start ≡ draft.old.start }
+    ensures few { draft.new.changes ≤ draft.old.changes + 1 }
+{
+    if is_account_or_pool_cert(c) {
+        cert_deleg::cert(draft, place, c)
+    } else {
+        govcert::cert(draft, place, c)
+    }
 }

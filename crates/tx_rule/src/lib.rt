@@ -11,25 +11,24 @@ ghost use Rattle.ledger_state.specs.Drafts.{draft_at, draft_of};
 ghost use Rattle.ledger_state.specs.Standing.{on_ledger};
 ghost use Rattle.rule_checks.specs.Answered.{IsAnswered};
 ghost use Rattle.tx_records.specs.TxLimits.{is_within_limits};
-ghost use Rattle.tx_rule.specs.Built.{is_built_tx};
 ghost use Rattle.tx_rule.specs.Judged.{IsJudged};
 
-mod built;
 mod certs;
+mod drafted;
 
 use crate::certs::certify;
-pub use built::is_built_tx;
+use crate::drafted::check_drafted;
 use cert_deleg::withdraw;
 use coin_frac::NoMemory;
+use govcert::refresh;
 use ledger_state::{Changes, Draft, LedgerState};
 use rule_checks::as_fault;
 use std::alloc::Global;
 use tx_records::{Reply, Rule, Scripts, Tx, TxFault};
-use utxo_rules::{balance, check};
+use utxo_rules::check;
 
 /// Judges a transaction, and applies it where it breaks no rule; the ledger of a refused one is the one that was given, and what was frozen stays. After want of memory there is no ledger. (LEDGER of the formal specification)
 pub fn apply_tx(alloc: Global, s: LedgerState, tx: &Tx) -> Result<(LedgerState, Reply), NoMemory>
-    requires built { is_built_tx tx.now ≡ true }
     requires within { is_within_limits tx.now ≡ true }
     ensures ledger { IfOk result (λ r. r.0 ≡ on_ledger (λ l. (tx_step l tx.now).0) s) }
     ensures reply { IfOk result (λ r. r.1 ≡ (tx_step s.ledger tx.now).1) }
@@ -44,7 +43,6 @@ pub fn apply_tx(alloc: Global, s: LedgerState, tx: &Tx) -> Result<(LedgerState, 
 
 /// What a transaction that breaks no rule changes, or the first rule that it breaks.
 fn judge(alloc: Global, s: &LedgerState, tx: &Tx) -> Result<Changes, TxFault>
-    requires built { is_built_tx tx.now ≡ true }
     requires within { is_within_limits tx.now ≡ true }
     ensures { IsJudged result s.now.ledger tx.now }
 {
@@ -56,7 +54,6 @@ fn judge(alloc: Global, s: &LedgerState, tx: &Tx) -> Result<Changes, TxFault>
 
 /// Makes the draft of the transaction, or tells the first rule of its body that it breaks. One whose scripts failed need not keep them, and changes nothing in the draft.
 fn judge_body(draft: &mut Draft, tx: &Tx) -> Result<(), TxFault>
-    requires built { is_built_tx tx.now ≡ true }
     requires within { is_within_limits tx.now ≡ true }
     requires fresh { draft.old ≡ draft_at draft.old.start }
     ensures rule { IsAnswered (first_among (unless_failed tx.now.scripts (body_checks draft.old.start tx.now))) result }
@@ -69,9 +66,8 @@ fn judge_body(draft: &mut Draft, tx: &Tx) -> Result<(), TxFault>
     }
 }
 
-/// The same of one whose scripts did not fail: its withdrawals, its certificates, and its balance.
+/// The same of one whose scripts did not fail: its withdrawals, what its proposals and votes refresh, its certificates, and what is asked after them.
 fn judge_passed(draft: &mut Draft, tx: &Tx) -> Result<(), TxFault>
-    requires built { is_built_tx tx.now ≡ true }
     requires within { is_within_limits tx.now ≡ true }
     requires fresh { draft.old ≡ draft_at draft.old.start }
     ensures rule { IsAnswered (first_among (body_checks draft.old.start tx.now)) result }
@@ -79,8 +75,9 @@ fn judge_passed(draft: &mut Draft, tx: &Tx) -> Result<(), TxFault>
     ensures start { draft.new.start ≡ draft.old.start }
 {
     withdraw(draft, tx)?;
+    refresh(draft, tx)?;
     certify(draft, tx)?;
-    as_fault(balance(draft, tx))
+    as_fault(check_drafted(draft, tx))
 }
 
 /// The reply to a transaction that breaks no rule.

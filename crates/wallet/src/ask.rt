@@ -7,15 +7,13 @@ use coin_frac::NoMemory;
 use ledger_state::LedgerState;
 use std::alloc::Global;
 use tx_records::{Reply, Tx};
-use tx_rule::{apply_tx, is_built_tx};
+use tx_rule::apply_tx;
 
 /// Why a transaction is not judged. (Own)
 #[derive(Clone, Copy, Debug, PartialEq, Eq)]
 pub enum AskFault {
     /// A list is longer, or a number greater, than a record may have.
     BeyondLimits,
-    /// It has a part whose rules are to come.
-    NotBuilt,
     /// Memory ran out.
     NoMemory,
 }
@@ -37,9 +35,6 @@ pub fn ask(alloc: Global, ledger: LedgerState, tx: &Tx) -> Result<(LedgerState, 
 {
     if !tx.is_within_limits(alloc)? {
         return Err(AskFault::BeyondLimits);
-    }
-    if !is_built_tx(tx) {
-        return Err(AskFault::NotBuilt);
     }
     Ok(apply_tx(alloc, ledger, tx)?)
 }

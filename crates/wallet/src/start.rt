@@ -2,7 +2,7 @@
 ghost use Rattle.std.specs.Prelude.{IfOk};
 ghost use Rattle.wallet.specs.Starts.{IsLedgerOf};
 
-use ledger_state::{GenesisFault, LedgerState, is_built_genesis};
+use ledger_state::{GenesisFault, LedgerState};
 use record_read::{RecordFault, read_record};
 use std::alloc::Global;
 use tx_records::{GenesisRule, Record};
@@ -14,8 +14,6 @@ pub enum StartFault {
     Unreadable(RecordFault),
     /// It is a record of another kind.
     NoGenesis,
-    /// It has pools or DReps, whose books are to come.
-    NotBuilt,
     /// The first rule of a genesis that it breaks.
     Broken(GenesisRule),
     /// Memory ran out.
@@ -31,11 +29,7 @@ pub fn ledger_of(alloc: Global, line: &[u8]) -> Result<LedgerState, StartFault>
         Ok(_) => return Err(StartFault::NoGenesis),
         Err(fault) => return Err(StartFault::Unreadable(fault)),
     };
-    let genesis = genesis.get();
-    if !is_built_genesis(genesis) {
-        return Err(StartFault::NotBuilt);
-    }
-    match LedgerState::from_genesis(alloc, genesis) {
+    match LedgerState::from_genesis(alloc, genesis.get()) {
         Ok(ledger) => Ok(ledger),
         Err(GenesisFault::Broken(rule)) => Err(StartFault::Broken(rule)),
         Err(GenesisFault::NoMemory) => Err(StartFault::NoMemory),

@@ -10,7 +10,6 @@ fn ends_with_the_number(rt: HostRuntime) {
         (Status::BadGenesis(GenesisCause::Missing), 3),
         (Status::BadGenesis(GenesisCause::TooLong), 3),
         (Status::BadGenesis(GenesisCause::NoGenesis), 3),
-        (Status::BadGenesis(GenesisCause::NotBuilt), 3),
         (
             Status::BadGenesis(GenesisCause::Broken(GenesisRule::SumWrong)),
             3,

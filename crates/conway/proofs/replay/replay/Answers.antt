@@ -1,8 +1,11 @@
-use Rattle.std.proofs.Common.{◌≡◌, Option, Ok, Err, ap, refl, rules, subst}
+use Rattle.std.proofs.Common.{◌≡◌, ℕ, Option, Result, Ok, Err, ap, refl, rules, subst, ◌∙◌}
+use Rattle.byte_lines.specs.Faults.{CountsFaults}
 use Rattle.byte_lines.specs.Reader.{Reader}
 use Rattle.tx_records.specs.declared.record.Reading.{Reading}
 use Rattle.conway.specs.Heard.{HearsNext}
 use Rattle.conway.specs.Statuses.{fault_of_answer, fault_of_line, fault_of_sink}
+use Rattle.conway.specs.declared.fault.ReplayFault.TheVariants as faults
+use Rattle.conway.proofs.Numbers.{counts_as, none_counted, not_err, not_read, to_replay, to_sink}
 use Rattle.conway.proofs.Turns.{ends_at_answer, ends_at_line, ends_at_sink, ends_done, ends_missing, goes_on, stands_first}
 use Rattle.conway.proofs.replay.replay.Goals as goal
 
@@ -63,3 +66,16 @@ returns-clause-replays g c = λ bytes told.
     let heard = subst (λ (o : Option Reading). HearsNext bytes c.next_record.new.lines (g.S.Source.left c.next_record.new.source) stands.records (Ok o)) c.in_default.is
     (c.in_ok-reading.ensures.heard bytes stands.records stands.heard) in
     ends_done bytes _ _ _ _ _ stands c.next_record.new.lines _ c.in-Some-ledger.field-0 c.in-Some-ledger.is heard
+
+pub returns-in_err-write-clause-reads : goal.returns-in_err-write-clause-reads
+returns-in_err-write-clause-reads g c =
+    let is : c.from_residual-in_err-write.result ≡ Err (fault_of_sink c.in_err-write.field-0.0) = search rules in
+    none_counted _ _ _ (not_read c.in_err-write.field-0.0 c.from_residual-in_err-write.result is) (c.in_ok-reading.ensures.counts.stays (not_err _ _ _ _ _ refl) ∙ c.loop-ledger.invariant.reads)
+
+pub returns-in_err-write-clause-writes : goal.returns-in_err-write-clause-writes
+returns-in_err-write-clause-writes g c =
+    let r = c.from_residual-in_err-write.result in
+    let e = c.in_err-write.field-0.0 in
+    let is : r ≡ Err (fault_of_sink e) = search rules in
+    subst (λ (n : ℕ). CountsFaults (r ≡ Err faults.WriteFault) n (g.K.Sink.faults c.write.new.sink)) c.loop-ledger.invariant.writes
+    (counts_as _ _ _ _ (to_replay e r (Err e) is refl) (to_sink e r (Err e) is refl) c.in_err-write.ensures.counts)
