@@ -1,6 +1,6 @@
 """Accounts: withdrawals, registrations and delegations. Each refusal alone, at the second place, and beside every rule that is asked later."""
 
-from cases import ACCEPTED, FAILED_SCRIPTS, NOT_BUILT, answered, missing, over_small, pots, printed, unbalanced
+from cases import ACCEPTED, FAILED_SCRIPTS, answered, missing, over_small, pots, printed, unbalanced
 from records import credential, hash28, key, ref, script, small, transfer
 
 PRINT = b'{"kind":"print","what":"pots"}'
@@ -186,19 +186,9 @@ def stored():
     )
 
 
-def beside_what_is_not_built():
-    certs = {"cert": "drep-reg", "cred": credential(30)}
-    yield over_accounts(
-        "a certificate that is not built",
-        (transfer(2, certs=[register(KEY), certs]), NOT_BUILT),
-        (transfer(2, withdrawals=[[key(13), 5]], certs=[certs]), NOT_BUILT),
-    )
-
-
 def cases():
     yield from alone()
     yield from together()
     yield from withdrawal()
     yield from changes()
     yield from stored()
-    yield from beside_what_is_not_built()

@@ -63,7 +63,6 @@ RECORDS = {
     "print": {"what": kinds.WHAT},
 }
 OPTIONAL = {"genesis": {"script", "committee"}, "tx": {*RECORDS["tx"]} - {"id", "inputs", "outputs", "fee", "size"}}
-ACCOUNT_CERTS = ["account-reg", "account-unreg", "delegate"]
 
 # a value that no field takes
 BAD = "{}"
@@ -80,22 +79,13 @@ def base_of(record):
     return {"kind": json.dumps(record), **needed, **{name: it for name, it in own.items() if name in needed}}
 
 
-def is_built(name, value):
-    """Whether a transaction with this value of the field is built."""
-    if name == "certs":
-        return all(it["cert"] in ACCOUNT_CERTS for it in json.loads(value) or [])
-    return name not in ("proposals", "votes") or value in ("[]", "null")
-
-
 def answer_of(record, name, value):
     """What a record is answered that reads, with this value of the field."""
     if record == "genesis":
         return AGAIN
-    if record == "print" and value != '"state"':
-        return printed(200, 100, 700, 1000)
-    if record != "tx" or not is_built(name, value):
-        return NOT_BUILT
-    return missing() if name == "id" else USED
+    if record == "tx":
+        return missing() if name == "id" else USED
+    return printed(200, 100, 700, 1000) if record == "print" and value != '"state"' else NOT_BUILT
 
 
 def good_values(kind):

@@ -1,4 +1,4 @@
-"""The genesis: what may begin a run, its rules, what of it is not built; a second one."""
+"""The genesis: what may begin a run, and its rules; a second one."""
 
 from cases import ACCEPTED, AGAIN, START, answered, begins, malformed, no_genesis, pots
 from records import GREATEST, PARAMS, SUPPLY_LIMIT, credential, genesis, hash28, key, ref, script, small, transfer, tx_id
@@ -96,13 +96,9 @@ def rules():
     yield no_genesis("all four", of([ref(1, 0), key(1, network=0), 1], [ref(1, 0), key(1), 1], supply=most + 1))
 
 
-# lists of a genesis that are read and not built
-UNBUILT = {
-    "pools": [hash28(50), 5, 0, 0, [0, 1], key(12)],
-    "dreps": [credential(30), 5, 20],
-}
 ACCOUNT = [credential(10), 2, 67, None, "abstain"]
-LISTS = {"accounts": ACCOUNT, **UNBUILT}
+POOL = [hash28(50), 5, 0, 0, [0, 1], key(12)]
+LISTS = {"accounts": ACCOUNT, "pools": POOL, "dreps": [credential(30), 5, 20]}
 
 
 def accounts():
@@ -118,13 +114,6 @@ def accounts():
     yield no_genesis("an account that delegates to no pool of the genesis", having([credential(10), 2, 67, hash28(50), None]))
     yield no_genesis("an account that delegates to no DRep of the genesis", having([credential(10), 2, 67, None, credential(30)]))
     yield no_genesis("an account that is not read", genesis(accounts=[ACCOUNT[:-1]]))
-
-
-def not_built():
-    for name, it in UNBUILT.items():
-        yield no_genesis(f"{name} that are not built", genesis(**{name: [it], "reserves": 900 - it[1]}))
-        yield no_genesis(f"{name} that are not built, with no deposit", genesis(**{name: [[it[0], 0, *it[2:]]]}))
-        yield no_genesis(f"{name} that are not read", genesis(**{name: [it[:-1]]}))
 
 
 def second():
@@ -144,7 +133,7 @@ def second():
         (genesis(minFeeC=0, params={**PARAMS, "minFeeC": 0}), malformed("params")),
         (genesis(committee={"threshold": [2, 1], "members": []}), malformed("committee")),
         (of([ref(1, 0), key(1), 20], [ref(1, 1), key(1)]), malformed("outputs", 1)),
-        (genesis(pools=[UNBUILT["pools"], [*UNBUILT["pools"], None]]), malformed("pools", 1)),
+        (genesis(pools=[POOL, [*POOL, None]]), malformed("pools", 1)),
         (transfer(2), ACCEPTED, "the ledger is the same"),
         (transfer(2, id=tx_id(3)), "refused 33 InputMissing at 0"),
         start=START,
@@ -157,5 +146,4 @@ def cases():
     yield from outputs()
     yield from rules()
     yield from accounts()
-    yield from not_built()
     yield from second()

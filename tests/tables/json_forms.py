@@ -1,6 +1,6 @@
 """JSON: what is a value, what is passed over, and which of two equal names counts."""
 
-from cases import ACCEPTED, NO_JSON, NO_RECORD, NOT_BUILT, USED, all_answered, answered, begins, malformed, no_genesis, unbalanced
+from cases import ACCEPTED, NO_JSON, NO_RECORD, USED, all_answered, answered, begins, malformed, no_genesis, unbalanced
 from records import but, genesis, ref, transfer, tx_id
 
 
@@ -163,7 +163,7 @@ def names():
         (but(transfer(4), '"kind":"tx"', '"kind":"print","kind":"tx"'), ACCEPTED),
         (but(transfer(5), '"size":0', '"size":0,"votes":[0],"votes":null'), ACCEPTED),
         (but(transfer(6), '"fee":20', r'"fee":19,"f\u0065e":20'), ACCEPTED),
-        (but(transfer(7), '"size":0', '"size":0,"certs":[{"cert":"x","cert":"hot-resign","cold":0,"cold":"k' + "0" * 56 + '"}]'), NOT_BUILT),
+        (but(transfer(7), '"size":0', '"size":0,"certs":[{"cert":"x","cert":"hot-resign","cold":0,"cold":"k' + "0" * 56 + '"}]'), "refused 71 ColdKeyUnknown at 0"),
         (but(genesis(), '"minFeeA":0', '"minFeeA":0,"minFeeA":null'), malformed("params")),
         (but(genesis(), '"minFeeA":0', '"minFeeA":null,"minFeeA":0'), "refused 3 GenesisAgain"),
     )

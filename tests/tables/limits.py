@@ -14,7 +14,7 @@ VOTE = json.dumps({"voter": "drep:" + credential(1), "action": ref(1, 0), "vote"
 
 
 def with_list(name, entries):
-    """A transaction with these entries in a list. Its id is that of the genesis outputs, so that it is refused where it reads and is built."""
+    """A transaction with these entries in a list. Its id is that of the genesis outputs, so that it is refused where it reads."""
     return transfer(1, **{name: ["?"]}).replace(b'["?"]', f"[{','.join(entries)}]".encode())
 
 
@@ -35,6 +35,9 @@ def longest():
         (with_list("inputs", [REFERENCE] * ENTRY_LIMIT), USED),
         (with_list("outputs", [OUTPUT] * OUTPUT_LIMIT), USED),
         (with_list("withdrawals", ACCOUNTS[:-1]), USED),
+        (with_list("certs", [CERT] * ENTRY_LIMIT), USED),
+        (with_list("proposals", [PROPOSAL] * ENTRY_LIMIT), USED),
+        (with_list("votes", [VOTE] * ENTRY_LIMIT), USED),
     )
     yield answered("the first of many withdrawals again", (with_list("withdrawals", [*ACCOUNTS[:-2], ACCOUNTS[0]]), malformed("withdrawals", ENTRY_LIMIT - 1)))
 
