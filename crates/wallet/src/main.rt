@@ -1,29 +1,47 @@
-//! What a wallet asks of the library: will this be accepted, and if not, why? It reads a genesis from standard input, and asks
-//! about the same transfer with a fee that is too small and with the least one. The page docs/library.md tells of it.
+//! What a wallet asks of the library: will this be accepted, and if not, why? It reads a genesis from standard input, and
+//! asks about a transfer with a fee that is too small and with the least one, and about a transaction of governance before
+//! and after the hard fork that it votes on is proposed. The page docs/library.md tells of it.
 #![tactic(auto)]
 
 mod ask;
+mod governance;
+mod parts;
 mod start;
 mod transfer;
 
 use ask::{AskFault, ask};
+use coin_frac::NoMemory;
+use governance::{governance, hard_fork};
 use ledger_state::LedgerState;
 use report::reply_line;
 use start::ledger_of;
 use std::alloc::Global;
 use std::io::{self, Write};
 use transfer::transfer;
+use tx_records::Tx;
 
-/// What the ledger answers to the transfer with this fee, as a line of text in place of what the buffer held; and the ledger after it.
+/// How many transactions are asked about.
+const QUESTIONS: u64 = 5;
+
+/// The transaction that is asked about by a question.
+fn transaction(alloc: Global, question: u64) -> Result<Tx, NoMemory> {
+    match question {
+        1 => transfer(alloc, 300),
+        2 => transfer(alloc, 400),
+        4 => hard_fork(alloc),
+        _ => governance(alloc),
+    }
+}
+
+/// What the ledger answers to a question, as a line of text in place of what the buffer held; and the ledger after it.
 fn answer(
     alloc: Global,
     ledger: LedgerState,
-    number: u64,
-    fee: u16,
+    question: u64,
     text: &mut Vec<u8>,
 ) -> Result<LedgerState, AskFault> {
-    let (after, reply) = ask(alloc, ledger, &transfer(alloc, fee)?)?;
-    reply_line(text, number, &reply)?;
+    let (after, reply) = ask(alloc, ledger, &transaction(alloc, question)?)?;
+    reply_line(text, question, &reply)?;
     Ok(after)
 }
 
@@ -36,8 +54,8 @@ fn main(rt: HostRuntime) -> io::Result<()> {
         Err(fault) => return println!(rt; "no ledger: {fault:?}"),
     };
     let mut text = Vec::new(rt.alloc());
-    for (number, fee) in [(1, 300), (2, 400)] {
-        match answer(rt.alloc(), ledger, number, fee, &mut text) {
+    for question in 1..=QUESTIONS {
+        match answer(rt.alloc(), ledger, question, &mut text) {
             Ok(after) => ledger = after,
             Err(fault) => return println!(rt; "not judged: {fault:?}"),
         }
