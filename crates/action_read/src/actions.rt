@@ -2,7 +2,7 @@ ghost use Rattle.serde_json.specs.View.{view};
 ghost use Rattle.json_fields.specs.Reads.{Reads};
 ghost use Rattle.action_read.specs.Actions.{action_in, action_of_type, hard_fork_in, new_constitution_in, no_confidence_in, parameter_change_in, treasury_withdrawals_in, update_committee_in};
 
-use crate::entries::{Distinct, Term};
+use crate::entries::{Credentials, Distinct, Term};
 use crate::kinds::UpdateField;
 use coin_frac::Unit;
 use gov_actions::Action;
@@ -26,7 +26,7 @@ fn read_update_committee(alloc: Global, object: &Value) -> Result<Action, FieldF
 {
     Ok(Action::UpdateCommittee {
         previous: maybe::<ActionId>(alloc, object, "previous")?,
-        remove: needed::<Distinct<Credential>>(alloc, object, "remove")?,
+        remove: needed::<Credentials>(alloc, object, "remove")?,
         add: needed::<Distinct<(Credential, Term)>>(alloc, object, "add")?,
         threshold: needed::<Unit>(alloc, object, "threshold")?,
     })

@@ -1,4 +1,5 @@
-use gov_ids::Named;
+use credential_list::CredentialList;
+use gov_ids::{Credential, Named};
 use json_fields::{FieldFault, Kind, read_distinct_list, read_number_below};
 use listed::Listed;
 use serde_json::Value;
@@ -38,5 +39,21 @@ where
 
     fn read(alloc: Global, value: &Value) -> Result<Listed<K::Entry>, FieldFault> {
         read_distinct_list::<K>(alloc, LIST_LIMIT, value).map_err(|e| e.fault)
+    }
+}
+
+/// A list of credentials, each once. (Own)
+pub struct Credentials;
+
+impl Kind for Credentials {
+    type Entry = CredentialList;
+
+    ghost use Rattle.action_read.specs.Actions.{credentials_in};
+
+    ghost reading = { credentials_in };
+
+    fn read(alloc: Global, value: &Value) -> Result<CredentialList, FieldFault> {
+        let keys = Distinct::<Credential>::read(alloc, value)?;
+        Ok(CredentialList::from_vec(alloc, keys.into_vec())?)
     }
 }

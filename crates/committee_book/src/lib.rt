@@ -1,14 +1,18 @@
 //! The book of what the committee's cold keys authorized.
 #![tactic(auto)]
 
-ghost use Rattle.std.specs.Prelude.{◌≡◌, ◌&&◌, not, [], option_map, OnOk, OnErr};
-ghost use Rattle.std.specs.List.{list_any};
+ghost use Rattle.std.specs.Prelude.{◌≡◌, [], option_map, IfOk, OnOk, OnErr};
 ghost use Rattle.gov_ids.specs.Orders.{credential_cmp};
-ghost use Rattle.maps.specs.Maps.{IsMap, has_key, value_at, with_value, entry_after};
+ghost use Rattle.maps.specs.Maps.{IsMap, entry_after, value_at, with_value, with_values, without_key};
 ghost use Rattle.maps.specs.Replaced.{with_option};
-ghost use Rattle.gov_model.specs.Hot.{is_hot_key, is_named, is_member, of_members};
+ghost use Rattle.gov_model.specs.Hot.{is_named, is_member, of_members};
+ghost use Rattle.gov_model.specs.Sides.{members_of};
+ghost use Rattle.committee_book.specs.Counts.{AreCounted, count_of};
+
+mod counts;
 
 use coin_frac::NoMemory;
+use counts::HotCounts;
 use gov_actions::{Committee, HotState};
 use gov_ids::Credential;
 use maps::keys_past;
@@ -16,24 +20,24 @@ use std::alloc::Global;
 use std::collections::BTreeMap;
 use std::marker::Model;
 
-/// The hot key or the resignation of each cold key that has one, in the order of cold keys. (GState of the formal specification: ccHotKeys)
+/// The hot key or the resignation of each cold key that has one, in the order of cold keys. How many cold keys have a hot key is kept beside them, so that no entry is walked for it. (GState of the formal specification: ccHotKeys; that they are counted is own)
 #[derive(Debug, Drop)]
 pub struct HotBook {
     entries: BTreeMap<Credential, HotState>,
+    counts: HotCounts,
 }
 
 impl Model for HotBook {
     ghost use Rattle.std.specs.Prelude.{List};
     ghost use Rattle.gov_ids.specs.declared.Credential.{Credential};
-    ghost use Rattle.gov_ids.specs.Orders.{credential_cmp};
     ghost use Rattle.gov_actions.specs.declared.state.HotState.{HotState};
-    ghost use Rattle.maps.specs.Maps.{IsMap};
+    ghost use Rattle.committee_book.specs.Counts.{IsIndexed};
 
     ghost Value = { List (Credential × HotState) };
 
     ghost view = { λ a. a.entries.entries };
 
-    ghost invariant = { λ a. IsMap credential_cmp a.entries.entries };
+    ghost invariant = { λ a. IsIndexed a.entries.entries a.counts };
 }
 
 impl HotBook {
@@ -43,6 +47,7 @@ impl HotBook {
     {
         HotBook {
             entries: BTreeMap::new(alloc),
+            counts: HotCounts::new(alloc),
         }
     }
 
@@ -59,8 +64,21 @@ impl HotBook {
         ensures ok { OnOk result (self.new ≡ with_value credential_cmp cold s self.old) }
         ensures err { OnErr result (self.new ≡ self.old) }
     {
-        self.entries.insert(cold, s)?;
+        self.counts.add(s)?;
+        let Ok(before) = self.entries.insert(cold, s) else {
+            self.counts.take(Some(s));
+            return Err(NoMemory);
+        };
+        self.counts.take(before);
         Ok(())
+    }
+
+    /// What a cold key authorized is forgotten. It takes no memory. (EPOCH of the formal specification)
+    pub fn forget(&mut self, cold: &Credential)
+        ensures { self.new ≡ without_key credential_cmp cold.now self.old }
+    {
+        let forgotten = self.entries.remove(cold);
+        self.counts.take(forgotten);
     }
 
     /// What the cold key has becomes `to`. Want of memory changes nothing. (Own)
@@ -71,35 +89,45 @@ impl HotBook {
         match to {
             Some(s) => self.set(cold, s),
             None => {
-                self.entries.remove(&cold);
+                self.forget(&cold);
                 Ok(())
             }
         }
     }
 
+    /// With each entry of another book in place of what its cold key had. (Own)
+    pub fn with_all(self, changed: HotBook) -> Result<HotBook, NoMemory>
+        ensures { IfOk result (λ after. after ≡ with_values credential_cmp changed self) }
+    {
+        let mut book = self;
+        for (cold, s) in changed.entries {
+            book.set(cold, s)?;
+        }
+        Ok(book)
+    }
+
     /// Whether a cold key has this hot key: it may vote for the committee. (GOV of the formal specification)
     pub fn names_hot(&self, hot: &Credential) -> bool
-        ensures { result ≡ is_named self.now hot.now }
+        ensures named { result ≡ is_named self.now hot.now }
+        ensures in_order { IsMap credential_cmp self.now }
     {
-        self.entries.iter().any(|(_, s)| is_hot_key(s, hot))
+        self.counts.of(hot) > 0
     }
 
-    /// Whether a cold key that is not among the changed ones has this hot key. (Own)
-    pub fn others_name_hot(
-        &self,
-        changed: &BTreeMap<Credential, HotState>,
-        hot: &Credential,
-    ) -> bool
-        ensures { result ≡
-            list_any (λ h. not (has_key credential_cmp changed.now.entries h.0) && is_hot_key hot.now h.1) self.now }
+    /// How many cold keys have this hot key. (Own)
+    pub fn count_of(&self, hot: &Credential) -> u64
+        ensures count { result ≡ count_of self.now hot.now }
+        ensures in_order { IsMap credential_cmp self.now }
     {
-        self.entries.iter().any(|(cold, s)| !changed.contains_key(cold) && is_hot_key(s, hot))
+        self.counts.of(hot)
     }
 
-    /// Only members keep their entries, and none where there is no committee. (EPOCH of the formal specification)
+    /// Only members keep their entries, and none where there is no committee. The members stand in order. (EPOCH of the formal specification)
     pub fn keep_members(&mut self, c: Option<&Committee>)
+        requires { IsMap credential_cmp (members_of (option_map (λ c. c.now) c)) }
         ensures { self.new ≡ of_members (option_map (λ c. c.now) c.entry) self.old }
     {
+        take_others(&mut self.counts, &self.entries, c);
         self.entries.retain(|cold, _| is_member(c, cold));
     }
 
@@ -112,26 +140,34 @@ impl HotBook {
     }
 }
 
-/// Whether the entry of a cold key is this hot key. (GOV of the formal specification)
-pub fn is_hot_key(s: &HotState, hot: &Credential) -> bool
-    ensures { result ≡ is_hot_key hot.now s.now }
+/// The counts of entries without those of cold keys that are no members.
+fn take_others(
+    counts: &mut HotCounts,
+    entries: &BTreeMap<Credential, HotState>,
+    c: Option<&Committee>,
+)
+    requires in_order { IsMap credential_cmp (members_of (option_map (λ c. c.now) c)) }
+    requires counted { AreCounted entries.now.entries counts.old }
+    ensures { AreCounted (of_members (option_map (λ c. c.now) c.entry) entries.now.entries) counts.new }
 {
-    match s {
-        HotState::Hot(key) => key == hot,
-        HotState::Resigned => false,
+    for (cold, s) in entries {
+        if !is_member(c, cold) {
+            counts.take(Some(*s));
+        }
     }
 }
 
-/// Whether a cold key is a member of the committee, none being one where there is no committee. (CIP-1694, The constitutional committee)
+/// Whether a cold key is a member of the committee, none being one where there is no committee. The members stand in order, so it is found by halves. (CIP-1694, The constitutional committee)
 pub fn is_member(c: Option<&Committee>, cold: &Credential) -> bool
+    requires { IsMap credential_cmp (members_of (option_map (λ c. c.now) c)) }
     ensures { result ≡ is_member (option_map (λ c. c.now) c.entry) cold.now }
 {
     match c {
         Some(committee) => committee
             .members
             .as_slice()
-            .iter()
-            .any(|(member, _)| member == cold),
+            .binary_search_by_key(cold, |(member, _)| *member)
+            .is_ok(),
         None => false,
     }
 }

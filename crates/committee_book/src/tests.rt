@@ -1,10 +1,17 @@
+ghost use Rattle.std.specs.Prelude.{◌≡◌, IfOk, replicate};
+ghost use Rattle.gov_ids.specs.Orders.{credential_cmp};
+ghost use Rattle.gov_ids.specs.declared.CredKind.TheVariants.{Key};
+ghost use Rattle.maps.specs.Maps.{IsMap};
+
 use super::*;
 use coin_frac::Unit;
 use gov_ids::CredKind;
 use listed::Listed;
 use std::test::Fail;
 
-fn key(byte: u8) -> Credential {
+fn key(byte: u8) -> Credential
+    ensures { result ≡ record { hash = replicate 28 byte; kind = Key } }
+{
     Credential {
         hash: [byte; 28],
         kind: CredKind::Key,
@@ -20,6 +27,20 @@ fn book(alloc: Global) -> Result<HotBook, Fail> {
     book.set(key(2), HotState::Hot(key(12)))?;
     book.set(key(2), HotState::Hot(key(11)))?;
     Ok(book)
+}
+
+// Its members are 2, 4 and 7.
+fn committee(alloc: Global) -> Result<Committee, Fail>
+    ensures { IfOk result (λ c. IsMap credential_cmp c.members) }
+{
+    let mut members = Listed::new(alloc);
+    members.push((key(2), 9))?;
+    members.push((key(4), 0))?;
+    members.push((key(7), 9))?;
+    Ok(Committee {
+        members,
+        threshold: Unit::new(1, 2)?,
+    })
 }
 
 #[test]
@@ -65,20 +86,87 @@ fn names_hot_keys(rt: HostRuntime) -> Result<(), Fail> {
 }
 
 #[test]
+fn counts_who_shares_a_hot_key(rt: HostRuntime) -> Result<(), Fail> {
+    let mut book = book(rt.alloc())?;
+    for (hot, count) in [(11, 2), (12, 0), (13, 1), (14, 0)] {
+        assert_eq!(rt; book.count_of(&key(hot)), count);
+    }
+    book.set(key(3), HotState::Hot(key(11)))?;
+    assert_eq!(rt; (book.count_of(&key(11)), book.count_of(&key(13))), (3, 0));
+    book.set(key(3), HotState::Hot(key(11)))?;
+    assert_eq!(rt; book.count_of(&key(11)), 3);
+    book.forget(&key(1));
+    book.forget(&key(9));
+    assert_eq!(rt;
+        (book.count_of(&key(11)), book.names_hot(&key(11))),
+        (2, true)
+    );
+    book.set(key(2), HotState::Resigned)?;
+    book.restore(key(3), None)?;
+    assert_eq!(rt;
+        (book.count_of(&key(11)), book.names_hot(&key(11))),
+        (0, false)
+    );
+    Ok(())
+}
+
+#[test]
+fn takes_the_entries_of_another(rt: HostRuntime) -> Result<(), Fail> {
+    let mut changed = HotBook::new(rt.alloc());
+    changed.set(key(1), HotState::Hot(key(13)))?;
+    changed.set(key(3), HotState::Resigned)?;
+    changed.set(key(5), HotState::Hot(key(15)))?;
+    let book = book(rt.alloc())?.with_all(changed)?;
+    let mut last = None;
+    for (cold, hot) in [
+        (1, Some(13)),
+        (2, Some(11)),
+        (3, None),
+        (4, None),
+        (5, Some(15)),
+    ] {
+        let next = book.next(last.as_ref());
+        let state = hot.map_or(HotState::Resigned, |hot| HotState::Hot(key(hot)));
+        assert_eq!(rt; next, Some((key(cold), state)));
+        last = next.map(|(cold, _)| cold);
+    }
+    for (hot, count) in [(11, 1), (13, 1), (15, 1)] {
+        assert_eq!(rt; book.count_of(&key(hot)), count);
+    }
+    Ok(())
+}
+
+#[test]
+fn finds_members_by_halves(rt: HostRuntime) -> Result<(), Fail> {
+    let committee = committee(rt.alloc())?;
+    for (cold, member) in [
+        (1, false),
+        (2, true),
+        (4, true),
+        (5, false),
+        (7, true),
+        (8, false),
+    ] {
+        assert_eq!(rt; is_member(Some(&committee), &key(cold)), member);
+    }
+    assert!(rt; !is_member(None, &key(2)));
+    Ok(())
+}
+
+#[test]
 fn keeps_members_alone(rt: HostRuntime) -> Result<(), Fail> {
     let mut book = book(rt.alloc())?;
-    let members = [(key(2), 9), (key(4), 0), (key(7), 9)].to_vec(rt.alloc())?;
-    let threshold = Unit::new(1, 2)?;
-    let committee = Committee {
-        members: Listed::from_vec(members),
-        threshold,
-    };
+    let committee = committee(rt.alloc())?;
     book.keep_members(Some(&committee));
     for (cold, kept) in [(1, false), (2, true), (3, false), (4, true), (7, false)] {
         assert_eq!(rt; book.get(&key(cold)).is_some(), kept);
     }
+    for (hot, count) in [(11, 1), (13, 0)] {
+        assert_eq!(rt; book.count_of(&key(hot)), count);
+    }
     assert!(rt; !book.names_hot(&key(13)));
     book.keep_members(None);
+    assert!(rt; !book.names_hot(&key(11)));
     assert_eq!(rt; book.next(None), None);
     Ok(())
 }

@@ -1,6 +1,6 @@
 -- The number with which a run ends says how, and a fault of the sink is no fault of the source.
-use Rattle.std.proofs.Common.{◌≡◌, ℕ, Result, Ok, Err, refl, arith}
-use Rattle.std.specs.Prelude.{⊤}
+use Rattle.std.proofs.Common.{◌≡◌, ℕ, Result, Ok, Err, ap, refl, arith}
+use Rattle.std.specs.Prelude.{⊤, IsErr, IsErrAnd}
 use Rattle.byte_lines.specs.Faults.{CountsFaults}
 use Rattle.byte_lines.specs.declared.sink.SinkFault.{SinkFault}
 use Rattle.byte_lines.specs.declared.sink.SinkFault.TheVariants as sink_faults
@@ -56,6 +56,11 @@ none_counted failed old new none same = record {
 -- what went well is no fault
 pub not_err : (value fault : Type 0) (r : Result value fault) (v : value) (e : fault) → r ≡ Ok v → r ≡ Err e → ⊥
 not_err value fault r v e is h = cc
+
+-- what `?` answers of a fault, by what the fault becomes
+pub became : (value fault : Type 0) (r : Result value fault) (f : fault) → IsErr r × IsErrAnd r (λ g. g ≡ f) → r ≡ Err f
+became value fault (Ok v) f h = absurd h.1
+became value fault (Err g) f h = ap (λ (x : fault). Err x) h.1
 
 -- a fault of the sink is none of the source
 pub not_read : (e : SinkFault) (r : Result ⊤ ReplayFault) → r ≡ Err (fault_of_sink e) → r ≡ Err faults.ReadFault → ⊥

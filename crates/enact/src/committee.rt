@@ -5,6 +5,7 @@ ghost use Rattle.gov_model.specs.Sides.{members_of};
 ghost use Rattle.maps.specs.Maps.{with_value, without_keys};
 
 use coin_frac::{NoMemory, Unit};
+use credential_list::CredentialList;
 use gov_actions::Committee;
 use gov_ids::Credential;
 use listed::Listed;
@@ -13,14 +14,14 @@ use std::cmp::Ordering;
 // The committee without the members that are removed, then with those that are added or get another term.
 pub(crate) fn updated(
     old: Option<Committee>,
-    remove: &Listed<Credential>,
+    remove: &CredentialList,
     add: &Listed<(Credential, u64)>,
     threshold: Unit,
 ) -> Result<Committee, NoMemory>
     ensures threshold { IfOk result (λ c. c.threshold ≡ threshold) }
     ensures members { IfOk result (λ c. c.members ≡ members_after remove.now add.now (members_of old)) }
 {
-    let mut members = without(members_of(old, add)?, remove.as_slice());
+    let mut members = without(members_of(old, add)?, remove);
     for (cold, term) in add.as_slice() {
         put(&mut members, *cold, *term)?;
     }
@@ -45,7 +46,7 @@ fn members_of(
 }
 
 // The members that are not among some keys.
-fn without(members: Listed<(Credential, u64)>, keys: &[Credential]) -> Listed<(Credential, u64)>
+fn without(members: Listed<(Credential, u64)>, keys: &CredentialList) -> Listed<(Credential, u64)>
     ensures { result ≡ without_keys credential_cmp keys.now members }
 {
     let mut members = members.into_vec();

@@ -6,6 +6,7 @@ ghost use Rattle.maps.specs.Maps.{IsMap};
 
 use super::*;
 use coin_frac::{Ratio, Unit};
+use credential_list::CredentialList;
 use gov_ids::{Account, CredKind, Credential, TxId};
 use listed::Listed;
 use pparams::{Params, Update};
@@ -127,7 +128,7 @@ fn update(
 {
     Ok(Action::UpdateCommittee {
         previous: None,
-        remove: Listed::from_vec(remove.to_vec(alloc)?),
+        remove: CredentialList::from_vec(alloc, remove.to_vec(alloc)?)?,
         add: Listed::from_vec(add.to_vec(alloc)?),
         threshold,
     })

@@ -1,15 +1,10 @@
-ghost use Rattle.std.specs.Prelude.{◌≡◌, slice_get};
-ghost use Rattle.std.specs.List.{list_any};
-ghost use Rattle.gov_ids.specs.Same.{same_credential};
-ghost use Rattle.ledger_model.specs.CertRules.{adds_member, cold_key_checks, is_cold_key, is_resigned};
+ghost use Rattle.std.specs.Prelude.{◌≡◌};
+ghost use Rattle.ledger_model.specs.CertRules.{cold_key_checks, is_cold_key, is_resigned};
 ghost use Rattle.ledger_model.specs.Checks.{answer_of};
-ghost use Rattle.maps.specs.Words.{some_and};
 
-use committee_book::is_member;
-use gov_actions::{Action, HotState};
+use gov_actions::HotState;
 use gov_ids::Credential;
 use ledger_state::{Draft, LedgerState};
-use proposal_store::ProposalStore;
 use tx_records::Rule;
 use tx_records::rules::{COLD_KEY_RESIGNED, COLD_KEY_UNKNOWN};
 
@@ -33,48 +28,9 @@ fn is_resigned(s: Option<HotState>) -> bool
     matches!(s, Some(HotState::Resigned))
 }
 
-/// Whether a credential is a member of the committee, or a live proposal adds it. It walks the members, and for another key the live proposals.
+/// Whether a credential is a member of the committee, or a live proposal adds it. It walks neither.
 fn is_cold_key(s: &LedgerState, cold: &Credential) -> bool
     ensures { result ≡ is_cold_key s.now.ledger cold.now }
 {
-    is_member(s.state().committee.as_ref(), cold) || is_proposed(s.proposals(), cold)
-}
-
-/// Whether a live proposal adds a credential to the committee.
-fn is_proposed(proposals: &ProposalStore, cold: &Credential) -> bool
-    ensures { result ≡ list_any (λ p. adds_member cold.now p.action) proposals.now }
-{
-    for place in 0..proposals.len() {
-        if is_proposed_at(proposals, place, cold) {
-            return true;
-        }
-    }
-    false
-}
-
-/// Whether the proposal at a place does.
-fn is_proposed_at(proposals: &ProposalStore, place: u64, cold: &Credential) -> bool
-    ensures { result ≡ some_and (λ p. adds_member cold.now p.action) (slice_get proposals.now place) }
-{
-    match proposals.at(place) {
-        Some(proposal) => adds_member(&proposal.action, cold),
-        None => false,
-    }
-}
-
-/// Whether an action adds a credential to the committee.
-fn adds_member(action: &Action, cold: &Credential) -> bool
-    ensures { result ≡ adds_member cold.now action.now }
-{
-    match action {
-        Action::UpdateCommittee { add, .. } => is_among(add.as_slice(), cold),
-        _ => false,
-    }
-}
-
-/// Whether a credential is one of these new members.
-fn is_among(added: &[(Credential, u64)], cold: &Credential) -> bool
-    ensures { result ≡ list_any (λ m. same_credential cold.now m.0) added.now }
-{
-    added.iter().any(|(member, _)| cold == member)
+    s.is_member(cold) || s.is_proposed(cold)
 }

@@ -9,14 +9,15 @@ use Rattle.book_records.specs.Dormancy.{AllFit}
 use Rattle.book_records.specs.Outputs.{lovelace_in}
 use Rattle.gov_actions.specs.declared.action.Proposal.{Proposal}
 use Rattle.gov_actions.specs.declared.state.EnactState.{EnactState}
+use Rattle.gov_model.specs.Sides.{members_of}
 use Rattle.gov_ids.specs.declared.OutRef.{OutRef}
 use Rattle.gov_ids.specs.declared.TxId.{TxId}
-use Rattle.gov_ids.specs.Orders.{outref_cmp, txid_cmp}
+use Rattle.gov_ids.specs.Orders.{credential_cmp, outref_cmp, txid_cmp}
 use Rattle.gov_ids.proofs.Totals.{outref_total}
 use Rattle.gov_ids.proofs.Exacts.{outref_exact}
 use Rattle.gov_model.specs.Proposals.{deposits_of}
 use Rattle.maps.proofs.Several.{sum_values-with_values, sum_values-without_keys}
-use Rattle.maps.specs.Maps.{value_at, with_key, with_values, without_keys}
+use Rattle.maps.specs.Maps.{IsMap, value_at, with_key, with_values, without_keys}
 use Rattle.tx_records.specs.TxLimits.{is_within_limits}
 use Rattle.tx_records.specs.declared.tx.ProposalRecord.{ProposalRecord}
 use Rattle.tx_records.specs.declared.tx.Scripts.{Scripts}
@@ -39,9 +40,10 @@ use Rattle.tx_balance.proofs.Sounds.{allowed_keeps_supply, allowed_stays_sound, 
 use Rattle.proposal_store.specs.Store.{AllOrdered}
 use Rattle.run_model.specs.Laws.{IsWithinDormantBound}
 use Rattle.stake_book.specs.Stakes.{balances_in, without_dreps}
-use Rattle.tx_records.specs.declared.limits.TheConstants.{SUPPLY_LIMIT, TX_LIST_LIMIT}
+use Rattle.tx_records.specs.declared.limits.TheConstants.{OUTPUT_LIMIT, SUPPLY_LIMIT, TX_LIST_LIMIT}
 use Rattle.ledger_state.specs.Books.{NoneRises}
-use Rattle.ledger_state.specs.Drafts.{Changed, laid_over, with_registrations, without_votes_of}
+use Rattle.ledger_state.specs.Drafts.{Changed, laid_over, with_registrations}
+use Rattle.proposal_store.specs.Leaving.{without_votes_of}
 use Rattle.ledger_state.specs.Kept.{IsKept}
 use Rattle.ledger_state.specs.Proposed.{IsUnknown}
 use Rattle.run_laws.proofs.Dormant.{tx_timely}
@@ -70,6 +72,12 @@ left_of b c h = (and_parts b c h).0
 -- no account twice
 own_withdrawals : (tx : Tx) → is_within_limits tx ≡ true → HasOwnWithdrawals tx
 own_withdrawals tx h = not_true _ (and_parts _ _ (left_of _ _ (left_of _ _ (left_of _ _ (left_of _ _ (left_of _ _ (left_of _ _ (left_of _ _ h)))))))).1
+
+-- so many outputs at most
+pub few_outputs : (tx : Tx) → is_within_limits tx ≡ true → length tx.outputs ≤ OUTPUT_LIMIT
+few_outputs tx h =
+    let lists = left_of _ _ (left_of _ _ (left_of _ _ (left_of _ _ (left_of _ _ (left_of _ _ (left_of _ _ (left_of _ _ h))))))) in
+    leb-true (length tx.outputs) OUTPUT_LIMIT (and_parts _ _ (left_of _ _ (left_of _ _ (left_of _ _ (left_of _ _ (left_of _ _ lists)))))).1
 
 -- so many proposals at most
 pub few_proposals : (tx : Tx) → is_within_limits tx ≡ true → length tx.proposals ≤ TX_LIST_LIMIT
@@ -128,6 +136,7 @@ module _ (l : Ledger) (tx : Tx) (k : IsKept l) (within : is_within_limits tx ≡
         active = subst (λ (s : EnactState). s.params.drep_activity ≤ 2 ^ 32) (sym state) k.active;
         proposed = proposed;
         voted = voted;
+        seated = subst (λ (s : EnactState). IsMap credential_cmp (members_of s.committee)) (sym state) k.seated;
       }
 
   -- the outputs without these

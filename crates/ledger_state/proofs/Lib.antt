@@ -16,4 +16,6 @@ pub mod AccountChanging
 pub mod Timely
 pub mod DraftChanging
 pub mod HotNames
+pub mod HotChanging
 pub mod Numbers
+pub mod Adding

@@ -21,7 +21,8 @@ use Rattle.utxo_set.specs.Utxos.{Utxos}
 use Rattle.view_map.specs.View.{frozen_of}
 use Rattle.ledger_state.specs.Books.{KeepsAccounts, KeepsOutputs}
 use Rattle.ledger_state.specs.ChangedDreps as changed_dreps
-use Rattle.ledger_state.specs.Drafts.{Changed, with_registrations, without_votes_of}
+use Rattle.ledger_state.specs.Drafts.{Changed, with_registrations}
+use Rattle.proposal_store.specs.Leaving.{without_votes_of}
 use Rattle.ledger_state.proofs.Committing.{IsFailing, after_changes}
 
 -- a book from which outputs were taken

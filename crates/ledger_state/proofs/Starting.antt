@@ -1,15 +1,22 @@
 -- The ledger of a genesis that breaks no rule.
-use Rattle.std.proofs.Common.{◌≡◌, ℕ, ◌/◌, ◌<◌, List, [], Bool, true, ◌&&◌, None, arith}
+use Rattle.std.proofs.Common.{◌≡◌, ℕ, ◌/◌, ◌<◌, List, [], Bool, true, ◌&&◌, Option, None, Some, map, option_map, arith}
+use Rattle.std.specs.List.Sorted.{IsStrictlySortedBy}
 use Rattle.std.proofs.Math.Nat.{div-le_self}
 use Rattle.std.proofs.lemmas.Bool.{and_parts, ltb-false, ltb-true}
 use Rattle.book_records.specs.declared.pool.Pool.{Pool}
 use Rattle.gov_ids.specs.declared.Credential.{Credential}
 use Rattle.gov_ids.specs.declared.PoolId.{PoolId}
+use Rattle.gov_ids.specs.Orders.{credential_cmp}
+use Rattle.gov_ids.proofs.Totals.{credential_total}
+use Rattle.gov_model.specs.Sides.{members_of}
+use Rattle.maps.proofs.Kept.{IsMap-with_values}
+use Rattle.maps.specs.Maps.{IsMap}
 use Rattle.gov_actions.specs.declared.action.Proposal.{Proposal}
 use Rattle.gov_actions.specs.declared.state.EnactState.{EnactState}
 use Rattle.gov_actions.specs.declared.state.HotState.{HotState}
 use Rattle.tx_records.specs.declared.genesis.Genesis.{Genesis}
-use Rattle.run_model.specs.Genesis.{genesis_fault, hot_of_genesis, ledger_of_genesis, state_of_genesis}
+use Rattle.tx_records.specs.declared.genesis.GenesisCommittee.{GenesisCommittee}
+use Rattle.run_model.specs.Genesis.{committee_of_genesis, genesis_fault, hot_of_genesis, ledger_of_genesis, state_of_genesis}
 use Rattle.run_laws.proofs.Dormant.{genesis_timely}
 use Rattle.drep_book.specs.Dreps.{Dreps}
 use Rattle.stake_book.specs.Stakes.{Stakes, accounts_of}
@@ -47,6 +54,12 @@ slot_early g h =
     let first = left_of _ _ (left_of _ _ (left_of _ _ numbers)) in
     ltb-true g.slot SLOT_LIMIT (and_parts _ _ first).1
 
+-- its members stand in order
+seated_first : (c : Option GenesisCommittee) → IsMap credential_cmp (members_of (option_map committee_of_genesis c))
+unfolding IsStrictlySortedBy
+seated_first None = tt
+seated_first (Some c) = IsMap-with_values credential_total (map (λ m. (m.0, m.1)) c.members) [] tt
+
 -- it keeps what a ledger keeps
 pub genesis_kept : (g : Genesis) → is_within_limits g ≡ true → genesis_fault g ≡ None → IsKept (ledger_of_genesis g)
 genesis_kept g within none =
@@ -60,4 +73,5 @@ genesis_kept g within none =
       active = timely.1;
       proposed = tt;
       voted = tt;
+      seated = seated_first g.committee;
     }

@@ -10,6 +10,7 @@ use Rattle.ledger_model.specs.Ledger.{Ledger}
 use Rattle.run_model.specs.Laws.{IsWithinDormantBound}
 use Rattle.ledger_state.specs.ChangedAccounts.{ChangedAccounts}
 use Rattle.ledger_state.specs.ChangedDreps.{ChangedDreps}
+use Rattle.ledger_state.specs.ChangedHot.{ChangedHot, IsOver}
 use Rattle.ledger_state.specs.Drafts.{Changed, laid_over}
 use Rattle.ledger_state.specs.Kept.{IsKept}
 
@@ -24,12 +25,13 @@ changed_of accounts pools dreps hot = record {
   hot = hot;
 }
 
--- it begins with a ledger that is kept, its maps are maps, its expiries are within the dormant bound, and each change moved at most a number of 64 bits
-pub record IsDrafted (start : Ledger) (changed : Changed) (refunds deposits accounts_changes changes : ℕ) : Type 0 where
+-- it begins with a ledger that is kept, its maps are maps, the hot entries that it covers are those of that ledger, its expiries are within the dormant bound, and each change moved at most a number of 64 bits
+pub record IsDrafted (start : Ledger) (changed : Changed) (hot_changes : ChangedHot) (refunds deposits accounts_changes changes : ℕ) : Type 0 where
   pub kept : IsKept start
   pub pools : IsMap pool_cmp changed.pools
   pub dreps : IsMap credential_cmp changed.dreps
   pub hot : IsMap credential_cmp changed.hot
+  pub over : IsOver start.hot hot_changes
   pub timely : IsWithinDormantBound (laid_over changed start)
   pub refunds_fit : refunds ≤ changes * (2 ^ 64 - 1)
   pub deposits_fit : deposits ≤ changes * (2 ^ 64 - 1)

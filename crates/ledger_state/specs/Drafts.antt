@@ -21,6 +21,7 @@ use Rattle.tx_records.specs.declared.tx.Tx.{Tx}
 use Rattle.ledger_model.specs.Ledger.{Ledger, account_at, is_pool}
 use Rattle.ledger_model.specs.Changes.{dormant_added, drep_left}
 use Rattle.ledger_model.specs.Draft.{last_draft}
+use Rattle.proposal_store.specs.Leaving.{without_votes_of}
 use Rattle.stake_book.specs.Stakes.{without_dreps}
 
 -- the ledger before the transaction, the one that its changes so far make of it, what its certificates gave back and paid so far, and how many changes were made
@@ -65,15 +66,6 @@ dormant_by false dormant = dormant
 abbrev pub dreps_by : Bool → ℕ → ℕ → List (Credential × DrepState) → List (Credential × DrepState)
 dreps_by true epoch dormant dreps = with_dormant_added epoch dormant dreps
 dreps_by false epoch dormant dreps = dreps
-
--- the voter is one of these DReps
-abbrev pub is_drep_among : List Credential → Voter → Bool
-is_drep_among dreps (voter.Drep c) = has_member credential_cmp dreps c
-is_drep_among dreps _ = false
-
--- a proposal without the votes of these DReps
-abbrev pub without_votes_of : List Credential → Proposal → Proposal
-without_votes_of dreps p = record p { votes = entries_where (λ v x. not (is_drep_among dreps v)) p.votes }
 
 -- a ledger with these changes
 abbrev pub laid_over : Changed → Ledger → Ledger

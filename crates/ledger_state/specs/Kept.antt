@@ -8,14 +8,15 @@ use Rattle.run_model.specs.Laws.{IsWithinDormantBound}
 use Rattle.tx_records.specs.declared.limits.TheConstants.{SUPPLY_LIMIT}
 use Rattle.gov_actions.specs.declared.action.Proposal.{Proposal}
 use Rattle.gov_ids.specs.Orders.{credential_cmp, txid_cmp}
-use Rattle.maps.specs.Maps.{has_member}
+use Rattle.gov_model.specs.Sides.{members_of}
+use Rattle.maps.specs.Maps.{IsMap, has_member}
 use Rattle.view_map.specs.View.{frozen_of}
 use Rattle.proposal_store.specs.Store.{AllOrdered}
 use Rattle.stake_book.specs.Stakes.{registrations}
 use Rattle.ledger_state.specs.Standing.{Standing}
 use Rattle.ledger_state.specs.declared.state.LedgerState.TheInside.{Inside}
 
--- its maps are maps, its pots hold the supply, which is within its limit, its epoch, its expiries and its activity fit, and each proposal has the id of a used transaction and the votes of each voter once
+-- its maps are maps, its pots hold the supply, which is within its limit, its epoch, its expiries and its activity fit, each proposal has the id of a used transaction and the votes of each voter once, and the members of the committee stand in order
 pub record IsKept (l : Ledger) : Type 0 where
   pub sound : IsSound l
   pub balanced : supply_of l ≡ l.supply
@@ -25,6 +26,7 @@ pub record IsKept (l : Ledger) : Type 0 where
   pub active : (params_of l).drep_activity ≤ 2 ^ 32
   pub proposed : AllByRecursion (λ (p : Proposal). has_member txid_cmp l.used p.id.tx ≡ true) l.proposals
   pub voted : AllOrdered l.proposals
+  pub seated : IsMap credential_cmp (members_of l.state.committee)
 
 -- the ledger that these parts are
 abbrev pub ledger_view : Inside → Ledger

@@ -8,6 +8,8 @@ pub mod Members
 pub mod Books
 pub mod ChangedAccounts
 pub mod ChangedDreps
+pub mod ChangedHot
 pub mod ChangedParts
 pub mod Numbered
 pub mod Proposed
+pub mod Added

@@ -5,7 +5,7 @@ ghost use Rattle.ledger_model.specs.Changes.{without_drep};
 ghost use Rattle.ledger_state.specs.Books.{KeepsOutputs, NoneRises};
 ghost use Rattle.ledger_state.specs.ChangedAccounts.{has_left_after, none_changed, standing, standing_of, with_change, with_leaving};
 ghost use Rattle.ledger_state.specs.Drafts.{with_registrations};
-ghost use Rattle.maps.specs.Maps.{IsMap, value_at};
+ghost use Rattle.maps.specs.Maps.{IsMap, IsSet, value_at};
 ghost use Rattle.stake_book.specs.Stakes.{HasRoom, accounts_of, delegates_to_dreps, without_dreps};
 
 use book_records::Registered;
@@ -130,7 +130,8 @@ impl AccountChanges {
 
     /// The DReps that left, in order.
     pub fn left(&self, alloc: Global) -> Result<Vec<Credential>, NoMemory>
-        ensures { IfOk result (λ names. names.items ≡ self.now.left) }
+        ensures names { IfOk result (λ names. names.items ≡ self.now.left) }
+        ensures in_order { IsSet credential_cmp self.now.left }
     {
         names_of(alloc, &self.left)
     }

@@ -3,22 +3,21 @@ ghost use Rattle.book_records.specs.Dormancy.{AllFit};
 ghost use Rattle.gov_ids.specs.Orders.{credential_cmp, pool_cmp};
 ghost use Rattle.ledger_state.specs.Books.{KeepsOutputs, NoneRises};
 ghost use Rattle.ledger_state.specs.ChangedDreps.{laid_over};
-ghost use Rattle.ledger_state.specs.Drafts.{with_registrations, without_votes_of};
+ghost use Rattle.ledger_state.specs.Drafts.{with_registrations};
 ghost use Rattle.maps.specs.Maps.{IsMap, with_values};
-ghost use Rattle.proposal_store.specs.Store.{AllOrdered};
+ghost use Rattle.proposal_store.specs.Leaving.{without_votes_of};
 ghost use Rattle.stake_book.specs.Stakes.{HasRoom, accounts_of, without_dreps};
 
 use crate::account_changes::AccountChanges;
 use crate::drep_changes::DrepChanges;
-use crate::proposals::without_votes;
+use crate::hot_changes::HotChanges;
+use crate::live_proposals::LiveProposals;
 use book_records::Pool;
 use cert_pool::PoolBook;
 use coin_frac::NoMemory;
 use committee_book::HotBook;
 use drep_book::DrepBook;
-use gov_actions::HotState;
-use gov_ids::{Credential, PoolId};
-use proposal_store::ProposalStore;
+use gov_ids::PoolId;
 use stake_book::StakeBook;
 use std::alloc::Global;
 use std::collections::BTreeMap;
@@ -30,7 +29,7 @@ pub struct Changes {
     pub(crate) accounts: AccountChanges,
     pub(crate) pools: BTreeMap<PoolId, Pool>,
     pub(crate) dreps: DrepChanges,
-    pub(crate) hot: BTreeMap<Credential, HotState>,
+    pub(crate) hot: HotChanges,
 }
 
 impl Model for Changes {
@@ -53,7 +52,6 @@ impl Changes {
         requires stake { IsMap credential_cmp (accounts_of books.stake) × HasRoom 0 books.stake }
         requires lower { NoneRises self.accounts (without_dreps self.left (accounts_of books.stake)) }
         requires fit { AllFit books.dreps.dormant books.dreps.dreps }
-        requires voted { AllOrdered books.proposals }
         ensures accounts { IfOk result (λ after. accounts_of after.stake ≡
             with_registrations self.accounts (without_dreps self.left (accounts_of books.stake))) }
         ensures rest { IfOk result (λ after. KeepsOutputs books.stake after.stake) }
@@ -64,12 +62,14 @@ impl Changes {
         ensures proposals { IfOk result (λ after. after.proposals ≡ map (without_votes_of self.left) books.proposals) }
     {
         let left = self.accounts.left(alloc)?;
+        let mut proposals = books.proposals;
+        proposals.clear_votes_of(&left);
         Ok(Books {
             stake: self.accounts.lay_over(books.stake, &left)?,
             pools: with_pools(books.pools, self.pools)?,
             dreps: self.dreps.lay_over(books.dreps, epoch)?,
-            hot: with_hot_entries(books.hot, self.hot)?,
-            proposals: without_votes(books.proposals, &left),
+            hot: self.hot.lay_over(books.hot)?,
+            proposals,
         })
     }
 }
@@ -81,7 +81,7 @@ pub(crate) struct Books {
     pub pools: PoolBook,
     pub dreps: DrepBook,
     pub hot: HotBook,
-    pub proposals: ProposalStore,
+    pub proposals: LiveProposals,
 }
 
 /// The pools with these.
@@ -93,18 +93,4 @@ fn with_pools(pools: PoolBook, changed: BTreeMap<PoolId, Pool>) -> Result<PoolBo
         pools.restore(p, Some(pool))?;
     }
     Ok(pools)
-}
-
-/// The hot entries with these.
-fn with_hot_entries(
-    hot: HotBook,
-    changed: BTreeMap<Credential, HotState>,
-) -> Result<HotBook, NoMemory>
-    ensures { IfOk result (λ after. after ≡ with_values credential_cmp changed.entries hot) }
-{
-    let mut hot = hot;
-    for (cold, state) in changed {
-        hot.set(cold, state)?;
-    }
-    Ok(hot)
 }

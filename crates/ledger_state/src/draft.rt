@@ -12,11 +12,11 @@ ghost use Rattle.run_model.specs.Laws.{IsWithinDormantBound};
 use crate::account_changes::AccountChanges;
 use crate::changes::Changes;
 use crate::drep_changes::DrepChanges;
+use crate::hot_changes::HotChanges;
 use crate::state::LedgerState;
 use book_records::{DrepState, Pool, PoolTerms, Registered};
 use cert_pool::registered;
 use coin_frac::NoMemory;
-use committee_book::is_hot_key;
 use gov_actions::HotState;
 use gov_ids::{Credential, PoolId};
 use std::alloc::Global;
@@ -30,7 +30,7 @@ pub struct Draft<'a> {
     accounts: AccountChanges,
     pools: BTreeMap<PoolId, Pool>,
     dreps: DrepChanges,
-    hot: BTreeMap<Credential, HotState>,
+    hot: HotChanges,
     refunds: u128,
     deposits: u128,
     changes: u64,
@@ -54,7 +54,7 @@ impl<'a> Model for Draft<'a> {
     } };
 
     ghost invariant = { λ a. IsDrafted a.start.now.ledger (changed_of a.accounts a.pools.entries a.dreps a.hot.entries)
-        a.refunds a.deposits a.accounts.changes a.changes };
+        a.hot a.refunds a.deposits a.accounts.changes a.changes };
 }
 
 /// The deposit of a registration, in lovelace.
@@ -118,7 +118,7 @@ impl<'a> Draft<'a> {
             accounts: AccountChanges::new(alloc),
             pools: BTreeMap::new(alloc),
             dreps: DrepChanges::new(alloc, s.dreps().dormant() == 0),
-            hot: BTreeMap::new(alloc),
+            hot: HotChanges::new(alloc),
             refunds: 0,
             deposits: 0,
             changes: 0,
@@ -175,16 +175,14 @@ impl<'a> Draft<'a> {
         ensures value { result ≡ value_at credential_cmp self.now.ledger.hot cold.now }
         ensures map { IsMap credential_cmp self.now.ledger.hot }
     {
-        let before = self.start.hot().get(cold);
-        self.hot.get(cold).copied().or(before)
+        self.hot.latest(cold, self.start.hot())
     }
 
-    /// Whether a cold key has this hot key: it may vote for the committee. It walks the hot entries. (GOV of the formal specification)
+    /// Whether a cold key has this hot key: it may vote for the committee. (GOV of the formal specification)
     pub fn names_hot(&self, hot: &Credential) -> bool
         ensures { result ≡ is_named self.now.ledger.hot hot.now }
     {
-        self.hot.iter().any(|(_, s)| is_hot_key(s, hot))
-            || self.start.hot().others_name_hot(&self.hot, hot)
+        self.hot.names(hot, self.start.hot())
     }
 
     /// What the certificates so far gave back, and what they paid, in lovelace. (DELEG, POOL and GOVCERT of the formal specification)
@@ -309,7 +307,7 @@ impl<'a> Draft<'a> {
         ensures ok { OnOk result (self.new ≡ with_hot cold s self.old) }
         ensures err { OnErr result (self.new ≡ self.old) }
     {
-        self.hot.insert(cold, s)?;
+        self.hot.set(cold, s, self.start.hot())?;
         self.changes += 1;
         Ok(())
     }

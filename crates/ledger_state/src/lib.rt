@@ -5,13 +5,14 @@ mod account_changes;
 mod books;
 mod changes;
 mod committee;
-mod copies;
 mod draft;
 mod drep_changes;
 mod entries;
 mod fault;
 mod first;
 mod genesis_rules;
+mod hot_changes;
+mod live_proposals;
 mod proposals;
 mod state;
 

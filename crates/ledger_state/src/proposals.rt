@@ -2,22 +2,19 @@ ghost use Rattle.std.specs.Prelude.{◌≡◌, ◌+◌, ◌<◌, ◌≤◌, ◌^
 ghost use Rattle.gov_model.specs.Proposals.{deposits_of};
 ghost use Rattle.ledger_model.specs.Ledger.{Ledger};
 ghost use Rattle.ledger_model.specs.Transaction.{made_proposals, with_votes};
-ghost use Rattle.ledger_state.specs.Drafts.{without_votes_of};
-ghost use Rattle.proposal_store.specs.Store.{AllOrdered};
 ghost use Rattle.ledger_state.specs.Proposed.{IsLast, IsUnknown};
 ghost use Rattle.tx_records.specs.declared.tx.ProposalRecord.{ProposalRecord};
 
-use crate::copies::copied;
+use crate::live_proposals::LiveProposals;
 use coin_frac::NoMemory;
 use gov_actions::Proposal;
-use gov_ids::{ActionId, Credential};
+use gov_ids::ActionId;
 use listed::Listed;
-use proposal_store::ProposalStore;
 use std::alloc::Global;
 use tx_records::{ProposalRecord, Tx};
 
 /// The live proposals with the votes of a transaction, a later one of a voter in place of an earlier one. (GOV of the formal specification)
-pub fn with_votes(store: ProposalStore, tx: &Tx) -> Result<ProposalStore, NoMemory>
+pub fn with_votes(store: LiveProposals, tx: &Tx) -> Result<LiveProposals, NoMemory>
     ensures { IfOk result (λ after. after ≡ map (with_votes tx.now) store) }
 {
     let mut store = store;
@@ -27,25 +24,13 @@ pub fn with_votes(store: ProposalStore, tx: &Tx) -> Result<ProposalStore, NoMemo
     Ok(store)
 }
 
-/// The live proposals without the votes of these DReps. (GOVCERT of the formal specification; that they leave at once is own)
-pub fn without_votes(store: ProposalStore, dreps: &[Credential]) -> ProposalStore
-    requires voted { AllOrdered store }
-    ensures { result ≡ map (without_votes_of dreps.now) store }
-{
-    let mut store = store;
-    for drep in dreps {
-        store.clear_votes(drep);
-    }
-    store
-}
-
 /// With the proposals of a transaction, as id#0, id#1 and so on, with no votes; `last` is the last epoch in which they may be voted on. (GOV of the formal specification)
 pub fn with_proposals(
     alloc: Global,
-    store: ProposalStore,
+    store: LiveProposals,
     last: u64,
     tx: &Tx,
-) -> Result<ProposalStore, NoMemory>
+) -> Result<LiveProposals, NoMemory>
     requires few { length tx.now.proposals ≤ 65536 }
     requires unknown { IsUnknown tx.now.id store }
     requires room { deposits_of store + sum_by (λ (p : ProposalRecord). p.deposit) tx.now.proposals < 2 ^ 64 }
@@ -57,7 +42,7 @@ pub fn with_proposals(
             tx: tx.id,
             index: index as u16,
         };
-        store.add(made(alloc, id, last, proposal)?)?;
+        store = store.add(made(alloc, id, last, proposal)?)?;
     }
     Ok(store)
 }
@@ -80,7 +65,7 @@ fn made(
 {
     Ok(Proposal {
         id,
-        action: copied(alloc, &proposal.action)?,
+        action: proposal.action.copied(alloc)?,
         deposit: proposal.deposit,
         account: proposal.account,
         expires_after: last,

@@ -1,7 +1,9 @@
 ghost use Rattle.std.specs.Prelude.{◌≡◌};
 ghost use Rattle.gov_ids.specs.Orders.{credential_cmp, pool_cmp};
+ghost use Rattle.gov_model.specs.Hot.{is_member};
 ghost use Rattle.ledger_model.specs.Ledger.{params_of};
 ghost use Rattle.ledger_model.specs.Supply.{pots_of};
+ghost use Rattle.ledger_state.specs.Added.{is_proposed};
 ghost use Rattle.ledger_state.specs.Kept.{IsKept};
 ghost use Rattle.maps.specs.Maps.{IsMap, value_at};
 ghost use Rattle.stake_book.specs.Stakes.{registrations};
@@ -10,9 +12,10 @@ ghost use Rattle.view_map.specs.View.{frozen_of};
 mod commit;
 mod genesis;
 
+use crate::live_proposals::LiveProposals;
 use book_records::{DrepState, Pool};
 use cert_pool::PoolBook;
-use committee_book::HotBook;
+use committee_book::{HotBook, is_member};
 use drep_book::DrepBook;
 use gov_actions::EnactState;
 use gov_ids::{Credential, PoolId};
@@ -42,7 +45,7 @@ pub struct LedgerState {
     pools: PoolBook,
     dreps: DrepBook,
     hot: HotBook,
-    proposals: ProposalStore,
+    proposals: LiveProposals,
 }
 
 impl Model for LedgerState {
@@ -156,6 +159,13 @@ impl LedgerState {
         &self.hot
     }
 
+    /// Whether a cold key is a member of the committee, none being one where there is no committee. It is found by halves. (CIP-1694, The constitutional committee)
+    pub fn is_member(&self, cold: &Credential) -> bool
+        ensures { result ≡ is_member self.now.ledger.state.committee cold.now }
+    {
+        is_member(self.state.get().committee.as_ref(), cold)
+    }
+
     /// The registered pools with their terms and retirements. (PState of the formal specification)
     pub fn pools(&self) -> &PoolBook
         ensures { result.now ≡ self.now.ledger.pools }
@@ -175,7 +185,14 @@ impl LedgerState {
     pub fn proposals(&self) -> &ProposalStore
         ensures { result.now ≡ self.now.ledger.proposals }
     {
-        &self.proposals
+        self.proposals.store()
+    }
+
+    /// Whether a live proposal adds a cold key to the committee. It walks none of them. (GOVCERT of the formal specification)
+    pub fn is_proposed(&self, cold: &Credential) -> bool
+        ensures { result ≡ is_proposed cold.now self.now.ledger.proposals }
+    {
+        self.proposals.adds(cold)
     }
 
     /// The registered DReps and the dormant count. (GState of the formal specification; how the count acts is own)

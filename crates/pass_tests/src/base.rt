@@ -9,6 +9,7 @@ ghost use Rattle.gov_model.specs.Sides.{members_of};
 ghost use Rattle.maps.specs.Maps.{IsMap};
 
 use coin_frac::{FracFault, Ratio, Unit};
+use credential_list::CredentialList;
 use enact::Enact;
 use gov_actions::{Action, EnactState, HotState, LastIds, Proposal};
 use gov_ids::{Account, ActionId, CredKind, Credential, PoolId, TxId};
@@ -108,7 +109,7 @@ fn committee(alloc: Global, members: &[(Credential, u64)], threshold: Unit) -> R
 {
     Ok(Action::UpdateCommittee {
         previous: None,
-        remove: Listed::new(alloc),
+        remove: CredentialList::new(alloc),
         add: Listed::from_vec(members.to_vec(alloc)?),
         threshold,
     })

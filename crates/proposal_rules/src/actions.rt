@@ -19,7 +19,7 @@ pub fn check_action(d: &Draft, a: &Action) -> Result<(), Rule>
             check_targets(d, targets.as_slice(), *policy)
         }
         Action::UpdateCommittee { remove, add, .. } => {
-            check_members(d.start(), remove.as_slice(), add.as_slice())
+            check_members(d.start(), remove, add.as_slice())
         }
         _ => Ok(()),
     }

@@ -3,11 +3,13 @@ ghost use Rattle.std.specs.List.{list_any};
 ghost use Rattle.coin_frac.specs.Fraction.{Fraction};
 ghost use Rattle.gov_actions.specs.declared.action.Action.TheVariants.{UpdateCommittee};
 ghost use Rattle.gov_ids.specs.declared.ActionId.{ActionId};
+ghost use Rattle.gov_ids.specs.Same.{same_credential};
 ghost use Rattle.ledger_model.specs.Checks.{answer_of};
 ghost use Rattle.ledger_model.specs.Ledger.{Ledger};
 ghost use Rattle.ledger_model.specs.ProposalRules.{action_checks};
+ghost use Rattle.maps.specs.Words.{among};
 
-use crate::conflict::is_any_on_both;
+use credential_list::CredentialList;
 use gov_ids::Credential;
 use ledger_state::LedgerState;
 use tx_records::Rule;
@@ -16,7 +18,7 @@ use tx_records::rules::{CONFLICTING_UPDATE, TERM_TOO_SMALL};
 /// The rules on a change of the committee.
 pub fn check_members(
     s: &LedgerState,
-    remove: &[Credential],
+    remove: &CredentialList,
     add: &[(Credential, u64)],
 ) -> Result<(), Rule>
     ensures { (d : Ledger) (previous : Option ActionId) (threshold : Fraction) →
@@ -29,6 +31,13 @@ pub fn check_members(
         return Err(Rule::new(TERM_TOO_SMALL));
     }
     Ok(())
+}
+
+/// Whether some cold key is added and removed.
+fn is_any_on_both(remove: &CredentialList, add: &[(Credential, u64)]) -> bool
+    ensures { result ≡ list_any (λ m. among same_credential m.0 remove.now) add.now }
+{
+    add.iter().any(|(cold, _)| remove.contains(cold))
 }
 
 /// Whether some term is over by the end of this epoch.

@@ -8,7 +8,6 @@ ghost use Rattle.tx_records.specs.TxLimits.{is_within_limits};
 
 mod actions;
 mod committee;
-mod conflict;
 mod parameters;
 mod policy;
 mod proposal;

@@ -4,3 +4,5 @@ pub mod Entries
 pub mod Retaining
 pub mod Voting
 pub mod Searched
+pub mod Leavers
+pub mod Sought

@@ -1,10 +1,11 @@
 -- A change of votes leaves what the store keeps.
-use Rattle.std.proofs.Common.{◌≡◌, ℕ, Bool, true, false, cond, List, [], ◌∷◌, ◌++◌, map, filter, if◌then◌else◌, Option, Some, None, Result, Ok, Err, OnOk, OnErr, refl, ap, sym, subst, ◌∙◌, arith}
+use Rattle.std.proofs.Common.{◌≡◌, ℕ, true, false, cond, not, List, [], ◌∷◌, ◌++◌, map, filter, if◌then◌else◌, Option, Some, None, Result, Ok, Err, OnOk, OnErr, refl, ap, sym, subst, ◌∙◌, arith}
 use Rattle.std.specs.List.{AllByRecursion, IsDistinct}
 use Rattle.std.specs.Map.{values_of, lookup, set_value}
 use Rattle.std.proofs.lemmas.List.Sums.{sum_by-cons}
 use Rattle.std.proofs.lemmas.Cmp.{eq_by_cmp_equiv}
 use Rattle.gov_ids.specs.declared.ActionId.{ActionId}
+use Rattle.gov_ids.specs.declared.Credential.{Credential}
 use Rattle.gov_ids.specs.declared.Voter.{Voter}
 use Rattle.gov_ids.specs.contracts.ActionIdPartialEq.TheImpl as action_eq
 use Rattle.gov_ids.specs.Orders.{voter_cmp}
@@ -17,10 +18,10 @@ use Rattle.gov_actions.specs.declared.action.Purpose.{Purpose}
 use Rattle.gov_actions.specs.declared.action.Vote.{Vote}
 use Rattle.gov_model.specs.Ratified.{ids_of}
 use Rattle.gov_model.specs.Proposals.{proposal_of, is_child, children_of, deposits_of, without_vote, with_change}
-use Rattle.maps.proofs.Kept.{IsMap-with_value, IsMap-without_key}
+use Rattle.maps.proofs.Kept.{IsMap-entries_where, IsMap-with_value, IsMap-without_key}
 use Rattle.maps.specs.Maps.{IsMap, with_value}
 use Rattle.proposal_store.specs.declared.families.Parent.{Parent}
-use Rattle.proposal_store.specs.Families.{ids_at}
+use Rattle.proposal_store.specs.Leaving.{is_drep_among, without_votes_of}
 use Rattle.proposal_store.specs.Store.{AllOrdered, IsStore}
 use Rattle.proposal_store.proofs.Entries.{AllKeyed}
 
@@ -150,6 +151,15 @@ setting_votes votes h = record { ids = λ p. refl; actions = λ p. refl; deposit
 -- votes without those of a voter
 pub dropping_votes : (v : Voter) → ChangesVotes (without_vote v)
 dropping_votes v = record { ids = λ p. refl; actions = λ p. refl; deposits = λ p. refl; ordered = λ p h. IsMap-without_key voter_cmp v p.votes h }
+
+-- votes without those of DReps
+pub dropping_those : (dreps : List Credential) → ChangesVotes (without_votes_of dreps)
+dropping_those dreps = record {
+  ids = λ p. refl;
+  actions = λ p. refl;
+  deposits = λ p. refl;
+  ordered = λ p h. IsMap-entries_where voter_cmp (λ v x. not (is_drep_among dreps v)) p.votes h;
+}
 
 -- votes with one put in, or as they were, are in order
 pub put_ordered : {T E : Type 0} (r : Result T E) (old new : List (Voter × Vote)) (v : Voter) (vote : Vote) → OnOk r (new ≡ with_value voter_cmp v vote old) → OnErr r (new ≡ old) → IsMap voter_cmp old → IsMap voter_cmp new

@@ -1,3 +1,4 @@
 pub mod Families
 pub mod Store
 pub mod Places
+pub mod Leaving

@@ -2,6 +2,7 @@
 #![tactic(auto)]
 
 mod families;
+mod leaving;
 mod store;
 mod votes;
 

@@ -3,14 +3,16 @@ ghost use Rattle.std.specs.Option.{option_copied};
 ghost use Rattle.std.specs.List.{IsDistinct};
 ghost use Rattle.std.specs.Map.{values_of};
 ghost use Rattle.gov_ids.specs.declared.Voter.TheVariants.{Drep};
-ghost use Rattle.gov_ids.specs.Orders.{voter_cmp};
+ghost use Rattle.gov_ids.specs.Orders.{credential_cmp, voter_cmp};
 ghost use Rattle.gov_ids.specs.Same.{same_action};
 ghost use Rattle.gov_model.specs.Ratified.{ids_of};
 ghost use Rattle.gov_model.specs.Proposals.{proposal_of, children_of, deposits_of, those_of, others_than, with_vote, without_vote, with_change};
-ghost use Rattle.maps.specs.Maps.{IsMap};
+ghost use Rattle.maps.specs.Maps.{IsMap, IsSet};
+ghost use Rattle.proposal_store.specs.Leaving.{without_votes_of};
 ghost use Rattle.proposal_store.specs.Store.{AllOrdered, is_in, is_out};
 
 use crate::families::{Families, Parent};
+use crate::leaving::drop_votes;
 use crate::votes::{drop_vote, put_vote};
 use coin_frac::NoMemory;
 use gov_actions::{Proposal, Purpose, Vote};
@@ -151,6 +153,22 @@ impl ProposalStore {
                 requires { IsMap voter_cmp p.old.votes }
             {
                 drop_vote(&mut p.votes, &voter);
+                true
+            },
+        );
+    }
+
+    /// The votes of these DReps, which stand in order, leave all proposals, in one walk over the proposals. (Own)
+    pub fn clear_votes_of(&mut self, dreps: &[Credential])
+        requires { IsSet credential_cmp dreps.now }
+        ensures { self.new ≡ map (without_votes_of dreps.now) self.old }
+    {
+        let alloc = self.alloc;
+        self.proposals.retain(
+            |_, p|
+                requires { IsMap voter_cmp p.old.votes }
+            {
+                drop_votes(alloc, &mut p.votes, dreps);
                 true
             },
         );

@@ -118,10 +118,24 @@ fn keeps_the_last_vote_of_each_voter(rt: HostRuntime) -> Result<(), Fail> {
     store.unvote(&id(1), &drep(5));
     store.unvote(&id(2), &drep(5));
     assert_eq!(rt; (votes(&store, 1), votes(&store, 2)), (Some(1), Some(1)));
+    store.vote(&id(2), drep(3), Vote::Yes)?;
     store.clear_votes(&Credential {
         hash: [7; 28],
         kind: CredKind::Key,
     });
-    assert_eq!(rt; (votes(&store, 1), votes(&store, 2)), (Some(0), Some(0)));
+    assert_eq!(rt; (votes(&store, 1), votes(&store, 2)), (Some(0), Some(1)));
+    store.vote(&id(1), drep(7), Vote::Yes)?;
+    store.vote(&id(2), drep(9), Vote::Yes)?;
+    store.clear_votes_of(&[
+        Credential {
+            hash: [3; 28],
+            kind: CredKind::Key,
+        },
+        Credential {
+            hash: [9; 28],
+            kind: CredKind::Key,
+        },
+    ]);
+    assert_eq!(rt; (votes(&store, 1), votes(&store, 2)), (Some(1), Some(0)));
     Ok(())
 }

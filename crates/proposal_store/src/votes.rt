@@ -38,7 +38,7 @@ pub(crate) fn drop_vote(votes: &mut Listed<(Voter, Vote)>, v: &Voter)
 }
 
 // Where the voter's vote stands, or else where it would.
-fn place(votes: &[(Voter, Vote)], v: &Voter) -> Result<usize, usize>
+pub(crate) fn place(votes: &[(Voter, Vote)], v: &Voter) -> Result<usize, usize>
     requires { IsMap voter_cmp votes.now }
     ensures found { IfOk result (StandsAt voter_cmp v.now votes.now) }
     ensures absent { IfErr result (FitsAt voter_cmp v.now votes.now) }

@@ -9,6 +9,7 @@ ghost use Rattle.tx_records.specs.Limits.{are_params, is_action, is_at_most, is_
 use crate::limits::{LIST_LIMIT, NETWORK_LIMIT, SLOT_LIMIT};
 use crate::tx::{ProposalRecord, TxOutput};
 use coin_frac::{NoMemory, Unit};
+use credential_list::CredentialList;
 use gov_actions::Action;
 use gov_ids::{Account, Credential, repeats_a_name};
 use listed::Listed;
@@ -28,6 +29,13 @@ pub fn are_at_most(limit: u32, refs: &OutRefs) -> bool
     ensures { result ≡ is_at_most limit refs.now }
 {
     refs.len() as u64 <= u64::from(limit)
+}
+
+/// The same of a list of credentials.
+fn are_keys_at_most(limit: u32, keys: &CredentialList) -> bool
+    ensures { result ≡ is_at_most limit keys.now }
+{
+    keys.len() as u64 <= u64::from(limit)
 }
 
 /// Whether it may be a slot, a term or an expiry.
@@ -136,7 +144,7 @@ fn is_action(alloc: Global, action: &Action) -> Result<bool, NoMemory>
             ..
         } => {
             Ok(
-                is_at_most(LIST_LIMIT, remove)
+                are_keys_at_most(LIST_LIMIT, remove)
                     && is_at_most(LIST_LIMIT, add)
                     && are_shares(&[*threshold])
                     && are_terms(add.as_slice())

@@ -8,10 +8,10 @@ use crate::committee::{first_committee, first_hot, members_of};
 use crate::fault::GenesisFault;
 use crate::first::{first_dreps, first_pools, first_stake};
 use crate::genesis_rules::broken_rule;
+use crate::live_proposals::LiveProposals;
 use coin_frac::NoMemory;
 use gov_actions::{EnactState, LastIds};
 use listed::Boxed;
-use proposal_store::ProposalStore;
 use std::alloc::Global;
 use tx_records::Genesis;
 
@@ -39,7 +39,7 @@ impl LedgerState {
             pools: first_pools(alloc, genesis)?,
             dreps: first_dreps(alloc, genesis)?,
             hot: first_hot(alloc, members_of(&genesis.committee))?,
-            proposals: ProposalStore::new(alloc),
+            proposals: LiveProposals::new(alloc),
         })
     }
 }

@@ -1,12 +1,13 @@
-use Rattle.std.proofs.Common.{List, ap, ◌∙◌, rules, tests}
-use Rattle.std.proofs.lemmas.Iterator.Consumers.{YieldsList-from_rest}
-use Rattle.std.proofs.lemmas.Iterator.Search.{any_from_yields_List}
+use Rattle.std.proofs.Common.{List, nat_lt, ap, sym, ◌∙◌}
 use Rattle.gov_ids.specs.declared.Credential.{Credential}
 use Rattle.gov_actions.specs.declared.state.HotState.{HotState}
-use Rattle.gov_model.specs.Hot.{is_hot_key, is_named}
+use Rattle.gov_model.specs.Hot.{is_named}
+use Rattle.committee_book.proofs.Counting.{named_is}
 use Rattle.committee_book.proofs.HotBook.names_hot.Goals as goal
 
-pub returns : goal.returns
-returns c =
-    any_from_yields_List (λ h. is_hot_key c.args.hot.now h.1) _ _ _ c.any.ensures.ran (YieldsList-from_rest c.self.inside.entries.entries c.iter.ensures.rest) (λ x b q k. search (rules, tests))
-    ∙ ap (λ (es : List (Credential × HotState)). is_named es c.args.hot.now) c.self.view_is
+pub returns-clause-named : goal.returns-clause-named
+returns-clause-named c =
+    let key = c.args.hot.now in
+    ap (nat_lt 0) (c.of.ensures ∙ c.self.invariant.counted key)
+    ∙ sym (named_is c.self.inside.entries.entries key)
+    ∙ ap (λ (es : List (Credential × HotState)). is_named es key) c.self.view_is

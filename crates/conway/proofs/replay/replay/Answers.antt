@@ -5,7 +5,7 @@ use Rattle.tx_records.specs.declared.record.Reading.{Reading}
 use Rattle.conway.specs.Heard.{HearsNext}
 use Rattle.conway.specs.Statuses.{fault_of_answer, fault_of_line, fault_of_sink}
 use Rattle.conway.specs.declared.fault.ReplayFault.TheVariants as faults
-use Rattle.conway.proofs.Numbers.{counts_as, none_counted, not_err, not_read, to_replay, to_sink}
+use Rattle.conway.proofs.Numbers.{became, counts_as, none_counted, not_err, not_read, to_replay, to_sink}
 use Rattle.conway.proofs.Turns.{ends_at_answer, ends_at_line, ends_at_sink, ends_done, ends_missing, goes_on, stands_first}
 use Rattle.conway.proofs.replay.replay.Goals as goal
 
@@ -38,7 +38,7 @@ returns-in_err-write-clause-replays g c = λ bytes told.
     let heard = subst (λ (o : Option Reading). HearsNext bytes c.next_record.new.lines (g.S.Source.left c.next_record.new.source) stands.records (Ok o)) c.in-Some.is
     (c.in_ok-reading.ensures.heard bytes stands.records stands.heard) in
     let part = rw c.number.ensures at c.in_err-write.ensures.err in
-    let is : c.from_residual-in_err-write.result ≡ Err (fault_of_sink c.in_err-write.field-0.0) = search rules in
+    let is : c.from_residual-in_err-write.result ≡ Err (fault_of_sink c.in_err-write.field-0.0) = became _ _ _ _ c.from_residual-in_err-write.ensures in
     rw is (ends_at_sink bytes _ _ _ _ _ stands c.next_record.new.lines _ c.in-Some.reading heard c.in_ok-after.after c.in_ok-after.outcome c.in_ok-after.ensures _ c.in_err-write.field-0.0 part.0 part.1)
 
 pub loop-ledger-preserved : goal.loop-ledger-preserved
@@ -69,13 +69,13 @@ returns-clause-replays g c = λ bytes told.
 
 pub returns-in_err-write-clause-reads : goal.returns-in_err-write-clause-reads
 returns-in_err-write-clause-reads g c =
-    let is : c.from_residual-in_err-write.result ≡ Err (fault_of_sink c.in_err-write.field-0.0) = search rules in
+    let is : c.from_residual-in_err-write.result ≡ Err (fault_of_sink c.in_err-write.field-0.0) = became _ _ _ _ c.from_residual-in_err-write.ensures in
     none_counted _ _ _ (not_read c.in_err-write.field-0.0 c.from_residual-in_err-write.result is) (c.in_ok-reading.ensures.counts.stays (not_err _ _ _ _ _ refl) ∙ c.loop-ledger.invariant.reads)
 
 pub returns-in_err-write-clause-writes : goal.returns-in_err-write-clause-writes
 returns-in_err-write-clause-writes g c =
     let r = c.from_residual-in_err-write.result in
     let e = c.in_err-write.field-0.0 in
-    let is : r ≡ Err (fault_of_sink e) = search rules in
+    let is : r ≡ Err (fault_of_sink e) = became _ _ _ _ c.from_residual-in_err-write.ensures in
     subst (λ (n : ℕ). CountsFaults (r ≡ Err faults.WriteFault) n (g.K.Sink.faults c.write.new.sink)) c.loop-ledger.invariant.writes
     (counts_as _ _ _ _ (to_replay e r (Err e) is refl) (to_sink e r (Err e) is refl) c.in_err-write.ensures.counts)

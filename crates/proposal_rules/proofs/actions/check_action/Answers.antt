@@ -18,5 +18,5 @@ returns-in-UpdateCommittee c =
     rw u.is (
     c.check_members.ensures d u.previous u.threshold
     ∙ (λ i. answer_of (action_checks (c.start-in-UpdateCommittee.ensures.start i) d
-    (UpdateCommittee u.previous (c.as_slice-in-UpdateCommittee.ensures i) (c.as_slice-in-UpdateCommittee-2.ensures i) u.threshold)))
+    (UpdateCommittee u.previous u.remove (c.as_slice-in-UpdateCommittee.ensures i) u.threshold)))
     )

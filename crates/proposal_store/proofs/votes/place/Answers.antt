@@ -1,9 +1,7 @@
-use Rattle.std.proofs.Common.{List, subst, rules}
+use Rattle.std.proofs.Common.{subst, rules}
 use Rattle.std.specs.List.Sorted.{IsBinarySearchResult}
 use Rattle.std.proofs.lemmas.List.Sorted.{answers_always}
 use Rattle.gov_ids.specs.declared.Voter.{Voter}
-use Rattle.gov_ids.specs.Orders.{voter_cmp}
-use Rattle.gov_ids.specs.contracts.VoterOrd.TheImpl as voter_ord
 use Rattle.gov_ids.specs.Derived.{voter_is}
 use Rattle.gov_ids.proofs.Exacts.{voter_exact}
 use Rattle.gov_ids.proofs.Totals.{voter_total}

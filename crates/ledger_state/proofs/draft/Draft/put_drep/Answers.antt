@@ -27,6 +27,7 @@ invariant_of-self-2 c =
       pools = h.pools;
       dreps = subst (λ (x : ChangedDreps). IsMap credential_cmp x.dreps) (sym put) (IsMap-with_value credential_total c.args.c (Some c.args.s) a.dreps.dreps h.dreps);
       hot = h.hot;
+      over = h.over;
       timely = subst (λ (l : Ledger). IsWithinDormantBound l) (sym laid) (timely_put (now start h.kept a.accounts a.pools.entries a.dreps a.hot.entries) c.args.c c.args.s h.timely timely);
       refunds_fit = omega (arith, h.refunds_fit, c.from.ensures, c.given_back.type_inv);
       deposits_fit = omega (arith, h.deposits_fit, c.from-2.ensures, c.paid_by.type_inv);

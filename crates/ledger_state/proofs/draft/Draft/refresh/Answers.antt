@@ -33,6 +33,7 @@ invariant_of-self c =
       pools = h.pools;
       dreps = subst (λ (x : ChangedDreps). IsMap credential_cmp x.dreps) (sym is) (refreshed_map start h.kept a.accounts a.pools.entries a.dreps a.hot.entries h.dreps);
       hot = h.hot;
+      over = h.over;
       timely = subst (λ (l : Ledger). IsWithinDormantBound l) (sym laid) (timely_added (now start h.kept a.accounts a.pools.entries a.dreps a.hot.entries) h.timely);
       refunds_fit = omega (arith, h.refunds_fit);
       deposits_fit = omega (arith, h.deposits_fit);

@@ -16,11 +16,11 @@ use Rattle.pparams.specs.declared.Params.{Params}
 use Rattle.stake_book.specs.Stakes.{balances_in}
 use Rattle.utxo_set.specs.Utxos.{Utxos}
 use Rattle.ledger_state.specs.contracts.state.LedgerState.{the_view}
-use Rattle.ledger_state.specs.Drafts.{without_votes_of}
+use Rattle.proposal_store.specs.Leaving.{without_votes_of}
 use Rattle.ledger_state.specs.Kept.{IsKept}
 use Rattle.ledger_state.specs.Standing.{Standing}
 use Rattle.ledger_state.specs.Proposed.{IsUnknown}
-use Rattle.ledger_state.proofs.Committing.{few_proposals, passing}
+use Rattle.ledger_state.proofs.Committing.{few_outputs, few_proposals, passing}
 use Rattle.ledger_state.proofs.Parts.{made_from_taken, passed_parts, taken_from}
 use Rattle.ledger_state.proofs.state.LedgerState.passed.Goals as goal
 
@@ -28,7 +28,7 @@ pub laid_over-requires : goal.laid_over-requires
 laid_over-requires c =
     let e = ap (λ (s : Standing). s.ledger) c.self.view_is in
     let p = passing (the_view c.self.inside).ledger c.args.self.ledger c.args.tx.now c.args.changes e c.self.invariant c.requires.within c.requires.allowed c.requires.passed c.requires.drafted in
-    record { stake = (c.self.invariant.sound.accounts, p.before); lower = p.lower; fit = p.fit; voted = c.self.invariant.voted }
+    record { stake = (c.self.invariant.sound.accounts, p.before); lower = p.lower; fit = p.fit }
 
 -- the outputs that are left are those of the ledger without the inputs
 left_is : (c : goal.In_ok-stake) → c.in_ok-stake.stake.outputs.outputs ≡ without_keys outref_cmp c.args.tx.now.inputs c.self.inside.stake.outputs.outputs
@@ -36,6 +36,9 @@ left_is c =
     ap (λ (u : Utxos). u.outputs) c.in_ok-stake.ensures.outputs
     ∙ ap (λ (rs : List OutRef). without_keys outref_cmp rs c.in_ok-books.books.stake.outputs.outputs) c.as_slice.ensures
     ∙ ap (λ (u : Utxos). without_keys outref_cmp c.args.tx.now.inputs u.outputs) c.in_ok-books.ensures.rest.outputs
+
+pub with_outputs-requires-clause-few : goal.with_outputs-requires-clause-few
+with_outputs-requires-clause-few c = few_outputs c.args.tx.now c.requires.within
 
 pub with_outputs-requires-clause-absent : goal.with_outputs-requires-clause-absent
 with_outputs-requires-clause-absent c =

@@ -1,4 +1,4 @@
-use Rattle.std.proofs.Common.{◌≡◌, List, Some, None, ap, sym, subst, ◌∙◌}
+use Rattle.std.proofs.Common.{◌≡◌, List, None, ap, sym, subst, ◌∙◌}
 use Rattle.std.specs.HashMap.{HashMap}
 use Rattle.std.specs.Map.{values_of, set_value}
 use Rattle.std.proofs.lemmas.Result.{on_ok_weaker, on_err_weaker}

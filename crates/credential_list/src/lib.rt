@@ -1,0 +1,9 @@
+//! A list of credentials that can be searched.
+#![tactic(auto)]
+
+mod list;
+
+pub use list::CredentialList;
+
+#[cfg(test)]
+mod tests;
