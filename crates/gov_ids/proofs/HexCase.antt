@@ -5,14 +5,14 @@ use Rattle.std.proofs.lemmas.List.{length-map}
 use Rattle.std.proofs.lemmas.List.Elements.{All-cons, All-head, All-nil, All-tail}
 use Rattle.std.specs.List.{AllPass}
 use Rattle.std.specs.Result.{result_unwrap_or}
-use Rattle.hex.proofs.HexLemmas.{decode_of-even, decode_of-ok, decode_sized-encode_lower}
+use Rattle.hex.proofs.HexLemmas.{decode_of-encode_lower, decode_of-even, decode_of-ok, length-encode_with}
 use Rattle.hex.specs.Hex.{decode_of, decode_pairs, digit_or_error, encode_lower, encode_with, hex_digit_value, is_hex_digit, lower_digits, pair_value, value_at, ◌>>=◌}
 use Rattle.hex.specs.declared.error.FromHexError.{FromHexError}
 use Rattle.gov_ids.specs.declared.IdFault.{IdFault}
 use Rattle.gov_ids.specs.declared.IdFault.TheVariants.{BadLength, BadHex}
 use Rattle.gov_ids.specs.Spelling.{hash_of, or_bad_hex}
 use Rattle.gov_ids.specs.Laws.{IsHash, digit_lowered, lowered}
-use Rattle.gov_ids.proofs.HashLemmas.{hash_of_bad_hex, hash_of_ok, hash_of_sized, with_fault}
+use Rattle.gov_ids.proofs.HashLemmas.{hash_of_bad_hex, hash_of_decoded, hash_of_ok}
 
 -- the digit of a value below 16
 abbrev glyph : ℕ → ℕ
@@ -116,7 +116,9 @@ hash_of-read n s h e =
 
 -- the text of n bytes reads as them
 pub hash_of-hash_text : (n : ℕ) (h : List ℕ) → IsHash n h → hash_of n (encode_lower h) ≡ Ok h
-hash_of-hash_text n h is = hash_of_sized n (encode_lower h) ∙ ap with_fault (decode_sized-encode_lower h n is.0 is.1)
+hash_of-hash_text n h is =
+    let long = length-encode_with lower_digits h in
+    hash_of_decoded n (encode_lower h) h (omega (arith, long, is.0)) (decode_of-encode_lower h is.1)
 
 lowered_hash : (n : ℕ) (s : List ℕ) (r : Result (List ℕ) IdFault) → hash_of n s ≡ r → hash_of n (lowered s) ≡ r
 lowered_hash n s (Ok h) e =

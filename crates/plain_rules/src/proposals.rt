@@ -1,12 +1,10 @@
 // The rules on proposals, by the ledger before the transaction and the draft after all certificates.
-ghost use Rattle.std.specs.Prelude.{◌≡◌, ◌==◌, IfOk, Option, nat_le, not, sum_by, true};
+ghost use Rattle.std.specs.Prelude.{◌≡◌, ◌==◌, IfOk, nat_le, not, sum_by, true};
 ghost use Rattle.std.specs.List.{list_any};
-ghost use Rattle.gov_actions.specs.declared.action.Action.TheVariants.{TreasuryWithdrawals, UpdateCommittee};
-ghost use Rattle.coin_frac.specs.Fraction.{Fraction};
-ghost use Rattle.gov_ids.specs.declared.ActionId.{ActionId};
+ghost use Rattle.gov_actions.specs.declared.action.Action.TheVariants.{TreasuryWithdrawals};
 ghost use Rattle.gov_ids.specs.Same.{same_credential};
 ghost use Rattle.ledger_model.specs.Checks.{per_place};
-ghost use Rattle.ledger_model.specs.Ledger.{Ledger, is_account};
+ghost use Rattle.ledger_model.specs.Ledger.{is_account};
 ghost use Rattle.ledger_model.specs.ProposalRules.{action_checks, is_other_policy, proposal_checks, same_bytes};
 ghost use Rattle.maps.specs.Words.{among, holds, same_option};
 ghost use Rattle.plain_ledger.specs.Plain.{ledger_of};
@@ -109,7 +107,12 @@ fn action_checks(
             target_checks(alloc, l, d, targets.as_slice(), *policy)
         }
         Action::UpdateCommittee { remove, add, .. } => {
-            member_checks(alloc, l, remove.as_slice(), add.as_slice())
+            let removed = is_any_removed(add.as_slice(), remove.as_slice());
+            let checks = [
+                Check::new(CONFLICTING_UPDATE, removed),
+                Check::new(TERM_TOO_SMALL, is_any_over(add.as_slice(), l.epoch)),
+            ];
+            checks_of(alloc, &checks)
         }
         _ => Ok(Listed::new(alloc)),
     }
@@ -197,23 +200,6 @@ fn is_nothing_paid(targets: &[(Account, u64)]) -> bool
         }
     }
     true
-}
-
-/// The rules on a change of the committee.
-fn member_checks(
-    alloc: Global,
-    l: &PlainLedger,
-    remove: &[Credential],
-    add: &[(Credential, u64)],
-) -> Result<Listed<Check>, NoMemory>
-    ensures { (d : Ledger) (previous : Option ActionId) (threshold : Fraction) → IfOk result (λ list. list ≡
-        action_checks (ledger_of l.now) d (UpdateCommittee previous remove.now add.now threshold)) }
-{
-    let checks = [
-        Check::new(CONFLICTING_UPDATE, is_any_removed(add, remove)),
-        Check::new(TERM_TOO_SMALL, is_any_over(add, l.epoch)),
-    ];
-    checks_of(alloc, &checks)
 }
 
 /// Whether some new member is removed, too.
