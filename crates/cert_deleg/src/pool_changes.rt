@@ -11,7 +11,8 @@ use ledger_state::Draft;
 /// A pool is registered and pays the deposit that is due, or it has these terms from the next boundary on, pays nothing and does not retire.
 pub fn register(d: &mut Draft, pool: PoolId, terms: PoolTerms) -> Result<(), NoMemory>
     requires few { d.old.changes < 2 ^ 32 }
-    ensures ok { OnOk result (IsCertified (PoolReg pool terms.cost terms.pledge terms.margin terms.account) d.old d.new) }
+    ensures ok { OnOk result
+        (IsCertified (PoolReg pool terms.cost terms.pledge terms.margin terms.account) d.old d.new) }
     ensures err { OnErr result (d.new ≡ d.old) }
 {
     let due = d.start().params().pool_deposit;

@@ -6,7 +6,6 @@ ghost use Rattle.gov_ids.specs.Orders.{credential_cmp};
 ghost use Rattle.maps.specs.Maps.{IsMap, entry_after, value_at, with_value, with_values, without_key};
 ghost use Rattle.maps.specs.Replaced.{with_option};
 ghost use Rattle.gov_model.specs.Hot.{is_named, is_member, of_members};
-ghost use Rattle.gov_model.specs.Sides.{members_of};
 ghost use Rattle.committee_book.specs.Counts.{AreCounted, count_of};
 
 mod counts;
@@ -122,9 +121,8 @@ impl HotBook {
         self.counts.of(hot)
     }
 
-    /// Only members keep their entries, and none where there is no committee. The members stand in order. (EPOCH of the formal specification)
+    /// Only members keep their entries, and none where there is no committee. (EPOCH of the formal specification)
     pub fn keep_members(&mut self, c: Option<&Committee>)
-        requires { IsMap credential_cmp (members_of (option_map (λ c. c.now) c)) }
         ensures { self.new ≡ of_members (option_map (λ c. c.now) c.entry) self.old }
     {
         take_others(&mut self.counts, &self.entries, c);
@@ -146,8 +144,7 @@ fn take_others(
     entries: &BTreeMap<Credential, HotState>,
     c: Option<&Committee>,
 )
-    requires in_order { IsMap credential_cmp (members_of (option_map (λ c. c.now) c)) }
-    requires counted { AreCounted entries.now.entries counts.old }
+    requires { AreCounted entries.now.entries counts.old }
     ensures { AreCounted (of_members (option_map (λ c. c.now) c.entry) entries.now.entries) counts.new }
 {
     for (cold, s) in entries {
@@ -157,17 +154,12 @@ fn take_others(
     }
 }
 
-/// Whether a cold key is a member of the committee, none being one where there is no committee. The members stand in order, so it is found by halves. (CIP-1694, The constitutional committee)
+/// Whether a cold key is a member of the committee, none being one where there is no committee. (CIP-1694, The constitutional committee)
 pub fn is_member(c: Option<&Committee>, cold: &Credential) -> bool
-    requires { IsMap credential_cmp (members_of (option_map (λ c. c.now) c)) }
     ensures { result ≡ is_member (option_map (λ c. c.now) c.entry) cold.now }
 {
     match c {
-        Some(committee) => committee
-            .members
-            .as_slice()
-            .binary_search_by_key(cold, |(member, _)| *member)
-            .is_ok(),
+        Some(committee) => committee.members.contains(cold),
         None => false,
     }
 }

@@ -1,17 +1,10 @@
-ghost use Rattle.std.specs.Prelude.{◌≡◌, IfOk, replicate};
-ghost use Rattle.gov_ids.specs.Orders.{credential_cmp};
-ghost use Rattle.gov_ids.specs.declared.CredKind.TheVariants.{Key};
-ghost use Rattle.maps.specs.Maps.{IsMap};
-
 use super::*;
 use coin_frac::Unit;
+use gov_actions::MemberList;
 use gov_ids::CredKind;
-use listed::Listed;
 use std::test::Fail;
 
-fn key(byte: u8) -> Credential
-    ensures { result ≡ record { hash = replicate 28 byte; kind = Key } }
-{
+fn key(byte: u8) -> Credential {
     Credential {
         hash: [byte; 28],
         kind: CredKind::Key,
@@ -30,15 +23,10 @@ fn book(alloc: Global) -> Result<HotBook, Fail> {
 }
 
 // Its members are 2, 4 and 7.
-fn committee(alloc: Global) -> Result<Committee, Fail>
-    ensures { IfOk result (λ c. IsMap credential_cmp c.members) }
-{
-    let mut members = Listed::new(alloc);
-    members.push((key(2), 9))?;
-    members.push((key(4), 0))?;
-    members.push((key(7), 9))?;
+fn committee(alloc: Global) -> Result<Committee, Fail> {
+    let members = [(key(2), 9), (key(4), 0), (key(7), 9)];
     Ok(Committee {
-        members,
+        members: MemberList::from_vec(members.to_vec(alloc)?),
         threshold: Unit::new(1, 2)?,
     })
 }
@@ -137,7 +125,7 @@ fn takes_the_entries_of_another(rt: HostRuntime) -> Result<(), Fail> {
 }
 
 #[test]
-fn finds_members_by_halves(rt: HostRuntime) -> Result<(), Fail> {
+fn finds_members(rt: HostRuntime) -> Result<(), Fail> {
     let committee = committee(rt.alloc())?;
     for (cold, member) in [
         (1, false),

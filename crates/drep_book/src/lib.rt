@@ -73,7 +73,8 @@ impl DrepBook {
 
     /// The DRep of the credential becomes `to`. Want of memory changes nothing. (Own)
     pub fn restore(&mut self, c: Credential, to: Option<DrepState>) -> Result<(), NoMemory>
-        ensures ok { OnOk result (self.new ≡ record self.old { dreps = with_option credential_cmp c to self.old.dreps }) }
+        ensures ok { OnOk result (self.new ≡
+            record self.old { dreps = with_option credential_cmp c to self.old.dreps }) }
         ensures err { OnErr result (self.new ≡ self.old) }
     {
         match to {

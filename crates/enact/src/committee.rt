@@ -6,7 +6,7 @@ ghost use Rattle.maps.specs.Maps.{with_value, without_keys};
 
 use coin_frac::{NoMemory, Unit};
 use credential_list::CredentialList;
-use gov_actions::Committee;
+use gov_actions::{Committee, MemberList};
 use gov_ids::Credential;
 use listed::Listed;
 use std::cmp::Ordering;
@@ -25,7 +25,10 @@ pub(crate) fn updated(
     for (cold, term) in add.as_slice() {
         put(&mut members, *cold, *term)?;
     }
-    Ok(Committee { members, threshold })
+    Ok(Committee {
+        members: MemberList::from_vec(members.into_vec()),
+        threshold,
+    })
 }
 
 // The members of a committee; where there is none, the empty list with room for those that are added.
@@ -36,7 +39,7 @@ fn members_of(
     ensures { IfOk result (λ members. members ≡ members_of old) }
 {
     match old {
-        Some(committee) => Ok(committee.members),
+        Some(committee) => Ok(Listed::from_vec(committee.members.into_vec())),
         None => {
             let mut members = add.clone()?.into_vec();
             members.clear();

@@ -9,11 +9,9 @@ ghost use Rattle.gov_model.specs.Sides.{members_of};
 ghost use Rattle.maps.specs.Maps.{IsMap};
 
 mod committee;
-mod copies;
 
 use coin_frac::NoMemory;
 use committee::updated;
-pub use copies::copied;
 use gov_actions::{Action, EnactState, LastIds, Purpose};
 use gov_ids::{Account, ActionId};
 

@@ -1,6 +1,7 @@
 ghost use Rattle.std.specs.Prelude.{◌≡◌, IfOk};
 
 use crate::action::Action;
+use crate::state::{Committee, EnactState};
 use coin_frac::NoMemory;
 use listed::Listed;
 use std::alloc::Global;
@@ -54,6 +55,39 @@ impl Action {
             Action::Info => Ok(Action::Info),
         }
     }
+}
+
+impl EnactState {
+    /// The same state, in memory of its own, for a pass that starts from it. (Own)
+    pub fn copied(&self, alloc: Global) -> Result<EnactState, NoMemory>
+        ensures { IfOk result (λ copy. copy ≡ self.now) }
+    {
+        Ok(EnactState {
+            params: self.params,
+            version: self.version,
+            committee: copied_committee(alloc, &self.committee)?,
+            document: self.document,
+            script: self.script,
+            last: self.last,
+            treasury: self.treasury,
+        })
+    }
+}
+
+/// The same committee, if there is one.
+fn copied_committee(
+    alloc: Global,
+    committee: &Option<Committee>,
+) -> Result<Option<Committee>, NoMemory>
+    ensures { IfOk result (λ copy. copy ≡ committee.now) }
+{
+    let Some(committee) = committee else {
+        return Ok(None);
+    };
+    Ok(Some(Committee {
+        members: committee.members.copied(alloc)?,
+        threshold: committee.threshold,
+    }))
 }
 
 /// The same list, in memory of its own.

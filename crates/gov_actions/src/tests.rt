@@ -28,6 +28,25 @@ fn tells_what_an_action_is(rt: HostRuntime) -> Result<(), Fail> {
 }
 
 #[test]
+fn finds_members_in_any_order(rt: HostRuntime) -> Result<(), Fail> {
+    let key = |byte| Credential {
+        hash: [byte; 28],
+        kind: CredKind::Key,
+    };
+    for bytes in [[2, 4, 7], [7, 2, 4], [2, 2, 7]] {
+        let members = bytes.map(|byte| (key(byte), 9));
+        let list = MemberList::from_vec(members.to_vec(rt.alloc())?);
+        let copy = list.copied(rt.alloc())?;
+        for byte in 1..=8 {
+            assert_eq!(rt; list.contains(&key(byte)), bytes.contains(&byte));
+            assert_eq!(rt; copy.contains(&key(byte)), bytes.contains(&byte));
+        }
+        assert_eq!(rt; list.into_vec().as_slice(), members.as_slice());
+    }
+    Ok(())
+}
+
+#[test]
 fn tells_who_may_vote(rt: HostRuntime) -> Result<(), Fail> {
     let key = Credential {
         hash: [2; 28],

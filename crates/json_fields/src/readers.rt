@@ -211,7 +211,8 @@ pub fn read_four(v: &Value) -> Result<(&Value, &Value, &Value, &Value), FieldFau
 /// An array of five entries. (Own)
 #[tactic(auto, using(crate::proofs::Items::not_five))]
 pub fn read_five(v: &Value) -> Result<(&Value, &Value, &Value, &Value, &Value), FieldFault>
-    ensures { result_map_both (λ t. (view t.0.now, view t.1.now, view t.2.now, view t.3.now, view t.4.now)) (λ e. e) result
+    ensures { result_map_both
+        (λ t. (view t.0.now, view t.1.now, view t.2.now, view t.3.now, view t.4.now)) (λ e. e) result
         ≡ five_in (view v.now) }
 {
     match read_items(v)? {
@@ -223,7 +224,8 @@ pub fn read_five(v: &Value) -> Result<(&Value, &Value, &Value, &Value, &Value), 
 /// An array of six entries. (Own)
 #[tactic(auto, using(crate::proofs::Items::not_six))]
 pub fn read_six(v: &Value) -> Result<(&Value, &Value, &Value, &Value, &Value, &Value), FieldFault>
-    ensures { result_map_both (λ t. (view t.0.now, view t.1.now, view t.2.now, view t.3.now, view t.4.now, view t.5.now)) (λ e. e) result
+    ensures { result_map_both
+        (λ t. (view t.0.now, view t.1.now, view t.2.now, view t.3.now, view t.4.now, view t.5.now)) (λ e. e) result
         ≡ six_in (view v.now) }
 {
     match read_items(v)? {

@@ -206,7 +206,8 @@ fn distinct_amounts(
     limit: u32,
     value: &Value,
 ) -> Result<Listed<(Account, u64)>, ListFault>
-    ensures { ReadsList result (distinct_list_in account_cmp (λ a. a.0) limit (both_in account_in u64_in) (view value.now)) }
+    ensures { ReadsList result
+        (distinct_list_in account_cmp (λ a. a.0) limit (both_in account_in u64_in) (view value.now)) }
 {
     read_distinct_list::<(Account, u64)>(alloc, limit, value)
 }

@@ -59,10 +59,10 @@ ordered-voted vs (p ∷ ps) h = (
   ordered-voted vs ps h.1,
 )
 
-pub ordered-proposed : (l : Ledger) (id : TxId) (i : ℕ) (ps : List ProposalRecord) → AllOrdered (proposed_from l id i ps)
+pub ordered-proposed : (last : ℕ) (id : TxId) (i : ℕ) (ps : List ProposalRecord) → AllOrdered (proposed_from last id i ps)
 unfolding IsStrictlySortedBy
-ordered-proposed l id i [] = tt
-ordered-proposed l id i (p ∷ ps) = (tt, ordered-proposed l id (i + 1) ps)
+ordered-proposed last id i [] = tt
+ordered-proposed last id i (p ∷ ps) = (tt, ordered-proposed last id (i + 1) ps)
 
 pub ordered-append : (ps qs : List Proposal) → AllOrdered ps → AllOrdered qs → AllOrdered (ps ++ qs)
 ordered-append [] qs h k = k

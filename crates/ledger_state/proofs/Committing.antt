@@ -30,7 +30,7 @@ use Rattle.ledger_model.specs.Draft.{last_draft}
 use Rattle.ledger_model.specs.Ledger.{Ledger}
 use Rattle.ledger_model.specs.Sound.{IsSound}
 use Rattle.ledger_model.specs.Supply.{supply_of}
-use Rattle.ledger_model.specs.Transaction.{after_failed, after_passed, after_scripts, kept_output, ledger_after_tx, made_outputs, made_proposals, made_return, with_votes}
+use Rattle.ledger_model.specs.Transaction.{after_failed, after_passed, after_scripts, kept_output, last_voting_epoch, ledger_after_tx, made_outputs, made_proposals, made_return, with_votes}
 use Rattle.ledger_model.specs.UtxoRules.{collateral_left, collateral_sum, has_scripts, is_failed, returned}
 use Rattle.tx_balance.specs.Laws.{HasOwnWithdrawals}
 use Rattle.tx_balance.proofs.Failed.{made, returned_sum}
@@ -90,7 +90,7 @@ abbrev pub after_changes : Ledger → Tx → Changed → Ledger
 after_changes l tx changes = record (laid_over changes l) {
   outputs = with_values outref_cmp (made_outputs tx) (without_keys outref_cmp tx.inputs l.outputs);
   used = with_key txid_cmp tx.id l.used;
-  proposals = map (with_votes tx) (map (without_votes_of changes.left) l.proposals) ++ made_proposals l tx;
+  proposals = map (with_votes tx) (map (without_votes_of changes.left) l.proposals) ++ made_proposals (last_voting_epoch l) tx;
   fees = l.fees + tx.fee;
   donations = l.donations + tx.donation;
 }
@@ -162,7 +162,7 @@ module _ (l : Ledger) (tx : Tx) (k : IsKept l) (within : is_within_limits tx ≡
       (λ i. record (drafted i) {
         outputs = with_values outref_cmp (made_outputs tx) (left tx.inputs);
         used = with_key txid_cmp tx.id l.used;
-        proposals = map (with_votes tx) (drafted i).proposals ++ made_proposals l tx;
+        proposals = map (with_votes tx) (drafted i).proposals ++ made_proposals (last_voting_epoch l) tx;
         fees = l.fees + tx.fee;
         donations = l.donations + tx.donation;
       })
@@ -185,9 +185,9 @@ module _ (l : Ledger) (tx : Tx) (k : IsKept l) (within : is_within_limits tx ≡
       let left : List Proposal = map (without_votes_of changes.left) l.proposals in
       let known : AreUsed l.used left = used-cleared l.used changes.left l.proposals k.proposed in
       let old : List Proposal = map (with_votes tx) left in
-      let proposed = used-append now_used old (made_proposals l tx) (used-voted now_used tx.votes left (used-more l.used tx.id left known))
-      (used-proposed now_used l tx.id 0 tx.proposals (new_used l.used tx.id)) in
-      let voted = ordered-append old (made_proposals l tx) (ordered-voted tx.votes left (ordered-cleared changes.left l.proposals k.voted)) (ordered-proposed l tx.id 0 tx.proposals) in
+      let proposed = used-append now_used old (made_proposals (last_voting_epoch l) tx) (used-voted now_used tx.votes left (used-more l.used tx.id left known))
+      (used-proposed now_used (last_voting_epoch l) tx.id 0 tx.proposals (new_used l.used tx.id)) in
+      let voted = ordered-append old (made_proposals (last_voting_epoch l) tx) (ordered-voted tx.votes left (ordered-cleared changes.left l.proposals k.voted)) (ordered-proposed (last_voting_epoch l) tx.id 0 tx.proposals) in
       let kept : IsKept (after_changes l tx changes) = kept_after (after_changes l tx changes) is refl proposed voted in
       record {
         before = omega (arith, k.balanced, k.within);
@@ -198,7 +198,7 @@ module _ (l : Ledger) (tx : Tx) (k : IsKept l) (within : is_within_limits tx ≡
         fee = omega (arith, kept.balanced, k.within);
         donation = omega (arith, kept.balanced, k.within);
         unknown = used_unknown l.used tx.id old (id_is_new l tx parts) (used-voted l.used tx.votes left known);
-        deposits = omega (arith, kept.balanced, k.within, deposits-append old (made_proposals l tx), deposits-proposed l tx.id 0 tx.proposals);
+        deposits = omega (arith, kept.balanced, k.within, deposits-append old (made_proposals (last_voting_epoch l) tx), deposits-proposed (last_voting_epoch l) tx.id 0 tx.proposals);
         kept = kept;
         is = is;
       }

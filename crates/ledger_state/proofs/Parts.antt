@@ -13,7 +13,7 @@ use Rattle.gov_actions.specs.declared.state.HotState.{HotState}
 use Rattle.maps.specs.Maps.{with_key, with_values, without_keys}
 use Rattle.tx_records.specs.declared.tx.Tx.{Tx}
 use Rattle.ledger_model.specs.Ledger.{Ledger}
-use Rattle.ledger_model.specs.Transaction.{after_failed, made_outputs, made_proposals, made_return, with_votes}
+use Rattle.ledger_model.specs.Transaction.{after_failed, last_voting_epoch, made_outputs, made_proposals, made_return, with_votes}
 use Rattle.ledger_model.specs.UtxoRules.{collateral_left, collateral_sum}
 use Rattle.drep_book.specs.Dreps.{Dreps}
 use Rattle.stake_book.specs.Stakes.{Stakes, accounts_of, with_used, without_dreps}
@@ -59,7 +59,7 @@ module _ (l : Ledger) (tx : Tx) (s : Stakes) where
       → accounts_of a ≡ with_registrations changes.accounts (without_dreps changes.left (accounts_of s)) → KeepsOutputs s a
       → IsMade a t tx.inputs (made_outputs tx) tx.id → pools ≡ with_values pool_cmp changes.pools l.pools
       → dreps ≡ changed_dreps.laid_over (record { dreps = changes.dreps; refreshed = changes.refreshed }) l.epoch (record { dreps = l.dreps; dormant = l.dormant })
-      → hot ≡ with_values credential_cmp changes.hot l.hot → proposals ≡ map (with_votes tx) (map (without_votes_of changes.left) l.proposals) ++ made_proposals l tx
+      → hot ≡ with_values credential_cmp changes.hot l.hot → proposals ≡ map (with_votes tx) (map (without_votes_of changes.left) l.proposals) ++ made_proposals (last_voting_epoch l) tx
       → record (with_book t l) { dormant = dreps.dormant; pools = pools; dreps = dreps.dreps; hot = hot; proposals = proposals; fees = l.fees + tx.fee; donations = l.donations + tx.donation } ≡ after_changes (with_book s l) tx changes
   passed_parts changes a t pools dreps hot proposals laid k m pooled standing warm proposed =
       let outputs = m.outputs ∙ ap (λ (u : Utxos). record {

@@ -13,14 +13,13 @@ use Rattle.gov_ids.specs.Same.{same_action}
 use Rattle.gov_ids.proofs.Exacts.{action_id_exact}
 use Rattle.gov_ids.proofs.Totals.{action_id_total}
 use Rattle.gov_model.specs.Proposals.{deposits_of, proposal_of, with_change, with_vote}
-use Rattle.ledger_model.specs.Ledger.{Ledger}
 use Rattle.ledger_model.specs.Transaction.{made_proposal}
 use Rattle.maps.proofs.Ties.{same_key}
 use Rattle.maps.specs.Maps.{has_member, with_key, with_values}
 use Rattle.tx_records.specs.declared.tx.ProposalRecord.{ProposalRecord}
 use Rattle.tx_records.specs.declared.tx.VoteRecord.{VoteRecord}
 use Rattle.tx_balance.proofs.Sounds.{still_used}
-use Rattle.ledger_state.specs.Proposed.{IsLast, IsUnknown}
+use Rattle.ledger_state.specs.Proposed.{IsUnknown}
 
 -- ---- votes
 
@@ -120,20 +119,20 @@ module _ (id : TxId) where
       found_first (same_action q.id (record { tx = id; index = j })) q (proposal_of (record { tx = id; index = j }) ps) (proposal_of (record { tx = id; index = j }) (ps ++ p ∷ [])) h (unknown-more i j p ps e lt)
 
 -- those from the place i on
-abbrev pub proposed_from : Ledger → TxId → ℕ → List ProposalRecord → List Proposal
-proposed_from l id i ps = map (λ p. made_proposal l id p.0 p.1) (enumerate_from i ps)
+abbrev pub proposed_from : ℕ → TxId → ℕ → List ProposalRecord → List Proposal
+proposed_from last id i ps = map (λ p. made_proposal last id p.0 p.1) (enumerate_from i ps)
 
-pub used-proposed : (used : List TxId) (l : Ledger) (id : TxId) (i : ℕ) (ps : List ProposalRecord) → has_member txid_cmp used id ≡ true → AreUsed used (proposed_from l id i ps)
-used-proposed used l id i [] h = tt
-used-proposed used l id i (p ∷ ps) h = (h, used-proposed used l id (i + 1) ps h)
+pub used-proposed : (used : List TxId) (last : ℕ) (id : TxId) (i : ℕ) (ps : List ProposalRecord) → has_member txid_cmp used id ≡ true → AreUsed used (proposed_from last id i ps)
+used-proposed used last id i [] h = tt
+used-proposed used last id i (p ∷ ps) h = (h, used-proposed used last id (i + 1) ps h)
 
-pub deposits-proposed : (l : Ledger) (id : TxId) (i : ℕ) (ps : List ProposalRecord) → deposits_of (proposed_from l id i ps) ≡ sum_by (λ (p : ProposalRecord). p.deposit) ps
-deposits-proposed l id i [] = refl
-deposits-proposed l id i (p ∷ ps) =
+pub deposits-proposed : (last : ℕ) (id : TxId) (i : ℕ) (ps : List ProposalRecord) → deposits_of (proposed_from last id i ps) ≡ sum_by (λ (p : ProposalRecord). p.deposit) ps
+deposits-proposed last id i [] = refl
+deposits-proposed last id i (p ∷ ps) =
     omega (
       arith,
-      deposits-proposed l id (i + 1) ps,
-      sum_by-cons (λ (x : Proposal). x.deposit) (made_proposal l id i p) (proposed_from l id (i + 1) ps),
+      deposits-proposed last id (i + 1) ps,
+      sum_by-cons (λ (x : Proposal). x.deposit) (made_proposal last id i p) (proposed_from last id (i + 1) ps),
       sum_by-cons (λ (x : ProposalRecord). x.deposit) p ps,
     )
 
@@ -142,14 +141,13 @@ deposits-append ps qs = sum_by-append (λ (p : Proposal). p.deposit) ps qs
 
 -- one proposal more
 module _ (id : TxId) (last : ℕ) (all : List ProposalRecord) (i : ℕ) (p : ProposalRecord) (lt : i < length all) (is : p ≡ get_or all i p) (a : Proposal)
-    (made : a ≡ record { id = record { tx = id; index = i }; action = p.action; deposit = p.deposit; account = p.account; expires_after = last; votes = [] })
+    (made : a ≡ made_proposal last id i p)
     (old new : List Proposal) (added : new ≡ old ++ a ∷ []) where
-  pub next_made : (k : Ledger) → IsLast k last → new ++ proposed_from k id (i + 1) (drop (i + 1) all) ≡ old ++ proposed_from k id i (drop i all)
-  next_made k e =
-      let rest = proposed_from k id (i + 1) (drop (i + 1) all) in
-      let this : a ≡ made_proposal k id i p = made ∙ (λ j. record { id = record { tx = id; index = i }; action = p.action; deposit = p.deposit; account = p.account; expires_after = e j; votes = [] }) in
+  pub next_made : new ++ proposed_from last id (i + 1) (drop (i + 1) all) ≡ old ++ proposed_from last id i (drop i all)
+  next_made =
+      let rest = proposed_from last id (i + 1) (drop (i + 1) all) in
       let front : drop i all ≡ p ∷ drop (i + 1) all = drop_more all i p lt ∙ ap (λ (x : ProposalRecord). x ∷ drop (i + 1) all) (sym is) in
-      ap (λ (l : List Proposal). l ++ rest) added ∙ append_assoc old (a ∷ []) rest ∙ (λ j. old ++ (this j ∷ rest)) ∙ ap (λ (l : List ProposalRecord). old ++ proposed_from k id i l) (sym front)
+      ap (λ (l : List Proposal). l ++ rest) added ∙ append_assoc old (a ∷ []) rest ∙ (λ j. old ++ (made j ∷ rest)) ∙ ap (λ (l : List ProposalRecord). old ++ proposed_from last id i l) (sym front)
 
   pub next_unknown : ((j : ℕ) → i ≤ j → proposal_of (record { tx = id; index = j }) old ≡ None) → (j : ℕ) → i + 1 ≤ j → proposal_of (record { tx = id; index = j }) new ≡ None
   next_unknown h j le = ap (λ (l : List Proposal). proposal_of (record { tx = id; index = j }) l) added ∙ unknown-more id i j a old (ap (λ (x : Proposal). x.id) made) (omega arith) (h j (omega arith))
@@ -166,5 +164,5 @@ module _ (id : TxId) (last : ℕ) (all : List ProposalRecord) (i : ℕ) (p : Pro
       )
 
 -- no proposal is left
-pub proposals_done : (k : Ledger) (id : TxId) (all : List ProposalRecord) (i : ℕ) (ps : List Proposal) → length all ≤ i → ps ++ proposed_from k id i (drop i all) ≡ ps
-proposals_done k id all i ps h = ap (λ (l : List ProposalRecord). ps ++ proposed_from k id i l) (drop_of_length-le all h) ∙ append-nil ps
+pub proposals_done : (last : ℕ) (id : TxId) (all : List ProposalRecord) (i : ℕ) (ps : List Proposal) → length all ≤ i → ps ++ proposed_from last id i (drop i all) ≡ ps
+proposals_done last id all i ps h = ap (λ (l : List ProposalRecord). ps ++ proposed_from last id i l) (drop_of_length-le all h) ∙ append-nil ps

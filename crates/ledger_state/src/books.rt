@@ -32,7 +32,8 @@ pub fn without_outputs(stake: StakeBook, taken: &[OutRef]) -> Result<StakeBook, 
 /// With the outputs of a transaction, as id#0, id#1 and so on, none of which is there.
 pub fn with_outputs(stake: StakeBook, tx: &Tx) -> Result<StakeBook, NoMemory>
     requires few { length tx.now.outputs ≤ 65535 }
-    requires absent { AllByRecursion (λ r. value_at outref_cmp stake.outputs.outputs r ≡ None) (keys_of (made_outputs tx.now)) }
+    requires absent { AllByRecursion
+        (λ r. value_at outref_cmp stake.outputs.outputs r ≡ None) (keys_of (made_outputs tx.now)) }
     requires room { HasRoom (sum_by (λ o. o.lovelace) tx.now.outputs) stake }
     ensures outputs { IfOk result (λ after. after.outputs ≡ record stake.outputs {
       outputs = with_values outref_cmp (made_outputs tx.now) stake.outputs.outputs;
@@ -51,7 +52,8 @@ pub fn with_outputs(stake: StakeBook, tx: &Tx) -> Result<StakeBook, NoMemory>
 /// With the collateral return of a transaction, if it has one, at the place after its last output.
 pub fn with_return(stake: StakeBook, tx: &Tx) -> Result<StakeBook, NoMemory>
     requires few { length tx.now.outputs ≤ 65535 }
-    requires absent { AllByRecursion (λ r. value_at outref_cmp stake.outputs.outputs r ≡ None) (keys_of (made_return tx.now)) }
+    requires absent { AllByRecursion
+        (λ r. value_at outref_cmp stake.outputs.outputs r ≡ None) (keys_of (made_return tx.now)) }
     requires room { HasRoom (returned tx.now) stake }
     ensures outputs { IfOk result (λ after. after.outputs ≡ record stake.outputs {
       outputs = with_values outref_cmp (made_return tx.now) stake.outputs.outputs;

@@ -8,9 +8,8 @@ ghost use Rattle.tx_records.specs.Limits.{genesis_members};
 
 use coin_frac::NoMemory;
 use committee_book::HotBook;
-use gov_actions::{Committee, HotState};
+use gov_actions::{Committee, HotState, MemberList};
 use gov_ids::Credential;
-use listed::Listed;
 use std::alloc::Global;
 use std::collections::BTreeMap;
 use tx_records::GenesisCommittee;
@@ -44,7 +43,7 @@ pub fn first_committee(
         .map(|(cold, term)| (*cold, *term))
         .collect(alloc)?;
     Ok(Some(Committee {
-        members: Listed::from_vec(members),
+        members: MemberList::from_vec(members),
         threshold: committee.threshold,
     }))
 }

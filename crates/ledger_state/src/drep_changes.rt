@@ -57,7 +57,8 @@ impl DrepChanges {
 
     /// The DRep of a credential in an epoch, over this book.
     pub fn latest(&self, c: &Credential, book: &DrepBook, epoch: u64) -> Option<DrepState>
-        requires fit { ForSome (value_at credential_cmp book.now.dreps c.now) (λ s. s.expiry + book.now.dormant < 2 ^ 64) }
+        requires fit { ForSome (value_at credential_cmp book.now.dreps c.now)
+            (λ s. s.expiry + book.now.dormant < 2 ^ 64) }
         ensures { result ≡ value_at credential_cmp (laid_over self.now epoch book.now).dreps c.now }
     {
         let before = awakened(self.refreshed, book.get(c), epoch, book.dormant());

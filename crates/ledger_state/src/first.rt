@@ -19,7 +19,8 @@ pub fn first_stake(alloc: Global, genesis: &Genesis) -> Result<StakeBook, NoMemo
     ensures outputs { IfOk result (λ stake. stake.outputs.outputs ≡ (ledger_of_genesis genesis.now).outputs) }
     ensures used { IfOk result (λ stake. stake.outputs.used ≡ (ledger_of_genesis genesis.now).used) }
     ensures accounts { IfOk result (λ stake. accounts_of stake ≡ (ledger_of_genesis genesis.now).accounts) }
-    ensures frozen { IfOk result (λ stake. frozen_of credential_cmp stake.accounts ≡ entries_of (ledger_of_genesis genesis.now)) }
+    ensures frozen { IfOk result (λ stake. frozen_of credential_cmp stake.accounts ≡
+        entries_of (ledger_of_genesis genesis.now)) }
 {
     let stake = first_accounts(alloc, genesis)?;
     let mut stake = with_first_outputs(stake, genesis)?;

@@ -1,8 +1,7 @@
-ghost use Rattle.std.specs.Prelude.{◌≡◌, ◌+◌, ◌<◌, ◌≤◌, ◌^◌, ◌++◌, [], IfOk, length, map, sum_by};
+ghost use Rattle.std.specs.Prelude.{◌≡◌, ◌+◌, ◌<◌, ◌≤◌, ◌^◌, ◌++◌, IfOk, length, map, sum_by};
 ghost use Rattle.gov_model.specs.Proposals.{deposits_of};
-ghost use Rattle.ledger_model.specs.Ledger.{Ledger};
-ghost use Rattle.ledger_model.specs.Transaction.{made_proposals, with_votes};
-ghost use Rattle.ledger_state.specs.Proposed.{IsLast, IsUnknown};
+ghost use Rattle.ledger_model.specs.Transaction.{made_proposal, made_proposals, with_votes};
+ghost use Rattle.ledger_state.specs.Proposed.{IsUnknown};
 ghost use Rattle.tx_records.specs.declared.tx.ProposalRecord.{ProposalRecord};
 
 use crate::live_proposals::LiveProposals;
@@ -34,7 +33,7 @@ pub fn with_proposals(
     requires few { length tx.now.proposals ≤ 65536 }
     requires unknown { IsUnknown tx.now.id store }
     requires room { deposits_of store + sum_by (λ (p : ProposalRecord). p.deposit) tx.now.proposals < 2 ^ 64 }
-    ensures { IfOk result (λ after. (l : Ledger) → IsLast l last → after ≡ store ++ made_proposals l tx.now) }
+    ensures { IfOk result (λ after. after ≡ store ++ made_proposals last tx.now) }
 {
     let mut store = store;
     for (index, proposal) in tx.proposals.as_slice().iter().enumerate() {
@@ -54,14 +53,7 @@ fn made(
     last: u64,
     proposal: &ProposalRecord,
 ) -> Result<Proposal, NoMemory>
-    ensures { IfOk result (λ made. made ≡ record {
-      id = id;
-      action = proposal.now.action;
-      deposit = proposal.now.deposit;
-      account = proposal.now.account;
-      expires_after = last;
-      votes = [];
-    }) }
+    ensures { IfOk result (λ made. made ≡ made_proposal last id.tx id.index proposal.now) }
 {
     Ok(Proposal {
         id,

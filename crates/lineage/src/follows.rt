@@ -59,7 +59,8 @@ fn parent_version(
     state: &EnactState,
     previous: Option<ActionId>,
 ) -> Option<(u32, u32)>
-    ensures { result ≡ previous_version (is_last_enacted state.now.last HardFork previous) store.now state.now.version previous }
+    ensures { result ≡
+        previous_version (is_last_enacted state.now.last HardFork previous) store.now state.now.version previous }
 {
     if is_last_enacted(&state.last, Purpose::HardFork, previous) {
         return Some(state.version);

@@ -177,7 +177,9 @@ impl PlainLedger {
         pool: Option<PoolId>,
         drep: Option<Drep>,
     ) -> Result<PlainLedger, NoMemory>
-        ensures { IfOk result (λ after. ledger_of after ≡ record (ledger_of self) { accounts = with_value credential_cmp cred (new_account (ledger_of self) pool drep) self.accounts }) }
+        ensures { IfOk result (λ after. ledger_of after ≡ record (ledger_of self) {
+          accounts = with_value credential_cmp cred (new_account (ledger_of self) pool drep) self.accounts;
+        }) }
     {
         let account = Registered {
             deposit: u64::from(self.state.params.key_deposit),
@@ -208,7 +210,8 @@ impl PlainLedger {
     /// The DRep with the deposit that is due and a fresh expiry. (GOVCERT of the formal specification)
     fn drep_registered(self, alloc: Global, drep: Credential) -> Result<PlainLedger, NoMemory>
         requires { self.epoch ≤ 2 ^ 62 }
-        ensures { IfOk result (λ after. ledger_of after ≡ record (ledger_of self) { dreps = with_value credential_cmp drep (new_drep (ledger_of self)) self.dreps }) }
+        ensures { IfOk result (λ after. ledger_of after ≡
+            record (ledger_of self) { dreps = with_value credential_cmp drep (new_drep (ledger_of self)) self.dreps }) }
     {
         let state = DrepState {
             deposit: u64::from(self.state.params.drep_deposit),
@@ -240,7 +243,8 @@ impl PlainLedger {
         cold: Credential,
         hot: HotState,
     ) -> Result<PlainLedger, NoMemory>
-        ensures { IfOk result (λ after. ledger_of after ≡ record (ledger_of self) { hot = with_value credential_cmp cold hot self.hot }) }
+        ensures { IfOk result (λ after. ledger_of after ≡
+            record (ledger_of self) { hot = with_value credential_cmp cold hot self.hot }) }
     {
         let hot = with_value(alloc, self.hot.as_slice(), cold, hot)?;
         Ok(PlainLedger { hot, ..self })

@@ -4,7 +4,7 @@ ghost use Rattle.plain_ledger.specs.Plain.{ledger_of};
 
 use crate::ledger::PlainLedger;
 use coin_frac::NoMemory;
-use gov_actions::{Committee, EnactState, Proposal};
+use gov_actions::Proposal;
 use listed::Listed;
 use std::alloc::Global;
 
@@ -40,37 +40,6 @@ fn copied_proposals(alloc: Global, proposals: &[Proposal]) -> Result<Listed<Prop
     Ok(Listed::from_vec(copy))
 }
 
-/// The same committee, if there is one.
-fn copied_committee(
-    alloc: Global,
-    committee: &Option<Committee>,
-) -> Result<Option<Committee>, NoMemory>
-    ensures { IfOk result (λ copy. copy ≡ committee.now) }
-{
-    let Some(committee) = committee else {
-        return Ok(None);
-    };
-    Ok(Some(Committee {
-        members: copied_list(alloc, &committee.members)?,
-        threshold: committee.threshold,
-    }))
-}
-
-/// The same enacted state.
-fn copied_state(alloc: Global, state: &EnactState) -> Result<EnactState, NoMemory>
-    ensures { IfOk result (λ copy. copy ≡ state.now) }
-{
-    Ok(EnactState {
-        params: state.params,
-        version: state.version,
-        committee: copied_committee(alloc, &state.committee)?,
-        document: state.document,
-        script: state.script,
-        last: state.last,
-        treasury: state.treasury,
-    })
-}
-
 impl PlainLedger {
     /// The same ledger, in memory of its own. (Own)
     pub fn copied(&self, alloc: Global) -> Result<PlainLedger, NoMemory>
@@ -86,7 +55,7 @@ impl PlainLedger {
             reserves: self.reserves,
             fees: self.fees,
             donations: self.donations,
-            state: copied_state(alloc, &self.state)?,
+            state: self.state.copied(alloc)?,
             outputs: copied_list(alloc, &self.outputs)?,
             used: copied_list(alloc, &self.used)?,
             accounts: copied_list(alloc, &self.accounts)?,

@@ -7,7 +7,7 @@ use crate::ledger::PlainLedger;
 use crate::words::{in_order, with_values};
 use book_records::{DrepState, Output, Pool, PoolTerms, Registered};
 use coin_frac::NoMemory;
-use gov_actions::{Committee, EnactState, HotState, LastIds};
+use gov_actions::{Committee, EnactState, HotState, LastIds, MemberList};
 use gov_ids::{Credential, OutRef, PoolId, TxId};
 use listed::Listed;
 use std::alloc::Global;
@@ -21,8 +21,9 @@ fn committee_of(alloc: Global, committee: &GenesisCommittee) -> Result<Committee
     for (cold, term, _) in committee.members.as_slice() {
         members.push((*cold, *term))?;
     }
+    let members = with_values(alloc, members.as_slice(), Listed::new(alloc))?;
     Ok(Committee {
-        members: with_values(alloc, members.as_slice(), Listed::new(alloc))?,
+        members: MemberList::from_vec(members.into_vec()),
         threshold: committee.threshold,
     })
 }

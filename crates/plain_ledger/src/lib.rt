@@ -14,6 +14,7 @@ mod words;
 
 pub use keys::Key;
 pub use ledger::PlainLedger;
+pub use transaction::{collateral_left, lovelace_spent};
 pub use words::{
     has_key, has_member, holds, in_order, is_empty, repeats, same, value_at, with_key, with_value,
     with_values, without_key, without_keys,

@@ -2,7 +2,7 @@
 ghost use Rattle.std.specs.Prelude.{◌≡◌, ◌*◌, ◌<◌, ◌≤◌, ◌^◌, ◌++◌, true, IfOk, length, map, sum_by};
 ghost use Rattle.gov_ids.specs.Orders.{outref_cmp};
 ghost use Rattle.ledger_model.specs.Draft.{last_draft};
-ghost use Rattle.ledger_model.specs.Transaction.{after_failed, after_passed, kept_output, made_outputs, made_proposals, made_return, votes_on, with_votes};
+ghost use Rattle.ledger_model.specs.Transaction.{after_failed, after_passed, kept_output, last_voting_epoch, made_outputs, made_proposals, made_return, votes_on, with_votes};
 ghost use Rattle.ledger_model.specs.UtxoRules.{collateral_left, lovelace_at};
 ghost use Rattle.maps.specs.Maps.{with_values, without_keys};
 ghost use Rattle.plain_ledger.specs.Plain.{HasRoom, ledger_of};
@@ -98,7 +98,7 @@ fn made_proposals(
 ) -> Result<Listed<Proposal>, NoMemory>
     requires early { ledger.now.epoch ≤ 2 ^ 62 }
     requires few { length tx.now.proposals ≤ 65536 }
-    ensures { IfOk result (λ made. made ≡ made_proposals (ledger_of ledger.now) tx.now) }
+    ensures { IfOk result (λ made. made ≡ made_proposals (last_voting_epoch (ledger_of ledger.now)) tx.now) }
 {
     let expires_after = ledger.epoch + u64::from(ledger.state.params.gov_action_lifetime);
     let mut made = Vec::new(alloc);
@@ -125,8 +125,8 @@ fn lovelace_at(ledger: &PlainLedger, at: &OutRef) -> u64
     value_at(ledger.outputs.as_slice(), at).map_or(0, |output| output.lovelace)
 }
 
-/// What the outputs at these references hold, in lovelace.
-fn lovelace_of(ledger: &PlainLedger, refs: &[OutRef]) -> u128
+/// What the unspent outputs at these references hold, in lovelace; a reference that has none counts as 0. (Own)
+pub fn lovelace_spent(ledger: &PlainLedger, refs: &[OutRef]) -> u128
     ensures sum { result ≡ sum_by (lovelace_at (ledger_of ledger.now)) refs.now }
     ensures fits { result ≤ length refs.now * u64.MAX }
 {
@@ -137,8 +137,8 @@ fn lovelace_of(ledger: &PlainLedger, refs: &[OutRef]) -> u128
     sum
 }
 
-/// What the collateral holds less the collateral return, in lovelace, and 0 where the return is more.
-fn collateral_left(ledger: &PlainLedger, tx: &Tx) -> u128
+/// What the collateral holds less the collateral return, in lovelace, and 0 where the return is more. (UTXO of the formal specification)
+pub fn collateral_left(ledger: &PlainLedger, tx: &Tx) -> u128
     requires { length tx.now.collateral ≤ 65536 }
     ensures left { result ≡ collateral_left (ledger_of ledger.now) tx.now }
     ensures fits { result < 2 ^ 80 }
@@ -146,7 +146,7 @@ fn collateral_left(ledger: &PlainLedger, tx: &Tx) -> u128
     let returned = tx
         .collateral_return
         .map_or(0, |output| u128::from(output.lovelace));
-    lovelace_of(ledger, tx.collateral.as_slice()).saturating_sub(returned)
+    lovelace_spent(ledger, tx.collateral.as_slice()).saturating_sub(returned)
 }
 
 impl PlainLedger {
@@ -157,7 +157,8 @@ impl PlainLedger {
         spent: &[OutRef],
         made: &[(OutRef, Output)],
     ) -> Result<Listed<(OutRef, Output)>, NoMemory>
-        ensures { IfOk result (λ outputs. outputs ≡ with_values outref_cmp made.now (without_keys outref_cmp spent.now self.now.outputs)) }
+        ensures { IfOk result (λ outputs. outputs ≡
+            with_values outref_cmp made.now (without_keys outref_cmp spent.now self.now.outputs)) }
     {
         let left = without_keys(alloc, self.outputs.as_slice(), spent)?;
         with_values(alloc, made, left)
@@ -199,7 +200,8 @@ impl PlainLedger {
     ) -> Result<Listed<Proposal>, NoMemory>
         requires early { self.now.epoch ≤ 2 ^ 62 }
         requires few { length tx.now.proposals ≤ 65536 }
-        ensures { IfOk result (λ after. after ≡ map (with_votes tx.now) proposals ++ made_proposals (ledger_of self.now) tx.now) }
+        ensures { IfOk result (λ after. after ≡
+            map (with_votes tx.now) proposals ++ made_proposals (last_voting_epoch (ledger_of self.now)) tx.now) }
     {
         let mut after = with_votes(alloc, tx, proposals)?.into_vec();
         let made = made_proposals(alloc, self, tx)?;

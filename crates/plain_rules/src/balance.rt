@@ -8,13 +8,12 @@ ghost use Rattle.plain_ledger.specs.Plain.{HasRoom, ledger_of};
 ghost use Rattle.tx_records.specs.TxLimits.{is_within_limits};
 
 use crate::checks::{Check, checks_of};
-use crate::collateral::lovelace_spent;
 use crate::drafts::draft_after;
 use crate::lookups::{account_deposit, drep_deposit_of, is_pool};
 use coin_frac::NoMemory;
 use gov_ids::{Account, PoolId};
 use listed::Listed;
-use plain_ledger::PlainLedger;
+use plain_ledger::{PlainLedger, lovelace_spent};
 use std::alloc::Global;
 use tx_records::rules::NOT_BALANCED;
 use tx_records::{Cert, ProposalRecord, Tx, TxOutput};

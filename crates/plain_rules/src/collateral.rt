@@ -1,19 +1,19 @@
 // The rules on collateral.
-ghost use Rattle.std.specs.Prelude.{◌≡◌, ◌≤◌, ◌*◌, ◌^◌, IfOk, length, sum_by, true};
+ghost use Rattle.std.specs.Prelude.{◌≡◌, ◌≤◌, ◌^◌, IfOk, true};
 ghost use Rattle.ledger_model.specs.Checks.{per_place};
-ghost use Rattle.ledger_model.specs.UtxoRules.{collateral_checks, collateral_left, collateral_list_checks, collateral_sum, collateral_sum_checks, is_collateral_too_small, lovelace_at, returned};
+ghost use Rattle.ledger_model.specs.UtxoRules.{collateral_checks, collateral_list_checks, collateral_sum, collateral_sum_checks, is_collateral_too_small, returned};
 ghost use Rattle.plain_ledger.specs.Plain.{ledger_of};
 ghost use Rattle.tx_records.specs.TxLimits.{is_within_limits};
 
 use crate::checks::{Check, checks_of};
-use crate::lookups::{is_script, lovelace_at, output_at};
+use crate::lookups::{is_script, output_at};
 use crate::outputs::is_spent_before;
 use crate::places::{ItemChecks, per_place};
 use crate::scripts::has_scripts;
 use coin_frac::NoMemory;
 use gov_ids::OutRef;
 use listed::Listed;
-use plain_ledger::PlainLedger;
+use plain_ledger::{PlainLedger, collateral_left, lovelace_spent};
 use std::alloc::Global;
 use tx_records::Tx;
 use tx_records::rules::{
@@ -108,31 +108,10 @@ fn collateral_sum(l: &PlainLedger, tx: &Tx) -> u128
     lovelace_spent(l, tx.collateral.as_slice())
 }
 
-/// What the unspent outputs at these references hold, in lovelace; a reference that has none counts as 0.
-pub fn lovelace_spent(l: &PlainLedger, refs: &[OutRef]) -> u128
-    ensures sum { result ≡ sum_by (lovelace_at (ledger_of l.now)) refs.now }
-    ensures fits { result ≤ length refs.now * u64.MAX }
-{
-    let mut sum = 0;
-    for at in refs {
-        sum += u128::from(lovelace_at(l, at));
-    }
-    sum
-}
-
 /// What the collateral return gives back, in lovelace, 0 where there is none.
 fn returned(tx: &Tx) -> u128
     ensures { result ≡ returned tx.now }
 {
     tx.collateral_return
         .map_or(0, |output| u128::from(output.lovelace))
-}
-
-/// What is left of the collateral without the return, in lovelace, 0 where the return is more.
-pub fn collateral_left(l: &PlainLedger, tx: &Tx) -> u128
-    requires { is_within_limits tx.now ≡ true }
-    ensures left { result ≡ collateral_left (ledger_of l.now) tx.now }
-    ensures fits { result ≤ 2 ^ 80 }
-{
-    collateral_sum(l, tx).saturating_sub(returned(tx))
 }

@@ -2,7 +2,7 @@
 ghost use Rattle.std.specs.Prelude.{◌≡◌};
 ghost use Rattle.ledger_model.specs.CertRules.{account_deposit, drep_deposit_of, rewards_at};
 ghost use Rattle.ledger_model.specs.Ledger.{account_at, is_account, is_drep, is_pool, output_at};
-ghost use Rattle.ledger_model.specs.UtxoRules.{is_script, lovelace_at};
+ghost use Rattle.ledger_model.specs.UtxoRules.{is_script};
 ghost use Rattle.plain_ledger.specs.Plain.{ledger_of};
 
 use book_records::{Output, Registered};
@@ -14,13 +14,6 @@ pub fn output_at(l: &PlainLedger, at: &OutRef) -> Option<Output>
     ensures { result ≡ output_at (ledger_of l.now) at.now }
 {
     value_at(l.outputs.as_slice(), at)
-}
-
-/// What an unspent output holds, in lovelace, 0 where there is none.
-pub fn lovelace_at(l: &PlainLedger, at: &OutRef) -> u64
-    ensures { result ≡ lovelace_at (ledger_of l.now) at.now }
-{
-    output_at(l, at).map_or(0, |output| output.lovelace)
 }
 
 /// The registration of a credential.

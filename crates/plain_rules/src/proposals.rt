@@ -1,11 +1,10 @@
 // The rules on proposals, by the ledger before the transaction and the draft after all certificates.
 ghost use Rattle.std.specs.Prelude.{◌≡◌, ◌==◌, IfOk, nat_le, not, sum_by, true};
 ghost use Rattle.std.specs.List.{list_any};
-ghost use Rattle.gov_actions.specs.declared.action.Action.TheVariants.{TreasuryWithdrawals};
 ghost use Rattle.gov_ids.specs.Same.{same_credential};
 ghost use Rattle.ledger_model.specs.Checks.{per_place};
 ghost use Rattle.ledger_model.specs.Ledger.{is_account};
-ghost use Rattle.ledger_model.specs.ProposalRules.{action_checks, is_other_policy, proposal_checks, same_bytes};
+ghost use Rattle.ledger_model.specs.ProposalRules.{action_checks, is_other_policy, member_checks, proposal_checks, same_bytes, target_checks, update_checks};
 ghost use Rattle.maps.specs.Words.{among, holds, same_option};
 ghost use Rattle.plain_ledger.specs.Plain.{ledger_of};
 ghost use Rattle.tx_records.specs.TxLimits.{is_within_limits};
@@ -19,6 +18,7 @@ use gov_actions::Action;
 use gov_ids::{Account, Credential};
 use listed::Listed;
 use plain_ledger::{PlainLedger, has_member};
+use pparams::Update;
 use std::alloc::Global;
 use std::cmp::Ordering;
 use tx_records::rules::{
@@ -97,22 +97,13 @@ fn action_checks(
 {
     match a {
         Action::ParameterChange { update, policy, .. } => {
-            let checks = [
-                Check::new(UPDATE_MALFORMED, !update.well_formed()),
-                Check::new(POLICY_WRONG, is_other_policy(l, *policy)),
-            ];
-            checks_of(alloc, &checks)
+            update_checks(alloc, l, update, *policy)
         }
         Action::TreasuryWithdrawals { targets, policy } => {
             target_checks(alloc, l, d, targets.as_slice(), *policy)
         }
         Action::UpdateCommittee { remove, add, .. } => {
-            let removed = is_any_removed(add.as_slice(), remove.as_slice());
-            let checks = [
-                Check::new(CONFLICTING_UPDATE, removed),
-                Check::new(TERM_TOO_SMALL, is_any_over(add.as_slice(), l.epoch)),
-            ];
-            checks_of(alloc, &checks)
+            member_checks(alloc, l, remove.as_slice(), add.as_slice())
         }
         _ => Ok(Listed::new(alloc)),
     }
@@ -152,6 +143,38 @@ fn is_same_hash(a: &[u8; 28], b: &[u8; 28]) -> bool
     matches!(a.cmp(b), Ordering::Equal)
 }
 
+/// The rules on an update of the parameters.
+fn update_checks(
+    alloc: Global,
+    l: &PlainLedger,
+    update: &Update,
+    policy: Option<[u8; 28]>,
+) -> Result<Listed<Check>, NoMemory>
+    ensures { IfOk result (λ list. list ≡ update_checks (ledger_of l.now) update.now policy) }
+{
+    let checks = [
+        Check::new(UPDATE_MALFORMED, !update.well_formed()),
+        Check::new(POLICY_WRONG, is_other_policy(l, policy)),
+    ];
+    checks_of(alloc, &checks)
+}
+
+/// The rules on a change of the committee.
+fn member_checks(
+    alloc: Global,
+    l: &PlainLedger,
+    remove: &[Credential],
+    add: &[(Credential, u64)],
+) -> Result<Listed<Check>, NoMemory>
+    ensures { IfOk result (λ list. list ≡ member_checks (ledger_of l.now) remove.now add.now) }
+{
+    let checks = [
+        Check::new(CONFLICTING_UPDATE, is_any_removed(add, remove)),
+        Check::new(TERM_TOO_SMALL, is_any_over(add, l.epoch)),
+    ];
+    checks_of(alloc, &checks)
+}
+
 /// The rules on withdrawals from the treasury.
 fn target_checks(
     alloc: Global,
@@ -160,8 +183,7 @@ fn target_checks(
     targets: &[(Account, u64)],
     policy: Option<[u8; 28]>,
 ) -> Result<Listed<Check>, NoMemory>
-    ensures { IfOk result (λ list. list ≡ action_checks (ledger_of l.now) (ledger_of d.now)
-        (TreasuryWithdrawals targets.now policy)) }
+    ensures { IfOk result (λ list. list ≡ target_checks (ledger_of l.now) (ledger_of d.now) targets.now policy) }
 {
     let checks = [
         Check::new(POLICY_WRONG, is_other_policy(l, policy)),

@@ -1,12 +1,8 @@
-ghost use Rattle.std.specs.Prelude.{◌≡◌, Option, nat_le};
+ghost use Rattle.std.specs.Prelude.{◌≡◌, nat_le};
 ghost use Rattle.std.specs.List.{list_any};
-ghost use Rattle.coin_frac.specs.Fraction.{Fraction};
-ghost use Rattle.gov_actions.specs.declared.action.Action.TheVariants.{UpdateCommittee};
-ghost use Rattle.gov_ids.specs.declared.ActionId.{ActionId};
 ghost use Rattle.gov_ids.specs.Same.{same_credential};
 ghost use Rattle.ledger_model.specs.Checks.{answer_of};
-ghost use Rattle.ledger_model.specs.Ledger.{Ledger};
-ghost use Rattle.ledger_model.specs.ProposalRules.{action_checks};
+ghost use Rattle.ledger_model.specs.ProposalRules.{member_checks};
 ghost use Rattle.maps.specs.Words.{among};
 
 use credential_list::CredentialList;
@@ -21,8 +17,7 @@ pub fn check_members(
     remove: &CredentialList,
     add: &[(Credential, u64)],
 ) -> Result<(), Rule>
-    ensures { (d : Ledger) (previous : Option ActionId) (threshold : Fraction) →
-        result ≡ answer_of (action_checks s.now.ledger d (UpdateCommittee previous remove.now add.now threshold)) }
+    ensures { result ≡ answer_of (member_checks s.now.ledger remove.now add.now) }
 {
     if is_any_on_both(remove, add) {
         return Err(Rule::new(CONFLICTING_UPDATE));

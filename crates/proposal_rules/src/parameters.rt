@@ -1,9 +1,6 @@
-ghost use Rattle.std.specs.Prelude.{◌≡◌, Option};
-ghost use Rattle.gov_actions.specs.declared.action.Action.TheVariants.{ParameterChange};
-ghost use Rattle.gov_ids.specs.declared.ActionId.{ActionId};
+ghost use Rattle.std.specs.Prelude.{◌≡◌};
 ghost use Rattle.ledger_model.specs.Checks.{answer_of};
-ghost use Rattle.ledger_model.specs.Ledger.{Ledger};
-ghost use Rattle.ledger_model.specs.ProposalRules.{action_checks};
+ghost use Rattle.ledger_model.specs.ProposalRules.{update_checks};
 
 use crate::policy::is_other_policy;
 use ledger_state::LedgerState;
@@ -13,8 +10,7 @@ use tx_records::rules::{POLICY_WRONG, UPDATE_MALFORMED};
 
 /// The rules on an update of the parameters.
 pub fn check_update(s: &LedgerState, update: &Update, policy: Option<[u8; 28]>) -> Result<(), Rule>
-    ensures { (d : Ledger) (previous : Option ActionId) →
-        result ≡ answer_of (action_checks s.now.ledger d (ParameterChange previous update.now policy)) }
+    ensures { result ≡ answer_of (update_checks s.now.ledger update.now policy) }
 {
     if !update.well_formed() {
         return Err(Rule::new(UPDATE_MALFORMED));

@@ -1,9 +1,8 @@
 ghost use Rattle.std.specs.Prelude.{◌≡◌, ◌==◌, not, sum_by};
 ghost use Rattle.std.specs.List.{list_any};
-ghost use Rattle.gov_actions.specs.declared.action.Action.TheVariants.{TreasuryWithdrawals};
 ghost use Rattle.ledger_model.specs.Checks.{answer_of};
 ghost use Rattle.ledger_model.specs.Ledger.{is_account};
-ghost use Rattle.ledger_model.specs.ProposalRules.{action_checks};
+ghost use Rattle.ledger_model.specs.ProposalRules.{target_checks};
 
 use crate::policy::is_other_policy;
 use gov_ids::Account;
@@ -17,7 +16,7 @@ pub fn check_targets(
     targets: &[(Account, u64)],
     policy: Option<[u8; 28]>,
 ) -> Result<(), Rule>
-    ensures { result ≡ answer_of (action_checks d.now.start d.now.ledger (TreasuryWithdrawals targets.now policy)) }
+    ensures { result ≡ answer_of (target_checks d.now.start d.now.ledger targets.now policy) }
 {
     let s = d.start();
     if is_other_policy(s, policy) {

@@ -1,17 +1,18 @@
 -- What a binary search by key finds among the entries of a map.
-use Rattle.std.proofs.Common.{◌≡◌, ℕ, zero, suc, ◌<◌, ◌≤◌, List, [], ◌∷◌, length, slice_index_or, false, cond, Result, Ok, Err, IfOk, IfErr, refl, ap, sym, subst, ◌∙◌, add-one, arith}
+use Rattle.std.proofs.Common.{◌≡◌, ℕ, zero, suc, ◌<◌, ◌≤◌, List, [], ◌∷◌, length, slice_index_or, false, cond, Result, Ok, Err, IfOk, IfErr, refl, ap, sym, ◌∙◌, arith}
 use Rattle.std.specs.declared.cmp.Ordering.{Ordering}
 use Rattle.std.specs.declared.cmp.Ordering.TheVariants.{Less, Equal, Greater}
-use Rattle.std.specs.Ordering.{is_eq, is_lt, ordering_reverse, match_ordering}
+use Rattle.std.specs.Ordering.{is_eq, ordering_reverse, match_ordering}
 use Rattle.std.specs.Cmp.{IsTotalOrder}
 use Rattle.std.specs.FinMap.{IsAntisymmetric}
 use Rattle.std.specs.List.{AllByRecursion}
-use Rattle.std.specs.List.Sorted.{IsStrictlySortedBy, IsSearchInRange, IsBinarySearchResult, IsSortedBy}
+use Rattle.std.specs.List.Sorted.{IsStrictlySortedBy, IsSearchInRange, IsBinarySearchResult}
 use Rattle.std.specs.Map.{keys_of}
 use Rattle.std.proofs.lemmas.List.Sorted.{searchable_from_sorted}
 use Rattle.maps.proofs.Lookups.{none_below, without_key_absent}
 use Rattle.maps.proofs.Ties.{all_above}
 use Rattle.maps.specs.Maps.{IsMap, with_value, without_key}
+use Rattle.maps.proofs.Searched.{sorted}
 use Rattle.proposal_store.specs.Places.{StandsAt, FitsAt}
 
 -- the other way round
@@ -24,18 +25,6 @@ module _ {K X : Type 0} {cmp : K → K → Ordering} (o : IsTotalOrder cmp) wher
   key_at P [] j d h lt = absurd (omega arith)
   key_at P (e ∷ es) zero d h lt = h.0
   key_at P (e ∷ es) (suc j) d h lt = key_at P es j d h.1 (omega arith)
-
-  -- the keys rise
-  rises : (es : List (K × X)) (j : ℕ) (d : K × X) → IsMap cmp es → suc j < length es → is_lt (cmp (slice_index_or es (suc j) d).0 (slice_index_or es j d).0) ≡ false
-  unfolding IsStrictlySortedBy
-  rises [] j d h lt = absurd (omega arith)
-  rises (e ∷ es) zero d h lt = ap is_lt (turned o e.0 (slice_index_or es zero d).0 Less (key_at (λ q. cmp e.0 q ≡ Less) es zero d h.0 (omega arith)))
-  rises (e ∷ es) (suc j) d h lt = rises es j d h.1 (omega arith)
-
-  sorted : (es : List (K × X)) → IsMap cmp es → IsSortedBy (λ (a b : K × X). is_lt (cmp a.0 b.0)) es
-  sorted es h j d low lt =
-      let next : suc j < length es = omega arith in
-      subst (λ (i : ℕ). is_lt (cmp (slice_index_or es i d).0 (slice_index_or es j d).0) ≡ false) (sym (add-one j)) (rises es j d h next)
 
   put_as : (k : K) (v : X) (e : K × X) (es : List (K × X)) (r : Ordering) → cmp k e.0 ≡ r
       → with_value cmp k v (e ∷ es) ≡ match_ordering r ((k, v) ∷ e ∷ es) ((e.0, v) ∷ es) (e ∷ with_value cmp k v es)
@@ -93,5 +82,5 @@ module _ {K X : Type 0} {cmp : K → K → Ordering} (o : IsTotalOrder cmp) wher
         → IfOk r (StandsAt cmp k es) × IfErr r (FitsAt cmp k es)
     searched k es (Ok i) h within equal = (stands k es i h within equal, tt)
     searched k es (Err i) h within parted =
-        let parts = parted (searchable_from_sorted o (λ (e : K × X). e.0) es k (sorted es h)) in
+        let parts = parted (searchable_from_sorted o (λ (e : K × X). e.0) es k (sorted o es h)) in
         (tt, fits k es i h within (λ j d lt. parts.0 j d (omega arith) lt) (λ j d le lt. parts.1 j d le lt))

@@ -11,7 +11,7 @@ ghost use Rattle.ratify.specs.Passes.{pass_after, tally_by, verdict_by, with_ena
 use crate::ready::{are_met, can_be_enacted, counts_of, needs_of};
 use coin_frac::NoMemory;
 use drep_pulser::Counted;
-use enact::{Enact, copied};
+use enact::Enact;
 use gov_actions::{Action, EnactState, Need, Proposal, Tally, Verdict};
 use gov_ids::ActionId;
 use listed::Listed;
@@ -55,7 +55,7 @@ impl Pass {
         Ok(Pass {
             ratified: Listed::new(alloc),
             goes_on: true,
-            state: copied(alloc, start)?,
+            state: start.copied(alloc)?,
             tallies: Listed::new(alloc),
         })
     }

@@ -150,7 +150,8 @@ impl<'a> Members<'a> {
 
     /// The value of the object's field, if it has one; a null one counts as absent.
     pub fn optional_field(&self, name: FieldName) -> Result<Option<&'a Value>, FieldFault>
-        ensures { result_map_both (option_map (λ v. view v.now)) (λ e. e) result ≡ optional_in (text_of_field name) (view self.now) }
+        ensures { result_map_both (option_map (λ v. view v.now)) (λ e. e) result ≡
+            optional_in (text_of_field name) (view self.now) }
     {
         match self.field(name) {
             Ok(value) => Ok(Some(value)),

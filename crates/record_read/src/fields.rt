@@ -93,7 +93,8 @@ pub fn needed_distinct_list<K: Kind>(
 ) -> Result<Listed<K::Entry>, RecordFault>
 where
     K::Entry: Named,
-    ensures { ReadsRecord result (needed_distinct_list name K.Entry.Name.order K.Entry.name limit K.reading (view object.now)) }
+    ensures { ReadsRecord result
+        (needed_distinct_list name K.Entry.Name.order K.Entry.name limit K.reading (view object.now)) }
 {
     let value = object
         .field(name)
@@ -138,7 +139,8 @@ pub fn optional_distinct_list<K: Kind>(
 ) -> Result<Listed<K::Entry>, RecordFault>
 where
     K::Entry: Named,
-    ensures { ReadsRecord result (optional_distinct_list name K.Entry.Name.order K.Entry.name limit K.reading (view object.now)) }
+    ensures { ReadsRecord result
+        (optional_distinct_list name K.Entry.Name.order K.Entry.name limit K.reading (view object.now)) }
 {
     let found = object
         .optional_field(name)

@@ -46,7 +46,7 @@ use Rattle.book_records.specs.Dormancy.{is_kept_active, extended}
 use Rattle.gov_model.specs.Proposals.{without_vote}
 use Rattle.ledger_model.specs.Changes.{changed_by, dormant_added, fresh_expiry, has_voted, having_acted, new_drep, refreshed, voters_refreshed, withdrawn}
 use Rattle.ledger_model.specs.Draft.{draft_with, is_refused, last_draft}
-use Rattle.ledger_model.specs.Transaction.{after_passed, after_scripts, ledger_after_tx, made_proposal, made_proposals, with_votes}
+use Rattle.ledger_model.specs.Transaction.{after_passed, after_scripts, last_voting_epoch, ledger_after_tx, made_proposal, made_proposals, with_votes}
 use Rattle.run_model.specs.World.{World}
 use Rattle.run_model.specs.Boundary.{after_members, after_rewards, update_applied, world_after_boundary}
 use Rattle.run_model.specs.Genesis.{ledger_of_genesis, world_of_genesis}
@@ -166,11 +166,11 @@ certs_dormant l [] d = refl
 certs_dormant l (c ∷ cs) d = certs_dormant l cs (draft_with l d c) ∙ either_dormant (is_refused l d c) c d
 
 -- a proposal ends the dormant epochs
-awake_after : (l : Ledger) (id : TxId) (ps : List ProposalRecord) (old : List Proposal) (dormant : ℕ) → IsAwake dormant old → (is_empty ps ≡ false → dormant ≡ 0)
-    → IsAwake dormant (old ++ map (λ p. made_proposal l id p.0 p.1) (enumerate_from 0 ps))
-awake_after l id [] old dormant (inl e) k = inl e
-awake_after l id [] old dormant (inr e) k = inr (ap (λ (list : List Proposal). list ++ []) e)
-awake_after l id (p ∷ ps) old dormant a k = inl (k refl)
+awake_after : (last : ℕ) (id : TxId) (ps : List ProposalRecord) (old : List Proposal) (dormant : ℕ) → IsAwake dormant old → (is_empty ps ≡ false → dormant ≡ 0)
+    → IsAwake dormant (old ++ map (λ p. made_proposal last id p.0 p.1) (enumerate_from 0 ps))
+awake_after last id [] old dormant (inl e) k = inl e
+awake_after last id [] old dormant (inr e) k = inr (ap (λ (list : List Proposal). list ++ []) e)
+awake_after last id (p ∷ ps) old dormant a k = inl (k refl)
 
 refresh_dormant : (b : Bool) (tx : Tx) (v : Ledger) → b ≡ false → (voters_refreshed tx (cond b v (dormant_added v))).dormant ≡ 0
 refresh_dormant true tx v e = cc
@@ -209,10 +209,10 @@ module _ (most : ℕ) where
   abbrev AreActiveRecords : List ProposalRecord → Type 0
   AreActiveRecords ps = AllByRecursion (λ (p : ProposalRecord). IsActiveAction p.action) ps
 
-  made_live : (l : Ledger) (id : TxId) (n : ℕ) (ps : List ProposalRecord) → AreActiveRecords ps
-      → AreActive (map (λ p. made_proposal l id p.0 p.1) (enumerate_from n ps))
-  made_live l id n [] h = tt
-  made_live l id n (p ∷ ps) h = (h.0, made_live l id (n + 1) ps h.1)
+  made_live : (last : ℕ) (id : TxId) (n : ℕ) (ps : List ProposalRecord) → AreActiveRecords ps
+      → AreActive (map (λ p. made_proposal last id p.0 p.1) (enumerate_from n ps))
+  made_live last id n [] h = tt
+  made_live last id n (p ∷ ps) h = (h.0, made_live last id (n + 1) ps h.1)
 
   -- enacting such proposals leaves the activity within its range
   overlaid : (o : Option ℕ) (n : ℕ) → n ≤ most → IsActive o → unwrap_or o n ≤ most
@@ -319,12 +319,12 @@ module _ (top most : ℕ) (IsLive : List Proposal → Type 0) (stays : (f : Prop
   draft_within : (tx : Tx) (l : Ledger) → IsWithin l → IsWithin (last_draft l tx)
   draft_within tx l h = certs_within l (take (length tx.certs) tx.certs) (refreshed tx (withdrawn tx l)) (refresh_within (is_empty tx.proposals) tx (withdrawn tx l) h)
 
-  passed_within : (l : Ledger) (tx : Tx) → IsWithin l → ((ps : List Proposal) → IsLive ps → IsLive (ps ++ made_proposals l tx)) → IsWithin (after_passed l tx)
+  passed_within : (l : Ledger) (tx : Tx) → IsWithin l → ((ps : List Proposal) → IsLive ps → IsLive (ps ++ made_proposals (last_voting_epoch l) tx)) → IsWithin (after_passed l tx)
   passed_within l tx h new =
       let d : Ledger = last_draft l tx in
       let k : IsWithin d = draft_within tx l h in
       record {
-        awake = awake_after l tx.id tx.proposals (map (with_votes tx) d.proposals) d.dormant (awake_made (with_votes tx) d.dormant d.proposals k.awake) (
+        awake = awake_after (last_voting_epoch l) tx.id tx.proposals (map (with_votes tx) d.proposals) d.dormant (awake_made (with_votes tx) d.dormant d.proposals k.awake) (
             λ e. certs_dormant l (take (length tx.certs) tx.certs) (refreshed tx (withdrawn tx l)) ∙ refresh_dormant (is_empty tx.proposals) tx (withdrawn tx l) e
             );
         at_most = k.at_most;
@@ -333,7 +333,7 @@ module _ (top most : ℕ) (IsLive : List Proposal → Type 0) (stays : (f : Prop
         live = new (map (with_votes tx) d.proposals) (stays (with_votes tx) (λ p. refl) d.proposals k.live);
       }
 
-  tx_within : (sc : Scripts) (l : Ledger) (tx : Tx) → IsWithin l → ((ps : List Proposal) → IsLive ps → IsLive (ps ++ made_proposals l tx)) → IsWithin (after_scripts sc l tx)
+  tx_within : (sc : Scripts) (l : Ledger) (tx : Tx) → IsWithin l → ((ps : List Proposal) → IsLive ps → IsLive (ps ++ made_proposals (last_voting_epoch l) tx)) → IsWithin (after_scripts sc l tx)
   tx_within Absent l tx h new = passed_within l tx h new
   tx_within Passed l tx h new = passed_within l tx h new
   tx_within Failed l tx h new = h
@@ -349,7 +349,7 @@ module _ (top most : ℕ) where
 
   active_after : (sc : Scripts) (l : Ledger) (tx : Tx) → IsActiveLedger l → AreActiveRecords most tx.proposals → IsActiveLedger (after_scripts sc l tx)
   active_after sc l tx h new =
-      tx_within top most (AreActive most) kept_active sc l tx h (λ ps k. all_append (λ (p : Proposal). IsActiveAction most p.action) ps (made_proposals l tx) k (made_live most l tx.id 0 tx.proposals new))
+      tx_within top most (AreActive most) kept_active sc l tx h (λ ps k. all_append (λ (p : Proposal). IsActiveAction most p.action) ps (made_proposals (last_voting_epoch l) tx) k (made_live most (last_voting_epoch l) tx.id 0 tx.proposals new))
 
   record IsWithinWorld (w : World) : Type 0 where
     ledger : IsActiveLedger w.ledger

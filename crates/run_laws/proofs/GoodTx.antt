@@ -19,7 +19,7 @@ use Rattle.tx_records.specs.declared.tx.Tx.{Tx}
 use Rattle.ledger_model.specs.Ledger.{Ledger}
 use Rattle.ledger_model.specs.Broken.{is_allowed}
 use Rattle.ledger_model.specs.Draft.{last_draft}
-use Rattle.ledger_model.specs.Transaction.{after_passed, after_scripts, ledger_after_tx, made_proposal, made_proposals, with_votes}
+use Rattle.ledger_model.specs.Transaction.{after_passed, after_scripts, last_voting_epoch, ledger_after_tx, made_proposal, made_proposals, with_votes}
 use Rattle.tx_balance.proofs.OutputParts.{parts_of, id_is_new}
 use Rattle.tx_balance.proofs.Sounds.{IsSteady, kept, still_used, new_used, tx_steady, allowed_stays_sound}
 use Rattle.run_model.specs.World.{World}
@@ -74,9 +74,9 @@ ids_voted : (tx : Tx) (ps : List Proposal) → ids_of (map (with_votes tx) ps) �
 ids_voted tx [] = refl
 ids_voted tx (p ∷ ps) = ap (λ (list : List ActionId). p.id ∷ list) (ids_voted tx ps)
 
-ids_made : (l : Ledger) (id : TxId) (n : ℕ) (ps : List ProposalRecord) → ids_of (map (λ p. made_proposal l id p.0 p.1) (enumerate_from n ps)) ≡ new_ids id n ps
-ids_made l id n [] = refl
-ids_made l id n (p ∷ ps) = ap (λ (list : List ActionId). let a : ActionId = record { tx = id; index = n } in a ∷ list) (ids_made l id (n + 1) ps)
+ids_made : (last : ℕ) (id : TxId) (n : ℕ) (ps : List ProposalRecord) → ids_of (map (λ p. made_proposal last id p.0 p.1) (enumerate_from n ps)) ≡ new_ids id n ps
+ids_made last id n [] = refl
+ids_made last id n (p ∷ ps) = ap (λ (list : List ActionId). let a : ActionId = record { tx = id; index = n } in a ∷ list) (ids_made last id (n + 1) ps)
 
 passed_own : (l : Ledger) (tx : Tx) → IsGoodLedger l → has_member txid_cmp l.used tx.id ≡ false → HasOwnIds (after_passed l tx)
 passed_own l tx g fresh =
@@ -85,9 +85,9 @@ passed_own l tx g fresh =
     let new : List ActionId = new_ids tx.id 0 tx.proposals in
     let now : List TxId = with_key txid_cmp tx.id l.used in
     let ids : ids_of (after_passed l tx).proposals ≡ old ++ new =
-    ids_append (map (with_votes tx) d.proposals) (made_proposals l tx)
-    ∙ ap (λ (list : List ActionId). list ++ ids_of (made_proposals l tx)) (ids_voted tx d.proposals ∙ (kept l tx g.sound).ids)
-    ∙ ap (λ (list : List ActionId). old ++ list) (ids_made l tx.id 0 tx.proposals) in
+    ids_append (map (with_votes tx) d.proposals) (made_proposals (last_voting_epoch l) tx)
+    ∙ ap (λ (list : List ActionId). list ++ ids_of (made_proposals (last_voting_epoch l) tx)) (ids_voted tx d.proposals ∙ (kept l tx g.sound).ids)
+    ∙ ap (λ (list : List ActionId). old ++ list) (ids_made (last_voting_epoch l) tx.id 0 tx.proposals) in
     let apart : AllByRecursion (λ x. AllByRecursion (λ y. same_action x y ≡ false) new) old =
     all_weaken (IsGiven l.used) (λ x. AllByRecursion (λ y. same_action x y ≡ false) new) (λ a h. apart_one l.used a tx.id 0 tx.proposals h fresh) old g.used in (
       subst (λ (list : List ActionId). IsDistinct same_action list) (sym ids) (own_append old new g.own (new_own tx.id 0 tx.proposals) apart),

@@ -53,8 +53,10 @@ fn raise_stake(
     part: Option<Credential>,
     gained: u64,
 ) -> Result<(), NoMemory>
-    requires room { weight_in (with_stake part (λ c. stake_at accounts.old.live c + gained) accounts.old).live ≤ SUPPLY_LIMIT }
-    ensures ok { OnOk result (accounts.new ≡ with_stake part (λ c. stake_at accounts.old.live c + gained) accounts.old) }
+    requires room { weight_in (with_stake part (λ c. stake_at accounts.old.live c + gained) accounts.old).live ≤
+        SUPPLY_LIMIT }
+    ensures ok { OnOk result (accounts.new ≡
+        with_stake part (λ c. stake_at accounts.old.live c + gained) accounts.old) }
     ensures frozen { frozen_of credential_cmp accounts.new ≡ frozen_of credential_cmp accounts.old }
     ensures err { OnErr result (accounts.new ≡ accounts.old) }
 {
@@ -73,7 +75,8 @@ fn lower_stake(
     lost: u64,
 ) -> Result<(), NoMemory>
     requires enough { (c : Credential) → part ≡ Some c → lost ≤ stake_at accounts.old.live c }
-    requires room { weight_in (with_stake part (λ c. stake_at accounts.old.live c - lost) accounts.old).live ≤ SUPPLY_LIMIT }
+    requires room { weight_in (with_stake part (λ c. stake_at accounts.old.live c - lost) accounts.old).live ≤
+        SUPPLY_LIMIT }
     ensures ok { OnOk result (accounts.new ≡ with_stake part (λ c. stake_at accounts.old.live c - lost) accounts.old) }
     ensures frozen { frozen_of credential_cmp accounts.new ≡ frozen_of credential_cmp accounts.old }
     ensures err { OnErr result (accounts.new ≡ accounts.old) }
@@ -172,9 +175,11 @@ impl StakeBook {
 
     /// Registers an account with a credential, changes its registration or ends it. Want of memory changes nothing. (DELEG of the formal specification)
     pub fn set_account(&mut self, c: Credential, to: Option<Registered>) -> Result<(), NoMemory>
-        requires room { lovelace_in self.old.outputs.outputs + balances_in (with_option credential_cmp c to (accounts_of self.old)) ≤ SUPPLY_LIMIT }
+        requires room { lovelace_in self.old.outputs.outputs
+            + balances_in (with_option credential_cmp c to (accounts_of self.old)) ≤ SUPPLY_LIMIT }
         ensures ok { OnOk result (self.new ≡ with_account c to self.old) }
-        ensures registered { OnOk result (accounts_of self.new ≡ with_option credential_cmp c to (accounts_of self.old)) }
+        ensures registered { OnOk result (accounts_of self.new ≡
+            with_option credential_cmp c to (accounts_of self.old)) }
         ensures frozen { frozen_of credential_cmp self.new.accounts ≡ frozen_of credential_cmp self.old.accounts }
         ensures err { OnErr result (self.new ≡ self.old) }
     {
@@ -191,7 +196,8 @@ impl StakeBook {
     pub fn clear_pools(&mut self, pools: &[PoolId]) -> Result<(), NoMemory>
         ensures outputs { OnOk result (self.new.outputs ≡ self.old.outputs) }
         ensures registered { OnOk result (accounts_of self.new ≡ without_pools pools.now (accounts_of self.old)) }
-        ensures frozen { OnOk result (frozen_of credential_cmp self.new.accounts ≡ frozen_of credential_cmp self.old.accounts) }
+        ensures frozen { OnOk result (frozen_of credential_cmp self.new.accounts ≡
+            frozen_of credential_cmp self.old.accounts) }
     {
         let pools = set_of(self.alloc, pools)?;
         self.clear(&Leaving::Pools(pools))?;
@@ -202,7 +208,8 @@ impl StakeBook {
     pub fn clear_pool(&mut self, p: &PoolId) -> Result<(), NoMemory>
         ensures outputs { OnOk result (self.new.outputs ≡ self.old.outputs) }
         ensures registered { OnOk result (accounts_of self.new ≡ without_pools (p.now ∷ []) (accounts_of self.old)) }
-        ensures frozen { OnOk result (frozen_of credential_cmp self.new.accounts ≡ frozen_of credential_cmp self.old.accounts) }
+        ensures frozen { OnOk result (frozen_of credential_cmp self.new.accounts ≡
+            frozen_of credential_cmp self.old.accounts) }
     {
         self.clear_pools(&[*p])
     }
@@ -211,7 +218,8 @@ impl StakeBook {
     pub fn clear_dreps(&mut self, dreps: &[Credential]) -> Result<(), NoMemory>
         ensures outputs { OnOk result (self.new.outputs ≡ self.old.outputs) }
         ensures registered { OnOk result (accounts_of self.new ≡ without_dreps dreps.now (accounts_of self.old)) }
-        ensures frozen { OnOk result (frozen_of credential_cmp self.new.accounts ≡ frozen_of credential_cmp self.old.accounts) }
+        ensures frozen { OnOk result (frozen_of credential_cmp self.new.accounts ≡
+            frozen_of credential_cmp self.old.accounts) }
     {
         let dreps = set_of(self.alloc, dreps)?;
         self.clear(&Leaving::Dreps(dreps))?;
@@ -222,7 +230,8 @@ impl StakeBook {
     pub fn clear_drep(&mut self, c: &Credential) -> Result<(), NoMemory>
         ensures outputs { OnOk result (self.new.outputs ≡ self.old.outputs) }
         ensures registered { OnOk result (accounts_of self.new ≡ without_dreps (c.now ∷ []) (accounts_of self.old)) }
-        ensures frozen { OnOk result (frozen_of credential_cmp self.new.accounts ≡ frozen_of credential_cmp self.old.accounts) }
+        ensures frozen { OnOk result (frozen_of credential_cmp self.new.accounts ≡
+            frozen_of credential_cmp self.old.accounts) }
     {
         self.clear_dreps(&[*c])
     }
@@ -231,7 +240,8 @@ impl StakeBook {
     fn clear(&mut self, leaving: &Leaving) -> Result<(), NoMemory>
         ensures outputs { OnOk result (self.new.outputs ≡ self.old.outputs) }
         ensures live { OnOk result (self.new.accounts.live ≡ entries_without leaving.now self.old.accounts.live) }
-        ensures frozen { OnOk result (frozen_of credential_cmp self.new.accounts ≡ frozen_of credential_cmp self.old.accounts) }
+        ensures frozen { OnOk result (frozen_of credential_cmp self.new.accounts ≡
+            frozen_of credential_cmp self.old.accounts) }
     {
         let mut last = None;
         while let Some((c, entry)) = self.accounts.next(last.as_ref()) {
@@ -246,8 +256,10 @@ impl StakeBook {
         requires kept { AreKept self.old }
         requires there { value_at credential_cmp self.old.accounts.live c ≡ Some entry }
         ensures outputs { OnOk result (self.new.outputs ≡ self.old.outputs) }
-        ensures live { OnOk result (self.new.accounts.live ≡ with_value credential_cmp c (entry_without leaving.now entry) self.old.accounts.live) }
-        ensures frozen { OnOk result (frozen_of credential_cmp self.new.accounts ≡ frozen_of credential_cmp self.old.accounts) }
+        ensures live { OnOk result (self.new.accounts.live ≡
+            with_value credential_cmp c (entry_without leaving.now entry) self.old.accounts.live) }
+        ensures frozen { OnOk result (frozen_of credential_cmp self.new.accounts ≡
+            frozen_of credential_cmp self.old.accounts) }
     {
         if let Some(changed) = leaving.change(entry.registered) {
             self.set_account(c, Some(changed))?;

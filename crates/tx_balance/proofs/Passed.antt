@@ -26,7 +26,7 @@ use Rattle.ledger_model.specs.Broken.{body_checks, balance_checks, consumed, pro
 use Rattle.ledger_model.specs.Draft.{draft_after, last_draft}
 use Rattle.ledger_model.specs.Flows.{Pot, outputs, deposits, rewards, fees, donations, treasury, reserves, hand, Flow, flow, End, source, sink, sum_at, flows_of_certs, flows_of_passed, flows_of_scripts}
 use Rattle.ledger_model.specs.Moves.{IsMovedBy, held_in}
-use Rattle.ledger_model.specs.Transaction.{after_passed, after_scripts, made_proposal, made_proposals, with_votes, kept_output}
+use Rattle.ledger_model.specs.Transaction.{after_passed, after_scripts, kept_output, last_voting_epoch, made_proposal, made_proposals, with_votes}
 use Rattle.ledger_model.specs.Sound.{IsSound}
 use Rattle.tx_balance.specs.Laws.{PassedBalances, HasOwnWithdrawals}
 use Rattle.ledger_model.proofs.DraftKeeps.{HasMaps, IsKept, draft_keeps}
@@ -51,9 +51,9 @@ amount_of x = x.1
 abbrev proposal_dep : Proposal → ℕ
 proposal_dep p = p.deposit
 
-made_sum : (l : Ledger) (id : TxId) (n : ℕ) (ps : List ProposalRecord) → sum_by proposal_dep (map (λ p. made_proposal l id p.0 p.1) (enumerate_from n ps)) ≡ sum_by proposed ps
-made_sum l id n [] = refl
-made_sum l id n (p ∷ ps) = omega (arith, made_sum l id (n + 1) ps, sum_by-cons proposal_dep (made_proposal l id n p) (map (λ q. made_proposal l id q.0 q.1) (enumerate_from (n + 1) ps)), sum_by-cons proposed p ps)
+made_sum : (last : ℕ) (id : TxId) (n : ℕ) (ps : List ProposalRecord) → sum_by proposal_dep (map (λ p. made_proposal last id p.0 p.1) (enumerate_from n ps)) ≡ sum_by proposed ps
+made_sum last id n [] = refl
+made_sum last id n (p ∷ ps) = omega (arith, made_sum last id (n + 1) ps, sum_by-cons proposal_dep (made_proposal last id n p) (map (λ q. made_proposal last id q.0 q.1) (enumerate_from (n + 1) ps)), sum_by-cons proposed p ps)
 
 module _ (l : Ledger) (tx : Tx) where
   abbrev last : Ledger
@@ -162,9 +162,9 @@ module _ (l : Ledger) (tx : Tx) where
       (made_not_there tx.id kept_output (λ r. value_at outref_cmp (without_keys outref_cmp tx.inputs l.outputs) r ≡ None) (λ i. not_there_after l tx.id i tx.inputs s (id_is_new l tx p)) 0 tx.outputs) in
       let holds : lovelace_in (made_from tx.id kept_output 0 tx.outputs) ≡ all_made = sum-made tx.id kept_output 0 tx.outputs in
       let voted : sum_by proposal_dep (map (with_votes tx) last.proposals) ≡ sum_by proposal_dep last.proposals = sum_by-map proposal_dep (with_votes tx) last.proposals in
-      let listed : sum_by proposal_dep (map (with_votes tx) last.proposals ++ made_proposals l tx) ≡ sum_by proposal_dep (map (with_votes tx) last.proposals) + sum_by proposal_dep (made_proposals l tx) =
-      sum_by-append proposal_dep (map (with_votes tx) last.proposals) (made_proposals l tx) in
-      let new : sum_by proposal_dep (made_proposals l tx) ≡ all_proposed = made_sum l tx.id 0 tx.proposals in
+      let listed : sum_by proposal_dep (map (with_votes tx) last.proposals ++ made_proposals (last_voting_epoch l) tx) ≡ sum_by proposal_dep (map (with_votes tx) last.proposals) + sum_by proposal_dep (made_proposals (last_voting_epoch l) tx) =
+      sum_by-append proposal_dep (map (with_votes tx) last.proposals) (made_proposals (last_voting_epoch l) tx) in
+      let new : sum_by proposal_dep (made_proposals (last_voting_epoch l) tx) ≡ all_proposed = made_sum (last_voting_epoch l) tx.id 0 tx.proposals in
       let treasury_stays : last.state.treasury ≡ l.state.treasury = ap (λ (d : Ledger). d.state.treasury) (sym kept.only) in
       let reserves_stay : last.reserves ≡ l.reserves = ap (λ (d : Ledger). d.reserves) (sym kept.only) in
       let others : (p : Pot) → is_other p ≡ true → sum_at source p certified + sum_at sink p certified ≡ 0 = λ p h. omega (arith, dep source p h, dep sink p h) in

@@ -28,7 +28,7 @@ use Rattle.ledger_model.specs.Moves.{IsMovedBy}
 use Rattle.ledger_model.specs.UtxoRules.{is_failed}
 use Rattle.ledger_model.specs.Broken.{is_allowed}
 use Rattle.ledger_model.specs.Sound.{IsSound}
-use Rattle.ledger_model.specs.Transaction.{after_failed, after_passed, after_scripts, ledger_after_tx, made_outputs, made_return, made_proposals, with_votes, votes_on, kept_output}
+use Rattle.ledger_model.specs.Transaction.{after_failed, after_passed, after_scripts, kept_output, last_voting_epoch, ledger_after_tx, made_outputs, made_proposals, made_return, votes_on, with_votes}
 use Rattle.ledger_model.proofs.DraftKeeps.{IsKept, IsLiveIn, draft_keeps, live_map}
 use Rattle.tx_balance.specs.Laws.{AllowedStaysSound, AllowedKeepsSupply, HasOwnWithdrawals}
 use Rattle.tx_balance.proofs.Failed.{failed_balances}
@@ -141,7 +141,7 @@ passed_steady l tx s =
     record {
       only = ap (λ (x : Ledger). record x { outputs = m.outputs; used = m.used; proposals = m.proposals; fees = m.fees; donations = m.donations }) k.only;
       fees = omega arith;
-      live = λ a h. live_append (map (with_votes tx) d.proposals) (made_proposals l tx) a (
+      live = λ a h. live_append (map (with_votes tx) d.proposals) (made_proposals (last_voting_epoch l) tx) a (
           live_map (λ (p : Proposal). with_values voter_cmp (votes_on tx p.id) p.votes) d.proposals a (k.live a h)
           );
     }

@@ -33,7 +33,8 @@ pub fn certify(draft: &mut Draft, tx: &Tx) -> Result<(), TxFault>
 /// A certificate acts on the draft, or is refused with the first rule that it breaks, at this place.
 fn act(draft: &mut Draft, place: u32, c: &Cert) -> Result<(), TxFault>
     requires few { draft.old.changes ≤ 2 ^ 31 }
-    ensures rule { IsAnswered (first_among (map (at_place place) (cert_checks draft.old.start draft.old.ledger c.now))) result }
+    ensures rule { IsAnswered
+        (first_among (map (at_place place) (cert_checks draft.old.start draft.old.ledger c.now))) result }
     ensures ledger { OnOk result (draft.new.ledger ≡ changed_by c.now draft.old.ledger) }
     ensures moved { OnOk result (HasMoved (flows_of_cert draft.old.ledger c.now) draft.old draft.new) }
     ensures start { draft.new.start ≡ draft.old.start }

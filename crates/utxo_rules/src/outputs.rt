@@ -40,7 +40,8 @@ impl<'a> ItemRules for Outputs<'a> {
 /// The rules on each output and on the collateral return, whose place is after the last output.
 pub fn check_outputs(s: &LedgerState, tx: &Tx) -> Result<(), Rule>
     requires { is_within_limits tx.now ≡ true }
-    ensures { result ≡ answer_of (per_place (output_checks s.now.ledger tx.now) (tx.now.outputs ++ option_to_list tx.now.collateral_return)) }
+    ensures { result ≡ answer_of (per_place
+        (output_checks s.now.ledger tx.now) (tx.now.outputs ++ option_to_list tx.now.collateral_return)) }
 {
     let rules = Outputs { s, tx };
     check_each(&rules, tx.outputs.as_slice())?;

@@ -13,7 +13,7 @@ loop-cold-init c = λ q.
     let committee = option_map (λ (x : Bor Committee). x.now) c.args.c in
     let start : ◌≡◌ {A = List (Credential × HotState)} c.into_iter-cold-iterator.result c.args.entries.now.entries = search rules in
     subst (λ (es : List (Credential × HotState)). count_at c.args.counts.now q + count_of (of_members committee es) q ≡ count_of es q + count_of (of_members committee c.args.entries.now.entries) q) (sym start)
-    (ap (λ n. n + count_of (of_members committee c.args.entries.now.entries) q) (c.requires.counted q))
+    (ap (λ n. n + count_of (of_members committee c.args.entries.now.entries) q) (c.requires q))
 
 pub loop-cold-preserved-then-not-is_member : goal.loop-cold-preserved-then-not-is_member
 loop-cold-preserved-then-not-is_member c = λ q.

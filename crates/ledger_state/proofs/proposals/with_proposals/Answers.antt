@@ -27,12 +27,12 @@ loop-index-preserved c =
     let new = c.in_ok-store.store in
     let added = c.in_ok-store.ensures in
     record {
-      made = λ k e. next_made id c.args.last all i p lt is a made old new added k e ∙ c.loop-index.invariant.made k e;
+      made = next_made id c.args.last all i p lt is a made old new added ∙ c.loop-index.invariant.made;
       unknown = next_unknown id c.args.last all i p lt is a made old new added c.loop-index.invariant.unknown;
       room = next_room id c.args.last all i p lt is a made old new added c.loop-index.invariant.room;
     }
 
 pub returns : goal.returns
-returns c = λ k e.
-    sym (proposals_done k c.args.tx.now.id c.as_slice-proposal-items.result.now c.loop-index.index c.loop-index.store c.loop-index-test.false)
-    ∙ c.loop-index.invariant.made k e ∙ ap (λ (ps : List ProposalRecord). c.args.store ++ proposed_from k c.args.tx.now.id 0 ps) c.as_slice-proposal-items.ensures
+returns c =
+    sym (proposals_done c.args.last c.args.tx.now.id c.as_slice-proposal-items.result.now c.loop-index.index c.loop-index.store c.loop-index-test.false)
+    ∙ c.loop-index.invariant.made ∙ ap (λ (ps : List ProposalRecord). c.args.store ++ proposed_from c.args.last c.args.tx.now.id 0 ps) c.as_slice-proposal-items.ensures

@@ -10,7 +10,7 @@ use Rattle.gov_ids.specs.declared.OutRef.{OutRef}
 use Rattle.gov_ids.specs.Orders.{outref_cmp}
 use Rattle.gov_model.specs.Proposals.{deposits_of}
 use Rattle.ledger_model.specs.Ledger.{Ledger, params_of}
-use Rattle.ledger_model.specs.Transaction.{ledger_after_tx, made_outputs, made_proposals, with_votes}
+use Rattle.ledger_model.specs.Transaction.{last_voting_epoch, ledger_after_tx, made_outputs, made_proposals, with_votes}
 use Rattle.maps.specs.Maps.{value_at, without_keys}
 use Rattle.pparams.specs.declared.Params.{Params}
 use Rattle.stake_book.specs.Stakes.{balances_in}
@@ -81,10 +81,11 @@ with_proposals-requires-clause-room c =
     omega (arith, p.deposits, ap (λ (ps : List Proposal). deposits_of ps) (c.in_ok-proposals.ensures ∙ ap (λ (ps : List Proposal). map (with_votes c.args.tx.now) ps) c.in_ok-books.ensures.proposals))
 
 -- the votes of those that left have gone, and the votes and the proposals of the transaction have come
-proposals_are : (c : goal.After-result-1) → c.in_ok-proposals-2.proposals ≡ map (with_votes c.args.tx.now) (map (without_votes_of c.args.changes.left) c.self.inside.proposals) ++ made_proposals (the_view c.self.inside).ledger c.args.tx.now
+proposals_are : (c : goal.After-result-1) → c.in_ok-proposals-2.proposals ≡ map (with_votes c.args.tx.now) (map (without_votes_of c.args.changes.left) c.self.inside.proposals) ++ made_proposals (last_voting_epoch (the_view c.self.inside).ledger) c.args.tx.now
 proposals_are c =
-    c.in_ok-proposals-2.ensures (the_view c.self.inside).ledger (ap (λ n. c.self.inside.epoch + n) (c.from.ensures ∙ ap (λ (p : Params). p.gov_action_lifetime) c.params.ensures ∙ ap (λ (s : Standing). (params_of s.ledger).gov_action_lifetime) (sym c.self.view_is)))
-    ∙ ap (λ (ps : List Proposal). ps ++ made_proposals (the_view c.self.inside).ledger c.args.tx.now) (c.in_ok-proposals.ensures ∙ ap (λ (ps : List Proposal). map (with_votes c.args.tx.now) ps) c.in_ok-books.ensures.proposals)
+    c.in_ok-proposals-2.ensures
+    ∙ ap (λ n. c.in_ok-proposals.proposals ++ made_proposals (c.self.inside.epoch + n) c.args.tx.now) (c.from.ensures ∙ ap (λ (p : Params). p.gov_action_lifetime) c.params.ensures ∙ ap (λ (s : Standing). (params_of s.ledger).gov_action_lifetime) (sym c.self.view_is))
+    ∙ ap (λ (ps : List Proposal). ps ++ made_proposals (last_voting_epoch (the_view c.self.inside).ledger) c.args.tx.now) (c.in_ok-proposals.ensures ∙ ap (λ (ps : List Proposal). map (with_votes c.args.tx.now) ps) c.in_ok-books.ensures.proposals)
 
 pub invariant_of-result : goal.invariant_of-result
 invariant_of-result c =

@@ -3,7 +3,7 @@ use Rattle.std.proofs.lemmas.List.Sums.{sum_by-drop_more}
 use Rattle.gov_ids.specs.declared.OutRef.{OutRef}
 use Rattle.ledger_model.specs.UtxoRules.{lovelace_at}
 use Rattle.plain_ledger.specs.Plain.{ledger_of}
-use Rattle.plain_ledger.proofs.transaction.lovelace_of.Goals as goal
+use Rattle.plain_ledger.proofs.transaction.lovelace_spent.Goals as goal
 
 abbrev nowhere : OutRef
 nowhere = record { tx = record { 0 = [] }; index = 0 }
