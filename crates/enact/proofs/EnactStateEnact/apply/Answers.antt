@@ -18,4 +18,4 @@ returns-in_ok-committee-in-UpdateCommittee-clause-in_order c =
     let remove = c.in-UpdateCommittee.remove in
     let kept = IsMap-without_keys credential_cmp remove old c.requires.in_order in
     subst (λ (es : List (Credential × ℕ)). IsMap credential_cmp es) (sym c.in_ok-committee-in-UpdateCommittee.ensures.members)
-    (IsMap-with_values credential_total c.as_slice.result.now (without_keys credential_cmp remove old) kept)
+    (IsMap-with_values credential_total c.in-UpdateCommittee.add (without_keys credential_cmp remove old) kept)
