@@ -116,6 +116,3 @@ impl AccountBook {
         self.view.next(after)
     }
 }
-
-#[cfg(test)]
-mod tests;

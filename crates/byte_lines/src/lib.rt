@@ -16,6 +16,3 @@ pub use memory::{FaultySink, FaultySource, MemorySink, MemorySource};
 pub use sink::{Sink, SinkFault, put_all};
 pub use source::{ReadFault, Source};
 pub use standard::{ReaderSource, WriterSink};
-
-#[cfg(test)]
-mod tests;

@@ -187,6 +187,3 @@ fn retires_at(pool: &Pool, epoch: u64) -> bool
 {
     pool.retires == Some(epoch)
 }
-
-#[cfg(test)]
-mod tests;

@@ -163,6 +163,3 @@ pub fn is_member(c: Option<&Committee>, cold: &Credential) -> bool
         None => false,
     }
 }
-
-#[cfg(test)]
-mod tests;

@@ -4,6 +4,3 @@
 mod list;
 
 pub use list::CredentialList;
-
-#[cfg(test)]
-mod tests;

@@ -146,6 +146,3 @@ pub fn with_dormant(d: DrepState, epoch: u64, dormant: u64) -> DrepState
     }
     DrepState { expiry, ..d }
 }
-
-#[cfg(test)]
-mod tests;

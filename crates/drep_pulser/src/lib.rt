@@ -16,6 +16,3 @@ pub enum Pulser {
     /// All are visited.
     Counted(Counted),
 }
-
-#[cfg(test)]
-mod tests;

@@ -117,6 +117,3 @@ fn left_of(treasury: u64, targets: &[(Account, u64)]) -> u64
     }
     left
 }
-
-#[cfg(test)]
-mod tests;

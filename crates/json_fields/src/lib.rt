@@ -17,6 +17,3 @@ pub use readers::{
     read_pair, read_pool_id, read_ratio, read_ref, read_six, read_text, read_three, read_tx_id,
     read_u16, read_u32, read_u64, read_unit, read_voter,
 };
-
-#[cfg(test)]
-mod tests;

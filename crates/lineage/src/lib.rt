@@ -6,6 +6,3 @@ mod kept;
 
 pub use follows::{follows_version, may_follow};
 pub use kept::kept_after;
-
-#[cfg(test)]
-mod tests;

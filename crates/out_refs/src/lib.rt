@@ -5,6 +5,3 @@ mod out_refs;
 mod repeats;
 
 pub use out_refs::OutRefs;
-
-#[cfg(test)]
-mod tests;

@@ -7,10 +7,14 @@ mod base;
 #[cfg(test)]
 mod counting;
 #[cfg(test)]
+mod enactment;
+#[cfg(test)]
 mod judged;
 #[cfg(test)]
 mod motions;
 #[cfg(test)]
 mod proposing;
+#[cfg(test)]
+mod pulses;
 #[cfg(test)]
 mod several;

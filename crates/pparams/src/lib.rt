@@ -114,6 +114,3 @@ pub struct Groups {
     pub technical: bool,
     pub governance: bool,
 }
-
-#[cfg(test)]
-mod tests;

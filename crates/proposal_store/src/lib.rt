@@ -7,6 +7,3 @@ mod store;
 mod votes;
 
 pub use store::ProposalStore;
-
-#[cfg(test)]
-mod tests;

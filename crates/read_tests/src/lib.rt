@@ -5,4 +5,6 @@
 #[cfg(test)]
 mod actions;
 #[cfg(test)]
+mod fields;
+#[cfg(test)]
 mod records;

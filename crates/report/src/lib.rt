@@ -4,8 +4,6 @@
 mod pots;
 mod replies;
 mod rule_texts;
-#[cfg(test)]
-mod tests;
 mod words;
 
 pub use pots::{PotsWord, pots_line};

@@ -7,6 +7,3 @@ mod stakes;
 pub use book_records::DefaultVote;
 pub use frozen::{Frozen, FrozenPool};
 pub use stakes::Snapshots;
-
-#[cfg(test)]
-mod tests;

@@ -294,6 +294,3 @@ impl StakeBook {
         self.accounts.freeze();
     }
 }
-
-#[cfg(test)]
-mod tests;

@@ -125,6 +125,3 @@ impl UtxoSet {
         self.used.range(keys_past(after)).next().copied()
     }
 }
-
-#[cfg(test)]
-mod tests;

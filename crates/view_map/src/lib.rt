@@ -182,6 +182,3 @@ impl<K: Copy + Ord, V: Copy> ViewMap<K, V> {
         self.saved.len() as u64
     }
 }
-
-#[cfg(test)]
-mod tests;

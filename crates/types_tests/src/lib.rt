@@ -1,0 +1,29 @@
+//! Tests of the plain types. It has no code, so that a test is proved alone.
+#![tactic(auto)]
+
+#[cfg(test)]
+mod actions;
+#[cfg(test)]
+mod boxes;
+#[cfg(test)]
+mod credentials;
+#[cfg(test)]
+mod fractions;
+#[cfg(test)]
+mod ids;
+#[cfg(test)]
+mod limits;
+#[cfg(test)]
+mod lists;
+#[cfg(test)]
+mod memory;
+#[cfg(test)]
+mod parameters;
+#[cfg(test)]
+mod references;
+#[cfg(test)]
+mod refusals;
+#[cfg(test)]
+mod steps;
+#[cfg(test)]
+mod totals;
