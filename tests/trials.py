@@ -20,7 +20,7 @@ ROWS = TOP / "crates/ledger_rows/proofs"
 DEFINITIONS = ("book_records", "gov_model", "ledger_model", "run_model", "text_model")
 WITH_TYPES = ("book_records",)
 # the crates whose laws are tried where no row refuses
-LAWS = ("gov_model", "tx_balance", "epoch_balance", "run_laws")
+LAWS = ("gov_model", "tx_balance", "epoch_balance", "dormant_laws", "run_laws")
 REFERENCE = re.compile(rf"Rattle\.({'|'.join(DEFINITIONS)})\.specs\.(?!declared\b)(\w+)|Rattle\.ledger_rows\.proofs\.(\w+)")
 ERROR = re.compile(r"\./(specs|proofs)/(?:t(\d+)_)?(\S+?)\.antt\S*: error: (.*)")
 

@@ -46,7 +46,7 @@ use Rattle.ledger_state.specs.Drafts.{Changed, laid_over, with_registrations}
 use Rattle.proposal_store.specs.Leaving.{without_votes_of}
 use Rattle.ledger_state.specs.Kept.{IsKept}
 use Rattle.ledger_state.specs.Proposed.{IsUnknown}
-use Rattle.run_laws.proofs.Dormant.{tx_timely}
+use Rattle.dormant_laws.proofs.Dormant.{tx_timely}
 use Rattle.ledger_state.proofs.Balances.{draft_lowers, ended_balance}
 use Rattle.ledger_state.proofs.Cleared.{ordered-append, ordered-cleared, ordered-proposed, ordered-voted, used-cleared}
 use Rattle.ledger_state.proofs.Timely.{all_fit}

@@ -20,7 +20,7 @@ use Rattle.book_records.specs.Dormancy.{extended, is_kept_active, with_dormant_a
 use Rattle.drep_book.proofs.NoneAdded.{none_added}
 use Rattle.ledger_model.specs.Changes.{delegates_to_drep, dormant_added, without_drep}
 use Rattle.ledger_model.specs.Ledger.{Ledger, account_at}
-use Rattle.run_laws.proofs.Dormant.{all_from_found}
+use Rattle.dormant_laws.proofs.Dormant.{all_from_found}
 use Rattle.run_model.specs.Laws.{IsWithinDormantBound}
 use Rattle.stake_book.specs.Stakes.{delegates_to_dreps, without_dreps}
 use Rattle.ledger_state.specs.ChangedAccounts.{ChangedAccounts, ended, with_leaving}

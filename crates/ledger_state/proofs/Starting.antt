@@ -17,7 +17,7 @@ use Rattle.gov_actions.specs.declared.state.HotState.{HotState}
 use Rattle.tx_records.specs.declared.genesis.Genesis.{Genesis}
 use Rattle.tx_records.specs.declared.genesis.GenesisCommittee.{GenesisCommittee}
 use Rattle.run_model.specs.Genesis.{committee_of_genesis, genesis_fault, hot_of_genesis, ledger_of_genesis, state_of_genesis}
-use Rattle.run_laws.proofs.Dormant.{genesis_timely}
+use Rattle.dormant_laws.proofs.Dormant.{genesis_timely}
 use Rattle.drep_book.specs.Dreps.{Dreps}
 use Rattle.stake_book.specs.Stakes.{Stakes, accounts_of}
 use Rattle.tx_records.specs.declared.limits.TheConstants.{SLOT_LIMIT, SUPPLY_LIMIT}

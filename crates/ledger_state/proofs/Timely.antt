@@ -15,7 +15,7 @@ use Rattle.book_records.specs.Dormancy.{AllFit, extended, is_kept_active, with_d
 use Rattle.drep_book.proofs.NoneAdded.{none_added}
 use Rattle.ledger_model.specs.Changes.{dormant_added}
 use Rattle.ledger_model.specs.Ledger.{Ledger}
-use Rattle.run_laws.proofs.Dormant.{all_from_found}
+use Rattle.dormant_laws.proofs.Dormant.{all_from_found}
 use Rattle.run_model.specs.Laws.{IsWithinDormantBound}
 use Rattle.ledger_state.specs.ChangedDreps.{awakened}
 use Rattle.ledger_state.specs.Drafts.{IsTimely, having_drep}

@@ -26,7 +26,7 @@ use Rattle.tx_records.specs.RecordLimits.{is_within_limits}
 use Rattle.run_model.specs.Runs.{accepted_records, pulse_in, world_after_all}
 use Rattle.run_model.specs.Step.{block_checks, crossed, enters_next, epoch_at, pulsed, refusal_of, step_by, world_after_accepted}
 use Rattle.run_laws.proofs.Good.{IsGood}
-use Rattle.run_laws.proofs.Lists.{left_of, right_of, all_weaken, all_append}
+use Rattle.dormant_laws.proofs.Lists.{left_of, right_of, all_weaken, all_append}
 use Rattle.tx_balance.proofs.Sounds.{tx_steady}
 use Rattle.run_laws.proofs.GoodBlock.{boundary_epoch, boundary_length}
 use Rattle.run_laws.proofs.Reach.{record_good}

@@ -24,7 +24,7 @@ use Rattle.tx_balance.proofs.OutputParts.{parts_of, id_is_new}
 use Rattle.tx_balance.proofs.Sounds.{IsSteady, kept, still_used, new_used, tx_steady, allowed_stays_sound}
 use Rattle.run_model.specs.World.{World}
 use Rattle.run_laws.proofs.Good.{IsGood, IsGoodLedger}
-use Rattle.run_laws.proofs.Lists.{all_weaken, all_append, own_append}
+use Rattle.dormant_laws.proofs.Lists.{all_weaken, all_append, own_append}
 
 abbrev IsGiven : List TxId → ActionId → Type 0
 IsGiven used a = has_member txid_cmp used a.tx ≡ true

@@ -1,9 +1,7 @@
 pub mod Good
-pub mod Lists
 pub mod GoodTx
 pub mod GoodBlock
 pub mod Start
 pub mod Reach
 pub mod Counted
 pub mod Pulses
-pub mod Dormant

@@ -30,7 +30,7 @@ use Rattle.epoch_balance.proofs.Covered.{payments_are_covered}
 use Rattle.epoch_balance.proofs.Whole.{boundary_balances}
 use Rattle.genesis_balance.proofs.Start.{genesis_holds_supply}
 use Rattle.run_laws.proofs.Good.{IsGood}
-use Rattle.run_laws.proofs.Lists.{left_of, right_of}
+use Rattle.dormant_laws.proofs.Lists.{left_of, right_of}
 use Rattle.run_laws.proofs.GoodTx.{tx_good}
 use Rattle.run_laws.proofs.GoodBlock.{crossed_good, pulsed_good, rewards_good}
 use Rattle.run_laws.proofs.Start.{genesis_good}

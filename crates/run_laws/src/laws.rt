@@ -1,4 +1,4 @@
-ghost use Rattle.run_model.specs.Laws.{CountedIsThePulses, DormantBound, EpochsRatifyOneList, FlowsBalance, PulsesDoNotShow, StandsBetweenBoundaries, SupplyStays};
+ghost use Rattle.run_model.specs.Laws.{CountedIsThePulses, EpochsRatifyOneList, FlowsBalance, PulsesDoNotShow, StandsBetweenBoundaries, SupplyStays};
 
 /// Each record moves each pot by its flows, and nothing stays in hand, for every ledger that records reach. (The preservation of value of the formal specification)
 pub fn flows_balance()
@@ -8,11 +8,6 @@ pub fn flows_balance()
 /// All pots together hold the supply of the genesis, for every ledger that records reach. (The preservation of value of the formal specification)
 pub fn supply_stays()
     ensures { SupplyStays }
-{}
-
-/// The dormant epochs are no more than the epochs, there are none while a proposal is live, and with them no DRep's expiry is past its bound, for every ledger that records reach. (CIP-1694, Registered DReps; the bound is own)
-pub fn dormant_bound()
-    ensures { DormantBound }
 {}
 
 /// Each epoch ratifies exactly one list of what it froze, which is one delaying action or has none, for every ledger that records reach. (CIP-1694, Ratification)

@@ -1,9 +1,9 @@
-//! The laws over runs, for every ledger that records reach from a genesis: the balance of flows, the supply, the dormant bound, the one list that an epoch ratifies, what stands between boundaries, what was counted, and that pulses do not show.
+//! The laws over runs, for every ledger that records reach from a genesis: the balance of flows, the supply, the one list that an epoch ratifies, what stands between boundaries, what was counted, and that pulses do not show.
 #![tactic(auto)]
 
 mod laws;
 
 pub use laws::{
-    counted_is_the_pulses, dormant_bound, epochs_ratify_one_list, flows_balance,
-    pulses_do_not_show, stands_between_boundaries, supply_stays,
+    counted_is_the_pulses, epochs_ratify_one_list, flows_balance, pulses_do_not_show,
+    stands_between_boundaries, supply_stays,
 };

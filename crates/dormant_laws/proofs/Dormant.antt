@@ -57,7 +57,7 @@ use Rattle.tx_records.specs.RecordLimits.{is_within_limits}
 use Rattle.tx_records.specs.TxLimits as tx_limits
 use Rattle.run_model.specs.Runs.{IsReached, world_after_all}
 use Rattle.run_model.specs.Step.{crossed, enters_next, refusal_of, step, step_by, world_after_accepted}
-use Rattle.run_laws.proofs.Lists.{all_append, all_weaken, left_of, right_of}
+use Rattle.dormant_laws.proofs.Lists.{all_append, all_weaken, left_of, right_of}
 
 -- what holds of each item, after a map and after a filter
 module _ {A : Type 0} (P : A → Type 0) where
