@@ -57,20 +57,7 @@ use Rattle.tx_records.specs.RecordLimits.{is_within_limits}
 use Rattle.tx_records.specs.TxLimits as tx_limits
 use Rattle.run_model.specs.Runs.{IsReached, world_after_all}
 use Rattle.run_model.specs.Step.{crossed, enters_next, refusal_of, step, step_by, world_after_accepted}
-use Rattle.dormant_laws.proofs.Lists.{all_append, all_weaken, left_of, right_of}
-
--- what holds of each item, after a map and after a filter
-module _ {A : Type 0} (P : A → Type 0) where
-  all_made : {B : Type 0} (Q : B → Type 0) (f : A → B) → ((x : A) → P x → Q (f x)) → (xs : List A) → AllByRecursion P xs → AllByRecursion Q (map f xs)
-  all_made Q f k [] h = tt
-  all_made Q f k (x ∷ xs) h = (k x h.0, all_made Q f k xs h.1)
-
-  all_passing : (p : A → Bool) (xs : List A) → AllByRecursion P xs → AllByRecursion P (filter p xs)
-  all_passing p [] h = tt
-  all_passing p (x ∷ xs) h = elim (p x) as (λ b. AllByRecursion P (cond b (x ∷ filter p xs) (filter p xs))) [
-    | true ↦ (h.0, all_passing p xs h.1)
-    | false ↦ all_passing p xs h.1
-  ]
+use Rattle.dormant_laws.proofs.Lists.{all_append, all_made, all_passing, all_weaken, left_of, right_of}
 
 -- what holds of each DRep of a map
 abbrev EachDrep : (DrepState → Type 0) → List (Credential × DrepState) → Type 0
@@ -192,21 +179,21 @@ noted_most false n = omega arith
 
 -- updates and proposals that set no activity past a limit
 module _ (most : ℕ) where
-  abbrev IsActive : Option ℕ → Type 0
+  abbrev pub IsActive : Option ℕ → Type 0
   IsActive None = Unit {0}
   IsActive (Some n) = n ≤ most
 
-  abbrev IsActiveUpdate : Option Update → Type 0
+  abbrev pub IsActiveUpdate : Option Update → Type 0
   IsActiveUpdate None = Unit {0}
   IsActiveUpdate (Some u) = IsActive u.drep_activity
 
-  abbrev IsActiveAction : Action → Type 0
+  abbrev pub IsActiveAction : Action → Type 0
   IsActiveAction a = IsActiveUpdate (update_of a)
 
-  abbrev AreActive : List Proposal → Type 0
+  abbrev pub AreActive : List Proposal → Type 0
   AreActive ps = AllByRecursion (λ (p : Proposal). IsActiveAction p.action) ps
 
-  abbrev AreActiveRecords : List ProposalRecord → Type 0
+  abbrev pub AreActiveRecords : List ProposalRecord → Type 0
   AreActiveRecords ps = AllByRecursion (λ (p : ProposalRecord). IsActiveAction p.action) ps
 
   made_live : (last : ℕ) (id : TxId) (n : ℕ) (ps : List ProposalRecord) → AreActiveRecords ps
@@ -253,12 +240,12 @@ module _ (top most : ℕ) (IsLive : List Proposal → Type 0) (stays : (f : Prop
   IsSoon dormant epoch d = IsTimely top most dormant epoch d
 
   -- the law, with the activity of the parameters within its range
-  record AreWithin (dormant epoch length : ℕ) (ps : List Proposal) (es : List (Credential × DrepState)) : Type 0 where
-    awake : IsAwake dormant ps
-    at_most : dormant ≤ epoch
-    dreps : EachDrep (IsSoon dormant epoch) es
-    activity : length ≤ most
-    live : IsLive ps
+  pub record AreWithin (dormant epoch length : ℕ) (ps : List Proposal) (es : List (Credential × DrepState)) : Type 0 where
+    pub awake : IsAwake dormant ps
+    pub at_most : dormant ≤ epoch
+    pub dreps : EachDrep (IsSoon dormant epoch) es
+    pub activity : length ≤ most
+    pub live : IsLive ps
 
   abbrev IsWithin : Ledger → Type 0
   IsWithin l = AreWithin l.dormant l.epoch l.state.params.drep_activity l.proposals l.dreps
@@ -340,28 +327,28 @@ module _ (top most : ℕ) (IsLive : List Proposal → Type 0) (stays : (f : Prop
 
 -- the same of a World, and of what it froze, where the activity that live proposals leave is within its range too
 module _ (top most : ℕ) where
-  kept_active : (f : Proposal → Proposal) → ((p : Proposal) → (f p).action ≡ p.action) → (ps : List Proposal) → AreActive most ps → AreActive most (map f ps)
+  pub kept_active : (f : Proposal → Proposal) → ((p : Proposal) → (f p).action ≡ p.action) → (ps : List Proposal) → AreActive most ps → AreActive most (map f ps)
   kept_active f same ps h =
       all_made (λ (p : Proposal). IsActiveAction most p.action) (λ (p : Proposal). IsActiveAction most p.action) f (λ p k. subst (λ (a : Action). IsActiveAction most a) (sym (same p)) k) ps h
 
-  abbrev IsActiveLedger : Ledger → Type 0
+  abbrev pub IsActiveLedger : Ledger → Type 0
   IsActiveLedger l = IsWithin top most (AreActive most) kept_active l
 
   active_after : (sc : Scripts) (l : Ledger) (tx : Tx) → IsActiveLedger l → AreActiveRecords most tx.proposals → IsActiveLedger (after_scripts sc l tx)
   active_after sc l tx h new =
       tx_within top most (AreActive most) kept_active sc l tx h (λ ps k. all_append (λ (p : Proposal). IsActiveAction most p.action) ps (made_proposals (last_voting_epoch l) tx) k (made_live most (last_voting_epoch l) tx.id 0 tx.proposals new))
 
-  record IsWithinWorld (w : World) : Type 0 where
-    ledger : IsActiveLedger w.ledger
-    start : w.frozen.start.params.drep_activity ≤ most
-    frozen : AreActive most w.frozen.proposals
+  pub record IsWithinWorld (w : World) : Type 0 where
+    pub ledger : IsActiveLedger w.ledger
+    pub start : w.frozen.start.params.drep_activity ≤ most
+    pub frozen : AreActive most w.frozen.proposals
 
   -- the boundary
   update_within : (o : Option Rewards) (l : Ledger) → IsActiveLedger l → IsActiveLedger (update_applied o l)
   update_within None l h = h
   update_within (Some u) l h = h
 
-  boundary_within : (w : World) → IsWithinWorld w → IsWithinWorld (world_after_boundary w)
+  pub boundary_within : (w : World) → IsWithinWorld w → IsWithinWorld (world_after_boundary w)
   boundary_within w h =
       let l : Ledger = (after_rewards w).ledger in
       let k : IsActiveLedger l = update_within w.pending w.ledger h.ledger in
@@ -382,12 +369,12 @@ module _ (top most : ℕ) where
         frozen = live;
       }
 
-  crossed_within : (b : Bool) (w : World) → IsWithinWorld w → IsWithinWorld (crossed b w)
+  pub crossed_within : (b : Bool) (w : World) → IsWithinWorld w → IsWithinWorld (crossed b w)
   crossed_within true w h = boundary_within w h
   crossed_within false w h = h
 
 -- the bound of the law
-abbrev IsBounded : World → Type 0
+abbrev pub IsBounded : World → Type 0
 IsBounded w = IsWithinWorld (2 ^ 62) (2 ^ 32) w
 
 -- what reading gives of activities
@@ -431,7 +418,7 @@ all_early epoch (d ∷ ds) h = (early d.2 epoch (left_of _ _ h), all_early epoch
 at_least_none : (n : ℕ) → 0 ≤ n
 at_least_none n = omega arith
 
-genesis_bounded : (g : Genesis) → genesis_limits.is_within_limits g ≡ true → IsBounded (world_of_genesis g)
+pub genesis_bounded : (g : Genesis) → genesis_limits.is_within_limits g ≡ true → IsBounded (world_of_genesis g)
 genesis_bounded g h =
     let params : are_params g.params ≡ true = right_of _ _ (left_of _ _ h) in
     let activity : g.params.drep_activity ≤ 2 ^ 32 = short g.params.drep_activity (right_of _ _ (left_of _ _ params)) in
@@ -450,14 +437,14 @@ genesis_bounded g h =
     }
 
 -- each record
-accepted_bounded : (w : World) (r : Record) → IsBounded w → is_within_limits r ≡ true → IsBounded (world_after_accepted w r)
+pub accepted_bounded : (w : World) (r : Record) → IsBounded w → is_within_limits r ≡ true → IsBounded (world_after_accepted w r)
 accepted_bounded w (records.Genesis g) b h = b
 accepted_bounded w (records.Block slot pulse) b h = let c = crossed_within (2 ^ 62) (2 ^ 32) (enters_next w.ledger slot) w b in record { ledger = c.ledger; start = c.start; frozen = c.frozen }
 accepted_bounded w (records.Rewards u) b h = record { ledger = b.ledger; start = b.start; frozen = b.frozen }
 accepted_bounded w (records.Tx tx) b h = record { ledger = active_after (2 ^ 62) (2 ^ 32) tx.scripts w.ledger tx b.ledger (tx_active tx h); start = b.start; frozen = b.frozen }
 accepted_bounded w (records.Print what) b h = b
 
-bounded_by : (o : Option Rule) (w : World) (r : Record) → IsBounded w → is_within_limits r ≡ true → IsBounded (step_by o w r).0
+pub bounded_by : (o : Option Rule) (w : World) (r : Record) → IsBounded w → is_within_limits r ≡ true → IsBounded (step_by o w r).0
 bounded_by (Some rule) w r b h = b
 bounded_by None w r b h = accepted_bounded w r b h
 
@@ -482,6 +469,19 @@ pub genesis_timely : (g : Genesis) → genesis_limits.is_within_limits g ≡ tru
 genesis_timely g h =
     let b : IsBounded (world_of_genesis g) = genesis_bounded g h in
     (law_of (AreActive (2 ^ 32)) (kept_active (2 ^ 62) (2 ^ 32)) (ledger_of_genesis g) b.ledger, b.ledger.activity)
+
+-- the bound of a ledger is the law of it, with what its parameters and live proposals set
+pub bounded_ledger : (l : Ledger) → IsMap credential_cmp l.dreps → IsWithinDormantBound l → (params_of l).drep_activity ≤ 2 ^ 32 → AreActive (2 ^ 32) l.proposals → IsActiveLedger (2 ^ 62) (2 ^ 32) l
+bounded_ledger l m b activity live = record {
+  awake = b.awake;
+  at_most = b.at_most;
+  dreps = each_of_all (IsTimely (2 ^ 62) (2 ^ 32) l.dormant l.epoch) l.dreps (all_from_found (IsTimely (2 ^ 62) (2 ^ 32) l.dormant l.epoch) l.dreps m b.expiries);
+  activity = activity;
+  live = live;
+}
+
+pub law_of_bounded : (l : Ledger) → IsActiveLedger (2 ^ 62) (2 ^ 32) l → IsWithinDormantBound l
+law_of_bounded l b = law_of (AreActive (2 ^ 32)) (kept_active (2 ^ 62) (2 ^ 32)) l b
 
 -- and a transaction keeps one within it
 pub tx_timely : (l : Ledger) (tx : Tx) → IsMap credential_cmp l.dreps → IsWithinDormantBound l → (params_of l).drep_activity ≤ 2 ^ 32 → IsWithinDormantBound (ledger_after_tx l tx)

@@ -1,5 +1,5 @@
 -- The ledger of a genesis is sound, and holds its supply where no rule is broken.
-use Rattle.std.proofs.Common.{◌≡◌, ℕ, List, [], ◌∷◌, Bool, true, false, cond, not, nat_lt, ◌||◌, Option, Some, None, map, filter_map, find, fold, sum_by, refl, ap, sym, subst, ◌∙◌, arith}
+use Rattle.std.proofs.Common.{◌≡◌, ℕ, List, [], ◌∷◌, Bool, true, false, cond, nat_lt, ◌||◌, Option, Some, None, map, filter_map, find, fold, sum_by, refl, ap, sym, subst, ◌∙◌, arith}
 use Rattle.std.specs.Option.{option_map}
 use Rattle.std.specs.List.{AllByRecursion, IsDistinct}
 use Rattle.std.specs.List.Sorted.{IsStrictlySortedBy}
@@ -38,11 +38,11 @@ use Rattle.tx_records.specs.Limits.{genesis_members}
 use Rattle.tx_records.specs.declared.limits.TheConstants.{SUPPLY_LIMIT}
 use Rattle.maps.proofs.Fresh.{all-with_values, distinct_from_repeats}
 
-empty_sorted : {K : Type 0} (cmp : K → K → Ordering) → IsStrictlySortedBy cmp []
+pub empty_sorted : {K : Type 0} (cmp : K → K → Ordering) → IsStrictlySortedBy cmp []
 unfolding IsStrictlySortedBy
 empty_sorted cmp = tt
 
-from_none : {K X : Type 0} {cmp : K → K → Ordering} → IsTotalOrder cmp → (new : List (K × X)) → IsMap cmp (with_values cmp new [])
+pub from_none : {K X : Type 0} {cmp : K → K → Ordering} → IsTotalOrder cmp → (new : List (K × X)) → IsMap cmp (with_values cmp new [])
 from_none {cmp = cmp} o new = IsMap-with_values o new [] (empty_sorted cmp)
 
 -- ids of a set that is made key after key

@@ -25,11 +25,11 @@ use Rattle.run_model.specs.Step.{pulsed, crossed, in_order_of_credential}
 use Rattle.run_laws.proofs.Good.{IsGood, IsGoodLedger}
 
 -- the pending update changes these parts alone
-update_only : (o : Option Rewards) (l : Ledger) → let m : Ledger = update_applied o l in record l { reserves = m.reserves; fees = m.fees; state = m.state; accounts = m.accounts } ≡ m
+pub update_only : (o : Option Rewards) (l : Ledger) → let m : Ledger = update_applied o l in record l { reserves = m.reserves; fees = m.fees; state = m.state; accounts = m.accounts } ≡ m
 update_only None l = refl
 update_only (Some u) l = refl
 
-update_good : (o : Option Rewards) (l : Ledger) → IsGoodLedger l → IsGoodLedger (update_applied o l)
+pub update_good : (o : Option Rewards) (l : Ledger) → IsGoodLedger l → IsGoodLedger (update_applied o l)
 update_good None l g = g
 update_good (Some u) l g = record {
   sound = record {
@@ -45,7 +45,7 @@ update_good (Some u) l g = record {
   used = g.used;
 }
 
-boundary_good : (w : World) → IsGood w → IsGood (world_after_boundary w)
+pub boundary_good : (w : World) → IsGood w → IsGood (world_after_boundary w)
 boundary_good w good =
     let l : Ledger = (after_rewards w).ledger in
     let g : IsGoodLedger l = update_good w.pending w.ledger good.ledger in

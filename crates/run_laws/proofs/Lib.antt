@@ -5,3 +5,6 @@ pub mod Start
 pub mod Reach
 pub mod Counted
 pub mod Pulses
+pub mod Parted
+pub mod SoundStakes
+pub mod Sound

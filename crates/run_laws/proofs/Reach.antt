@@ -53,7 +53,7 @@ covered w u h =
     let e = unbroken-cons _ _ d.1 in
     record { balanced = eqb-true (rewards_in u) (rewards_out u) (not-false _ c.0); reserves_cover = ltb-false w.ledger.reserves u.from_reserves d.0; fees_cover = ltb-false w.ledger.fees u.from_fees e.0 }
 
-allowed : (w : World) (tx : Tx) → refusal_of w (records.Tx tx) ≡ None → is_allowed w.ledger tx ≡ true
+pub allowed : (w : World) (tx : Tx) → refusal_of w (records.Tx tx) ≡ None → is_allowed w.ledger tx ≡ true
 allowed w tx h = ap (λ (o : Option Rule). is_none o) h
 
 -- an accepted block
@@ -61,7 +61,7 @@ block_by : (b : Bool) (w : World) (slot pulse : ℕ) → IsGood w → IsMovedBy 
 block_by true w slot pulse g = boundary_balances w g.ledger.sound.accounts g.frozen.pending g.ledger.own (payments_are_covered w g.frozen_own g.frozen.treasury)
 block_by false w slot pulse g = λ p. refl
 
-accepted_moves : (w : World) (r : Record) → IsGood w → is_within_limits r ≡ true → refusal_of w r ≡ None → IsMovedBy (flows_of_accepted w r) (pots_of w.ledger) (pots_of (world_after_accepted w r).ledger)
+pub accepted_moves : (w : World) (r : Record) → IsGood w → is_within_limits r ≡ true → refusal_of w r ≡ None → IsMovedBy (flows_of_accepted w r) (pots_of w.ledger) (pots_of (world_after_accepted w r).ledger)
 accepted_moves w (records.Genesis x) g h e = cc
 accepted_moves w (records.Block slot pulse) g h e = block_by (enters_next w.ledger slot) w slot pulse g
 accepted_moves w (records.Rewards u) g h e = λ p. refl
@@ -75,7 +75,7 @@ moves_by None w r g h e = accepted_moves w r g h e
 record_moves : (w : World) (r : Record) → IsGood w → is_within_limits r ≡ true → IsMovedBy (flows_of w r) (pots_of w.ledger) (pots_of (step w r).0.ledger)
 record_moves w r g h = moves_by (refusal_of w r) w r g h refl
 
-accepted_good : (w : World) (r : Record) → IsGood w → is_within_limits r ≡ true → refusal_of w r ≡ None → IsGood (world_after_accepted w r)
+pub accepted_good : (w : World) (r : Record) → IsGood w → is_within_limits r ≡ true → refusal_of w r ≡ None → IsGood (world_after_accepted w r)
 accepted_good w (records.Genesis x) g h e = g
 accepted_good w (records.Block slot pulse) g h e = pulsed_good slot pulse (crossed (enters_next w.ledger slot) w) (crossed_good (enters_next w.ledger slot) w g)
 accepted_good w (records.Rewards u) g h e = rewards_good w u g (own_rewards u h) (covered w u e)

@@ -1,4 +1,5 @@
 ghost use Rattle.run_model.specs.Laws.{CountedIsThePulses, EpochsRatifyOneList, FlowsBalance, PulsesDoNotShow, StandsBetweenBoundaries, SupplyStays};
+ghost use Rattle.run_model.specs.SoundLaws.{GenesisBeginsSound, RecordsKeepSound};
 
 /// Each record moves each pot by its flows, and nothing stays in hand, for every ledger that records reach. (The preservation of value of the formal specification)
 pub fn flows_balance()
@@ -28,4 +29,14 @@ pub fn counted_is_the_pulses()
 /// Positive pulses do not show: runs of records that differ in positive pulses alone are answered the same, and leave the same ledger but for what was counted. (Own)
 pub fn pulses_do_not_show()
     ensures { PulsesDoNotShow }
+{}
+
+/// A genesis that breaks no rule gives a sound state. (Own)
+pub fn genesis_begins_sound()
+    ensures { GenesisBeginsSound }
+{}
+
+/// Each record leaves a sound state sound: so a ledger that keeps it as its invariant keeps it for ever. (Own)
+pub fn records_keep_sound()
+    ensures { RecordsKeepSound }
 {}

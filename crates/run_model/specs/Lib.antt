@@ -7,3 +7,5 @@ pub mod Step
 pub mod Runs
 pub mod BoundaryFlows
 pub mod Laws
+pub mod SoundWorld
+pub mod SoundLaws
