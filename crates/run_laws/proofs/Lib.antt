@@ -8,3 +8,4 @@ pub mod Pulses
 pub mod Parted
 pub mod SoundStakes
 pub mod Sound
+pub mod SoundSums

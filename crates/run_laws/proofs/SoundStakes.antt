@@ -33,33 +33,38 @@ use Rattle.run_model.specs.Freeze.{entries_of, frozen_credentials, stake_parts}
 use Rattle.run_model.specs.SoundWorld.{AreSoundStakes, held_by}
 use Rattle.run_laws.proofs.Parted.{AreApart, Excludes, part, parts_within}
 
--- items by a key that they have or have not
-module _ {A K : Type 0} {cmp : K → K → Ordering} (o : IsTotalOrder cmp) (f : A → ℕ) (key : A → Option K) where
-  abbrev pub at : K → A → Bool
-  at k x = holds (eq_by_cmp cmp) (key x) k
-
-  other_key : (k q : K) → eq_by_cmp cmp k q ≡ false → (found : Option K) → holds (eq_by_cmp cmp) found q ≡ true → holds (eq_by_cmp cmp) found k ≡ false
-  other_key k q e None h = refl
-  other_key k q e (Some y) h = apart o q k y ((eq_by_cmp_equiv o).symm q k ∙ e) ((eq_by_cmp_equiv o).symm q y ∙ h)
-
+-- parts of a list by keys, where no item is in the parts of two
+module _ {A K : Type 0} (cmp : K → K → Ordering) (f : A → ℕ) (at : K → A → Bool) (excludes : (k q : K) → eq_by_cmp cmp k q ≡ false → (x : A) → at q x ≡ true → at k x ≡ false) where
   each_excluded : (k : K) (ks : List K) → AllByRecursion (λ q. cmp k q ≡ Less) ks → AllByRecursion (Excludes f at k) ks
   each_excluded k [] h = tt
-  each_excluded k (q ∷ ks) h = (λ x e. other_key k q (ap is_eq h.0) (key x) e, each_excluded k ks h.1)
+  each_excluded k (q ∷ ks) h = (excludes k q (ap is_eq h.0), each_excluded k ks h.1)
 
   all_apart : (ks : List K) → IsSet cmp ks → AreApart f at ks
   unfolding IsStrictlySortedBy
   all_apart [] h = tt
   all_apart (k ∷ ks) h = (each_excluded k ks h.0, all_apart ks h.1)
 
+  pub sorted_within : (ks : List K) → IsSet cmp ks → (xs : List A) → sum_by (part f at xs) ks ≤ sum_by f xs
+  sorted_within ks h xs = parts_within f at ks (all_apart ks h) xs
+
+-- items by a key that they have or have not
+pub other_key : {K : Type 0} {cmp : K → K → Ordering} (o : IsTotalOrder cmp) (k q : K) → eq_by_cmp cmp k q ≡ false → (found : Option K) → holds (eq_by_cmp cmp) found q ≡ true → holds (eq_by_cmp cmp) found k ≡ false
+other_key o k q e None h = refl
+other_key o k q e (Some y) h = apart o q k y ((eq_by_cmp_equiv o).symm q k ∙ e) ((eq_by_cmp_equiv o).symm q y ∙ h)
+
+module _ {A K : Type 0} {cmp : K → K → Ordering} (o : IsTotalOrder cmp) (f : A → ℕ) (key : A → Option K) where
+  abbrev pub at : K → A → Bool
+  at k x = holds (eq_by_cmp cmp) (key x) k
+
   pub keyed_within : (ks : List K) → IsSet cmp ks → (xs : List A) → sum_by (part f at xs) ks ≤ sum_by f xs
-  keyed_within ks h xs = parts_within f at ks (all_apart ks h) xs
+  keyed_within ks h xs = sorted_within cmp f at (λ k q e x t. other_key o k q e (key x) t) ks h xs
 
 -- sums of numbers that are the same
-sum_same : {A : Type 0} (f g : A → ℕ) → ((x : A) → f x ≡ g x) → (xs : List A) → sum_by f xs ≡ sum_by g xs
+pub sum_same : {A : Type 0} (f g : A → ℕ) → ((x : A) → f x ≡ g x) → (xs : List A) → sum_by f xs ≡ sum_by g xs
 sum_same f g h [] = refl
 sum_same f g h (x ∷ xs) = omega (arith, sum_by-cons f x xs, sum_by-cons g x xs, h x, sum_same f g h xs)
 
-sum_made : {A B : Type 0} (f : B → ℕ) (g : A → B) (xs : List A) → sum_by f (map g xs) ≡ sum_by (λ x. f (g x)) xs
+pub sum_made : {A B : Type 0} (f : B → ℕ) (g : A → B) (xs : List A) → sum_by f (map g xs) ≡ sum_by (λ x. f (g x)) xs
 sum_made f g [] = refl
 sum_made f g (x ∷ xs) = omega (arith, sum_by-cons f (g x) (map g xs), sum_by-cons (λ y. f (g y)) x xs, sum_made f g xs)
 

@@ -1,5 +1,5 @@
 ghost use Rattle.run_model.specs.Laws.{CountedIsThePulses, EpochsRatifyOneList, FlowsBalance, PulsesDoNotShow, StandsBetweenBoundaries, SupplyStays};
-ghost use Rattle.run_model.specs.SoundLaws.{GenesisBeginsSound, RecordsKeepSound};
+ghost use Rattle.run_model.specs.SoundLaws.{DrepStakesAreWithin, GenesisBeginsSound, PoolStakesAreWithin, RecordsKeepSound};
 
 /// Each record moves each pot by its flows, and nothing stays in hand, for every ledger that records reach. (The preservation of value of the formal specification)
 pub fn flows_balance()
@@ -39,4 +39,14 @@ pub fn genesis_begins_sound()
 /// Each record leaves a sound state sound: so a ledger that keeps it as its invariant keeps it for ever. (Own)
 pub fn records_keep_sound()
     ensures { RecordsKeepSound }
+{}
+
+/// The stakes of the DReps of a sound snapshot are together at most the supply, in lovelace: each entry weighs for one at most. (Own)
+pub fn drep_stakes_are_within()
+    ensures { DrepStakesAreWithin }
+{}
+
+/// The stakes of the pools of a sound snapshot, with the deposits that count with them, are together at most twice the supply, in lovelace. (Own)
+pub fn pool_stakes_are_within()
+    ensures { PoolStakesAreWithin }
 {}

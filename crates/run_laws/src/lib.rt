@@ -4,6 +4,7 @@
 mod laws;
 
 pub use laws::{
-    counted_is_the_pulses, epochs_ratify_one_list, flows_balance, genesis_begins_sound,
-    pulses_do_not_show, records_keep_sound, stands_between_boundaries, supply_stays,
+    counted_is_the_pulses, drep_stakes_are_within, epochs_ratify_one_list, flows_balance,
+    genesis_begins_sound, pool_stakes_are_within, pulses_do_not_show, records_keep_sound,
+    stands_between_boundaries, supply_stays,
 };
