@@ -115,13 +115,23 @@ network_group_in d u = do
     max_collateral_inputs = max_collateral_inputs;
   })
 
--- with those of the economic group
-unfoldable pub economic_group_in : Data → Update → Result Update FieldFault
-economic_group_in d u = do
+-- with the fees and deposits of the economic group
+unfoldable pub fees_in : Data → Update → Result Update FieldFault
+fees_in d u = do
   min_fee_a ← maybe_in (codes "minFeeA") u64_in d
   min_fee_b ← maybe_in (codes "minFeeB") u64_in d
   key_deposit ← maybe_in (codes "keyDeposit") u64_in d
   pool_deposit ← maybe_in (codes "poolDeposit") u64_in d
+  Ok (record u {
+    min_fee_a = min_fee_a;
+    min_fee_b = min_fee_b;
+    key_deposit = key_deposit;
+    pool_deposit = pool_deposit;
+  })
+
+-- with the others of the economic group
+unfoldable pub incomes_in : Data → Update → Result Update FieldFault
+incomes_in d u = do
   rho ← maybe_in (codes "rho") unit_in d
   tau ← maybe_in (codes "tau") unit_in d
   min_pool_cost ← maybe_in (codes "minPoolCost") u64_in d
@@ -129,10 +139,6 @@ economic_group_in d u = do
   prices ← maybe_in (codes "prices") (both_in ratio_in ratio_in) d
   min_fee_ref_script_cost_per_byte ← maybe_in (codes "minFeeRefScriptCostPerByte") ratio_in d
   Ok (record u {
-    min_fee_a = min_fee_a;
-    min_fee_b = min_fee_b;
-    key_deposit = key_deposit;
-    pool_deposit = pool_deposit;
     rho = rho;
     tau = tau;
     min_pool_cost = min_pool_cost;
@@ -184,7 +190,8 @@ unfoldable pub update_in : Data → Result Update FieldFault
 update_in d = do
   object ← param_object d
   network ← network_group_in object no_update
-  economic ← economic_group_in object network
+  fees ← fees_in object network
+  economic ← incomes_in object fees
   technical ← technical_group_in object economic
   governance_group_in object technical
 

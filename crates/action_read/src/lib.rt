@@ -6,6 +6,8 @@ mod entries;
 mod kinds;
 mod params;
 mod thresholds;
+mod updates;
+mod whole;
 
 pub use actions::read_action;
 pub use kinds::{ActionField, ParamsField, UpdateField};

@@ -11,7 +11,7 @@ use Rattle.gov_ids.proofs.Spelled.{account_spelled, address_spelled}
 use Rattle.json_fields.specs.declared.fault.FieldFault.TheVariants.{WrongKind, OutOfRange, Missing}
 use Rattle.json_fields.specs.Entries.{needed_in, both_in, maybe_in}
 use Rattle.json_fields.specs.Steps.{or_fault}
-use Rattle.json_fields.specs.Kinds.{text_in, text_by, pair_in, three_in, credential_in, u64_in, u32_in, number_below, account_in, address_in, unit_in, hash28_in, hash32_in, items_in}
+use Rattle.json_fields.specs.Kinds.{text_in, text_by, pair_in, three_in, credential_in, u64_in, u32_in, u16_in, number_below, account_in, address_in, unit_in, hash28_in, hash32_in, items_in}
 use Rattle.tx_records.specs.declared.genesis.GenesisCommittee.{GenesisCommittee}
 use Rattle.tx_records.specs.declared.limits.TheConstants.{LEAST_MAJOR, LIST_LIMIT, NETWORK_LIMIT, SLOT_LIMIT}
 use Rattle.tx_records.specs.Limits.{is_slot, is_u32, is_u64, is_network, is_share, is_at_most, is_output, are_params, is_action}
@@ -26,8 +26,8 @@ use Rattle.pparams.specs.declared.Params.{Params}
 use Rattle.pparams.specs.declared.Update.{Update}
 use Rattle.gov_actions.specs.declared.action.Action.{Action}
 use Rattle.action_read.specs.Actions.{credentials_in, members_in, targets_in, previous_in, no_confidence_in, update_committee_in, new_constitution_in, hard_fork_in, parameter_change_in, treasury_withdrawals_in, action_of_type, action_in}
-use Rattle.action_read.specs.Params.{param_object, units_in, is_five, is_ten, five_units_in, ten_units_in, no_update, network_group_in, economic_group_in, technical_group_in, governance_group_in, update_in, params_in}
-use Rattle.action_read.specs.Whole.{params_of_update}
+use Rattle.action_read.specs.Params.{param_object, units_in, is_five, is_ten, five_units_in, ten_units_in, no_update, network_group_in, fees_in, incomes_in, technical_group_in, governance_group_in, update_in, params_in}
+use Rattle.action_read.specs.Whole.{network_params_of, fee_params_of, income_params_of, technical_params_of, governance_params_of, params_of_update}
 use Rattle.record_read.proofs.Gives.{Within, given, next, skip, if_some, if_test, needed_in-within, Gives, or_else, anything, maybe_in-within, both_in-within, list_in-within, without_place-within, IsDistinctListOf, distinct_list_in-within}
 
 -- ---- numbers
@@ -119,6 +119,7 @@ record UpdateWithin (u : Update) : Type 0 where
   activity : none_or is_u32 u.drep_activity ≡ true
   lifetime : none_or is_u32 u.gov_action_lifetime ≡ true
 
+-- the governance group sets each of them
 governance_group_in-within : (d : Data) (u : Update) → Gives UpdateWithin (governance_group_in d u)
 unfolding governance_group_in
 governance_group_in-within d u =
@@ -128,15 +129,18 @@ governance_group_in-within d u =
     skip (maybe_in (codes "govActionDeposit") u64_in d) (λ deposit.
     skip (maybe_in (codes "drepDeposit") u64_in d) (λ drep_deposit.
     next (maybe_in-within u32_in-within (codes "drepActivity") d) (λ activity a.
-    search (skip, given) depth 8))))))
+    skip (maybe_in (codes "committeeMinSize") u16_in d) (λ size.
+    skip (maybe_in (codes "committeeMaxTermLength") u32_in d) (λ term.
+    given (record { pools = p; dreps = q; activity = a; lifetime = l })))))))))
 
 update_in-within : Within UpdateWithin update_in
-unfolding update_in network_group_in economic_group_in technical_group_in
-update_in-within d = skip (param_object d) (λ object.
-    let first : Gives UpdateWithin (network_group_in object no_update) = search (skip, given) depth 12 in
-    let then : (u : Update) → UpdateWithin u → Gives UpdateWithin (economic_group_in object u) = λ u h. search (skip, given) depth 15 in
-    let last : (u : Update) → UpdateWithin u → Gives UpdateWithin (technical_group_in object u) = λ u h. search (skip, given) depth 10 in
-    next first (λ network n. next (then network n) (λ economic e. next (last economic e) (λ technical t. governance_group_in-within object technical))))
+unfolding update_in
+update_in-within d =
+    skip (param_object d) (λ object.
+    skip (network_group_in object no_update) (λ network.
+    skip (fees_in object network) (λ fees.
+    skip (incomes_in object fees) (λ economic.
+    skip (technical_group_in object economic) (λ technical. governance_group_in-within object technical)))))
 
 -- ---- all parameters
 
@@ -158,13 +162,39 @@ passing : {A B : Type 0} {P : B → Type 0} {p : A → Bool} (o : Option A) {f :
 passing None h k = record { holds = λ y e. absurd (none-some y e) }
 passing (Some x) h k = k x h
 
-both : {a b : Bool} → a ≡ true → b ≡ true → (a && b) ≡ true
+through : {A B : Type 0} {P : B → Type 0} {Q : A → Type 0} {o : Option A} {f : A → Option B} → OfSome Q o → ((x : A) → Q x → OfSome P (f x)) → OfSome P (option_and_then f o)
+through {o = None} g k = record { holds = λ y e. absurd (none-some y e) }
+through {o = Some x} g k = k x (g.holds x refl)
+
+pub both : {a b : Bool} → a ≡ true → b ≡ true → (a && b) ≡ true
 both p q = λ i. p i && q i
+
+-- the same, from what it is of
+abbrev OfWhat : {A : Type 0} → Option A → (A → Type 0) → Type 0
+OfWhat o P = OfSome P o
+
+governance_params_of-within : (u : Update) → none_or is_u32 u.drep_activity ≡ true → none_or is_u32 u.gov_action_lifetime ≡ true
+    → OfWhat (governance_params_of u) (λ g. (is_u32 g.drep_activity ≡ true) × (is_u32 g.gov_action_lifetime ≡ true))
+unfolding governance_params_of
+governance_params_of-within u activity lifetime =
+    passing u.gov_action_lifetime lifetime (λ l h.
+    each u.gov_action_deposit (λ deposit.
+    each u.drep_deposit (λ drep_deposit.
+    passing u.drep_activity activity (λ a k.
+    each u.committee_min_size (λ size.
+    each u.committee_max_term_length (λ term. there (k, h)))))))
 
 params_of_update-within : (u : Update) → none_or (list_all is_share) u.pool_voting_thresholds ≡ true → none_or (list_all is_share) u.drep_voting_thresholds ≡ true
     → none_or is_u32 u.drep_activity ≡ true → none_or is_u32 u.gov_action_lifetime ≡ true → OfSome AreParams (params_of_update u)
 unfolding params_of_update
-params_of_update-within u pools dreps activity lifetime = search (passing, each, there, both) depth 60 fits 4000
+params_of_update-within u pools dreps activity lifetime =
+    each (network_params_of u) (λ network.
+    each (fee_params_of u) (λ fee.
+    each (income_params_of u) (λ income.
+    each (technical_params_of u) (λ technical.
+    through (governance_params_of-within u activity lifetime) (λ governance g.
+    passing u.pool_voting_thresholds pools (λ p h.
+    passing u.drep_voting_thresholds dreps (λ q k. there (both (both (both h k) g.0) g.1))))))))
 
 pub params_in-within : Within AreParams params_in
 params_in-within d =
@@ -181,7 +211,7 @@ credentials_in-within = without_place-within (distinct_list_in-within (anything 
 members_in-within : Within (IsDistinctListOf credential_cmp (λ m. m.0) LIST_LIMIT (λ m. is_slot m.1)) members_in
 members_in-within = without_place-within (distinct_list_in-within (both_in-within (anything credential_in) slot_in-within (λ a b u v. v)) credential_total (λ m. m.0) LIST_LIMIT)
 
-abbrev is_target : Account × ℕ → Bool
+abbrev pub is_target : Account × ℕ → Bool
 is_target t = is_network t.0.network && is_u64 t.1
 
 pub is_target-within : Within (λ t. is_target t ≡ true) (both_in account_in u64_in)

@@ -18,45 +18,78 @@ use Rattle.json_fields.specs.Entries.{needed_in, both_in}
 use Rattle.json_fields.specs.Kinds.{text_in, bool_in, u64_in, u32_in, hash28_in, hash32_in, credential_in, account_in, ref_in, tx_id_in}
 use Rattle.json_fields.specs.Steps.{◌>>=◌}
 use Rattle.action_read.specs.Params.{params_in}
+use Rattle.record_read.specs.declared.records.Times.{Times}
+use Rattle.record_read.specs.declared.records.Funds.{Funds}
+use Rattle.record_read.specs.declared.records.Founding.{Founding}
+use Rattle.record_read.specs.declared.records.Registered.{Registered}
+use Rattle.record_read.specs.declared.records.Payment.{Payment}
+use Rattle.record_read.specs.declared.records.Form.{Form}
+use Rattle.record_read.specs.declared.records.Terms.{Terms}
+use Rattle.record_read.specs.declared.records.Transfers.{Transfers}
+use Rattle.record_read.specs.declared.records.Acts.{Acts}
 use Rattle.record_read.specs.Certs.{cert_in}
 use Rattle.record_read.specs.Entries.{slot_in, network_in, epoch_length_in, genesis_version_in, scripts_in, committee_in, genesis_output_in, genesis_account_in, genesis_pool_in, genesis_drep_in, output_in, proposal_in, vote_record_in}
 use Rattle.record_read.specs.Fields.{needed, optional, defaulted, needed_list, needed_distinct_list, optional_list, optional_distinct_list}
 use Rattle.record_read.specs.LineFaults.{LineFault, UnknownKind}
 
--- the ledger at the start
-unfoldable pub genesis_in : Data → Result Genesis LineFault
-genesis_in d = do
+-- the network, and how time is counted
+unfoldable pub times_in : Data → Result Times LineFault
+times_in d = do
   network ← needed fields.Network network_in d
   slot ← needed fields.Slot slot_in d
   epoch_length ← needed fields.EpochLength epoch_length_in d
   version ← needed fields.Version genesis_version_in d
+  Ok (record { network = network; slot = slot; epoch_length = epoch_length; version = version })
+
+-- the lovelace outside accounts and outputs, and the parameters
+unfoldable pub funds_in : Data → Result Funds LineFault
+funds_in d = do
   supply ← needed fields.Supply u64_in d
   reserves ← needed fields.Reserves u64_in d
   treasury ← needed fields.Treasury u64_in d
   params ← needed fields.Params params_in d
+  Ok (record { supply = supply; reserves = reserves; treasury = treasury; params = params })
+
+-- the constitution, the committee and the outputs
+unfoldable pub founding_in : Data → Result Founding LineFault
+founding_in d = do
   document ← needed fields.Document hash32_in d
   script ← optional fields.Script hash28_in d
   committee ← optional fields.Committee committee_in d
   outputs ← needed_list fields.Outputs LIST_LIMIT genesis_output_in d
+  Ok (record { document = document; script = script; committee = committee; outputs = outputs })
+
+-- those who are registered
+unfoldable pub registered_in : Data → Result Registered LineFault
+registered_in d = do
   accounts ← needed_list fields.Accounts LIST_LIMIT genesis_account_in d
   pools ← needed_list fields.Pools LIST_LIMIT genesis_pool_in d
   dreps ← needed_list fields.Dreps LIST_LIMIT genesis_drep_in d
+  Ok (record { accounts = accounts; pools = pools; dreps = dreps })
+
+-- the ledger at the start
+unfoldable pub genesis_in : Data → Result Genesis LineFault
+genesis_in d = do
+  times ← times_in d
+  funds ← funds_in d
+  founding ← founding_in d
+  registered ← registered_in d
   Ok (record {
-    network = network;
-    slot = slot;
-    epoch_length = epoch_length;
-    version = version;
-    supply = supply;
-    reserves = reserves;
-    treasury = treasury;
-    params = params;
-    document = document;
-    script = script;
-    committee = committee;
-    outputs = outputs;
-    accounts = accounts;
-    pools = pools;
-    dreps = dreps;
+    network = times.network;
+    slot = times.slot;
+    epoch_length = times.epoch_length;
+    version = times.version;
+    supply = funds.supply;
+    reserves = funds.reserves;
+    treasury = funds.treasury;
+    params = funds.params;
+    document = founding.document;
+    script = founding.script;
+    committee = founding.committee;
+    outputs = founding.outputs;
+    accounts = registered.accounts;
+    pools = registered.pools;
+    dreps = registered.dreps;
   })
 
 -- a block
@@ -76,46 +109,76 @@ rewards_in d = do
   rewards ← needed_distinct_list fields.Rewards credential_cmp (λ r. r.0) LIST_LIMIT (both_in credential_in u64_in) d
   Ok (record { epoch = epoch; from_reserves = from_reserves; from_fees = from_fees; to_treasury = to_treasury; rewards = rewards })
 
--- a transaction
-unfoldable pub tx_in : Data → Result Tx LineFault
-tx_in d = do
+-- what is spent and made
+unfoldable pub payment_in : Data → Result Payment LineFault
+payment_in d = do
   id ← needed fields.Id tx_id_in d
   inputs ← needed_list fields.Inputs TX_LIST_LIMIT ref_in d
   outputs ← needed_list fields.Outputs OUTPUT_LIMIT output_in d
   fee ← needed fields.Fee u64_in d
+  Ok (record { id = id; inputs = inputs; outputs = outputs; fee = fee })
+
+-- the size, the witnesses and the scripts
+unfoldable pub form_in : Data → Result Form LineFault
+form_in d = do
   size ← needed fields.Size u32_in d
   script_fee ← defaulted 0 fields.ScriptFee u64_in d
   witnessed ← defaulted true fields.Witnessed bool_in d
   scripts ← defaulted Absent fields.Scripts scripts_in d
+  Ok (record { size = size; script_fee = script_fee; witnessed = witnessed; scripts = scripts })
+
+-- when it may stand, and what it loses where its scripts fail
+unfoldable pub terms_in : Data → Result Terms LineFault
+terms_in d = do
   from ← optional fields.From slot_in d
   until ← optional fields.Until slot_in d
   collateral ← optional_list fields.Collateral TX_LIST_LIMIT ref_in d
   collateral_return ← optional fields.CollateralReturn output_in d
+  Ok (record { from = from; until = until; collateral = collateral; collateral_return = collateral_return })
+
+-- what it says of the treasury, and takes from accounts
+unfoldable pub transfers_in : Data → Result Transfers LineFault
+transfers_in d = do
   treasury ← optional fields.Treasury u64_in d
   donation ← defaulted 0 fields.Donation u64_in d
   withdrawals ← optional_distinct_list fields.Withdrawals account_cmp (λ x. x.0) TX_LIST_LIMIT (both_in account_in u64_in) d
+  Ok (record { treasury = treasury; donation = donation; withdrawals = withdrawals })
+
+-- what it does beside paying
+unfoldable pub acts_in : Data → Result Acts LineFault
+acts_in d = do
   certs ← optional_list fields.Certs TX_LIST_LIMIT cert_in d
   proposals ← optional_list fields.Proposals TX_LIST_LIMIT proposal_in d
   votes ← optional_list fields.Votes TX_LIST_LIMIT vote_record_in d
+  Ok (record { certs = certs; proposals = proposals; votes = votes })
+
+-- a transaction
+unfoldable pub tx_in : Data → Result Tx LineFault
+tx_in d = do
+  payment ← payment_in d
+  form ← form_in d
+  terms ← terms_in d
+  transfers ← transfers_in d
+  acts ← acts_in d
   Ok (record {
-    id = id;
-    inputs = inputs;
-    outputs = outputs;
-    fee = fee;
-    size = size;
-    script_fee = script_fee;
-    witnessed = witnessed;
-    scripts = scripts;
-    from = from;
-    until = until;
-    collateral = collateral;
-    collateral_return = collateral_return;
-    treasury = treasury;
-    donation = donation;
-    withdrawals = withdrawals;
-    certs = certs;
-    proposals = proposals;
-    votes = votes;
+    id = payment.id;
+    inputs = payment.inputs;
+    outputs = payment.outputs;
+    fee = payment.fee;
+    size = form.size;
+    script_fee = form.script_fee;
+    witnessed = form.witnessed;
+    scripts = form.scripts;
+    from = terms.from;
+    until = terms.until;
+    collateral = terms.collateral;
+    collateral_return = terms.collateral_return;
+    treasury = transfers.treasury;
+    donation = transfers.donation;
+    withdrawals = transfers.withdrawals;
+    certs = acts.certs;
+    proposals = acts.proposals;
+    votes = acts.votes;
   })
 
 -- what a print asks for

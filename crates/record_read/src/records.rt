@@ -2,9 +2,10 @@ ghost use Rattle.std.specs.Prelude.{◌≡◌, codes};
 ghost use Rattle.std.specs.Result.{result_map_both};
 ghost use Rattle.serde_json.specs.View.{view};
 ghost use Rattle.json_fields.specs.Entries.{needed_in};
-ghost use Rattle.json_fields.specs.Kinds.{text_in};
+ghost use Rattle.json_fields.specs.Kinds.{ref_in, text_in};
 ghost use Rattle.record_read.specs.Reads.{ReadsRecord};
-ghost use Rattle.record_read.specs.Records.{genesis_in, block_in, rewards_in, tx_in, print_in, record_of_kind, record_in};
+ghost use Rattle.record_read.specs.Fields as fields;
+ghost use Rattle.record_read.specs.Records.{times_in, funds_in, founding_in, registered_in, genesis_in, block_in, rewards_in, payment_in, form_in, terms_in, transfers_in, acts_in, tx_in, print_in, record_of_kind, record_in};
 
 use crate::certs::CertEntry;
 use crate::entries::{
@@ -17,36 +18,145 @@ use crate::fields::{
     optional_field, optional_list,
 };
 use action_read::ParamsField;
-use gov_ids::{Account, Credential, OutRef, TxId};
+use gov_ids::{Account, Address, Credential, Drep, OutRef, PoolId, TxId};
 use json_fields::{FieldFault, Kind, read_text};
-use listed::Boxed;
+use listed::{Boxed, Listed};
 use out_refs::OutRefs;
+use pparams::Params;
 use record_members::Members;
 use serde_json::Value;
 use std::alloc::Global;
 use tx_records::limits::{LIST_LIMIT, OUTPUT_LIMIT, TX_LIST_LIMIT};
-use tx_records::{FieldName, Genesis, Record, Rewards, Scripts, Tx, What};
+use tx_records::{
+    Cert, FieldName, Genesis, GenesisCommittee, GenesisPool, ProposalRecord, Record, Rewards,
+    Scripts, Tx, TxOutput, VoteRecord, What,
+};
+
+/// The network, and how time is counted.
+struct Times {
+    network: u8,
+    slot: u64,
+    epoch_length: u32,
+    version: (u32, u32),
+}
+
+/// The lovelace outside accounts and outputs, and the parameters.
+struct Funds {
+    supply: u64,
+    reserves: u64,
+    treasury: u64,
+    params: Params,
+}
+
+/// The constitution, the committee and the outputs.
+struct Founding {
+    document: [u8; 32],
+    script: Option<[u8; 28]>,
+    committee: Option<GenesisCommittee>,
+    outputs: Listed<(OutRef, Address, u64)>,
+}
+
+/// Those who are registered.
+struct Registered {
+    accounts: Listed<(Credential, u64, u64, Option<PoolId>, Option<Drep>)>,
+    pools: Listed<GenesisPool>,
+    dreps: Listed<(Credential, u64, u64)>,
+}
+
+/// The network, and how time is counted.
+#[tactic(auto, unfolding(crate::specs::Records::times_in))]
+fn read_times(alloc: Global, object: &Members<'_>) -> Result<Times, RecordFault>
+    ensures { ReadsRecord result (times_in (view object.now)) }
+{
+    let network = needed_field::<Network>(alloc, object, FieldName::Network)?;
+    let slot = needed_field::<Slot>(alloc, object, FieldName::Slot)?;
+    let epoch_length = needed_field::<EpochLength>(alloc, object, FieldName::EpochLength)?;
+    let version = needed_field::<GenesisVersion>(alloc, object, FieldName::Version)?;
+    Ok(Times {
+        network,
+        slot,
+        epoch_length,
+        version,
+    })
+}
+
+/// The lovelace outside accounts and outputs, and the parameters.
+#[tactic(auto, unfolding(crate::specs::Records::funds_in))]
+fn read_funds(alloc: Global, object: &Members<'_>) -> Result<Funds, RecordFault>
+    ensures { ReadsRecord result (funds_in (view object.now)) }
+{
+    let supply = needed_field::<u64>(alloc, object, FieldName::Supply)?;
+    let reserves = needed_field::<u64>(alloc, object, FieldName::Reserves)?;
+    let treasury = needed_field::<u64>(alloc, object, FieldName::Treasury)?;
+    let params = needed_field::<ParamsField>(alloc, object, FieldName::Params)?;
+    Ok(Funds {
+        supply,
+        reserves,
+        treasury,
+        params,
+    })
+}
+
+/// The constitution, the committee and the outputs.
+#[tactic(auto, unfolding(crate::specs::Records::founding_in))]
+fn read_founding(alloc: Global, object: &Members<'_>) -> Result<Founding, RecordFault>
+    ensures { ReadsRecord result (founding_in (view object.now)) }
+{
+    let document = needed_field::<[u8; 32]>(alloc, object, FieldName::Document)?;
+    let script = optional_field::<[u8; 28]>(alloc, object, FieldName::Script)?;
+    let committee = optional_field::<Committee>(alloc, object, FieldName::Committee)?;
+    let outputs = needed_list::<GenesisOutput>(alloc, object, FieldName::Outputs, LIST_LIMIT)?;
+    Ok(Founding {
+        document,
+        script,
+        committee,
+        outputs,
+    })
+}
+
+/// Those who are registered.
+#[tactic(auto, unfolding(crate::specs::Records::registered_in))]
+fn read_registered(alloc: Global, object: &Members<'_>) -> Result<Registered, RecordFault>
+    ensures { ReadsRecord result (registered_in (view object.now)) }
+{
+    let accounts = needed_list::<GenesisAccount>(alloc, object, FieldName::Accounts, LIST_LIMIT)?;
+    let pools = needed_list::<GenesisPoolEntry>(alloc, object, FieldName::Pools, LIST_LIMIT)?;
+    let dreps = needed_list::<GenesisDrep>(alloc, object, FieldName::Dreps, LIST_LIMIT)?;
+    Ok(Registered {
+        accounts,
+        pools,
+        dreps,
+    })
+}
 
 /// The ledger at the start.
 #[tactic(auto, unfolding(crate::specs::Records::genesis_in))]
 fn genesis(alloc: Global, object: &Members<'_>) -> Result<Genesis, RecordFault>
     ensures { ReadsRecord result (genesis_in (view object.now)) }
 {
-    let network = needed_field::<Network>(alloc, object, FieldName::Network)?;
-    let slot = needed_field::<Slot>(alloc, object, FieldName::Slot)?;
-    let epoch_length = needed_field::<EpochLength>(alloc, object, FieldName::EpochLength)?;
-    let version = needed_field::<GenesisVersion>(alloc, object, FieldName::Version)?;
-    let supply = needed_field::<u64>(alloc, object, FieldName::Supply)?;
-    let reserves = needed_field::<u64>(alloc, object, FieldName::Reserves)?;
-    let treasury = needed_field::<u64>(alloc, object, FieldName::Treasury)?;
-    let params = needed_field::<ParamsField>(alloc, object, FieldName::Params)?;
-    let document = needed_field::<[u8; 32]>(alloc, object, FieldName::Document)?;
-    let script = optional_field::<[u8; 28]>(alloc, object, FieldName::Script)?;
-    let committee = optional_field::<Committee>(alloc, object, FieldName::Committee)?;
-    let outputs = needed_list::<GenesisOutput>(alloc, object, FieldName::Outputs, LIST_LIMIT)?;
-    let accounts = needed_list::<GenesisAccount>(alloc, object, FieldName::Accounts, LIST_LIMIT)?;
-    let pools = needed_list::<GenesisPoolEntry>(alloc, object, FieldName::Pools, LIST_LIMIT)?;
-    let dreps = needed_list::<GenesisDrep>(alloc, object, FieldName::Dreps, LIST_LIMIT)?;
+    let Times {
+        network,
+        slot,
+        epoch_length,
+        version,
+    } = read_times(alloc, object)?;
+    let Funds {
+        supply,
+        reserves,
+        treasury,
+        params,
+    } = read_funds(alloc, object)?;
+    let Founding {
+        document,
+        script,
+        committee,
+        outputs,
+    } = read_founding(alloc, object)?;
+    let Registered {
+        accounts,
+        pools,
+        dreps,
+    } = read_registered(alloc, object)?;
     Ok(Genesis {
         network,
         slot,
@@ -100,15 +210,86 @@ fn rewards(alloc: Global, object: &Members<'_>) -> Result<Rewards, RecordFault>
     })
 }
 
-/// A transaction.
-#[tactic(auto, unfolding(crate::specs::Records::tx_in))]
-fn tx(alloc: Global, object: &Members<'_>) -> Result<Tx, RecordFault>
-    ensures { ReadsRecord result (tx_in (view object.now)) }
+/// What is spent and made.
+struct Payment {
+    id: TxId,
+    inputs: OutRefs,
+    outputs: Listed<TxOutput>,
+    fee: u64,
+}
+
+/// The size, the witnesses and the scripts.
+struct Form {
+    size: u32,
+    script_fee: u64,
+    witnessed: bool,
+    scripts: Scripts,
+}
+
+/// When it may stand, and what it loses where its scripts fail.
+struct Terms {
+    from: Option<u64>,
+    until: Option<u64>,
+    collateral: OutRefs,
+    collateral_return: Option<TxOutput>,
+}
+
+/// What it says of the treasury, and takes from accounts.
+struct Transfers {
+    treasury: Option<u64>,
+    donation: u64,
+    withdrawals: Listed<(Account, u64)>,
+}
+
+/// What it does beside paying.
+struct Acts {
+    certs: Listed<Cert>,
+    proposals: Listed<ProposalRecord>,
+    votes: Listed<VoteRecord>,
+}
+
+/// A list of references, in a field that has to be there.
+fn needed_refs(alloc: Global, object: &Members<'_>, name: FieldName) -> Result<OutRefs, RecordFault>
+    ensures { ReadsRecord result (fields.needed_list name TX_LIST_LIMIT ref_in (view object.now)) }
+{
+    let refs = needed_list::<OutRef>(alloc, object, name, TX_LIST_LIMIT)?;
+    Ok(OutRefs::from_vec(alloc, refs.into_vec())?)
+}
+
+/// A list of references, in a field that may be absent or null.
+fn optional_refs(
+    alloc: Global,
+    object: &Members<'_>,
+    name: FieldName,
+) -> Result<OutRefs, RecordFault>
+    ensures { ReadsRecord result (fields.optional_list name TX_LIST_LIMIT ref_in (view object.now)) }
+{
+    let refs = optional_list::<OutRef>(alloc, object, name, TX_LIST_LIMIT)?;
+    Ok(OutRefs::from_vec(alloc, refs.into_vec())?)
+}
+
+/// What is spent and made.
+#[tactic(auto, unfolding(crate::specs::Records::payment_in))]
+fn read_payment(alloc: Global, object: &Members<'_>) -> Result<Payment, RecordFault>
+    ensures { ReadsRecord result (payment_in (view object.now)) }
 {
     let id = needed_field::<TxId>(alloc, object, FieldName::Id)?;
-    let inputs = needed_list::<OutRef>(alloc, object, FieldName::Inputs, TX_LIST_LIMIT)?;
+    let inputs = needed_refs(alloc, object, FieldName::Inputs)?;
     let outputs = needed_list::<Output>(alloc, object, FieldName::Outputs, OUTPUT_LIMIT)?;
     let fee = needed_field::<u64>(alloc, object, FieldName::Fee)?;
+    Ok(Payment {
+        id,
+        inputs,
+        outputs,
+        fee,
+    })
+}
+
+/// The size, the witnesses and the scripts.
+#[tactic(auto, unfolding(crate::specs::Records::form_in))]
+fn read_form(alloc: Global, object: &Members<'_>) -> Result<Form, RecordFault>
+    ensures { ReadsRecord result (form_in (view object.now)) }
+{
     let size = needed_field::<u32>(alloc, object, FieldName::Size)?;
     let script_fee = defaulted_field::<u64>(alloc, object, FieldName::ScriptFee, 0)?;
     let witnessed = defaulted_field::<bool>(alloc, object, FieldName::Witnessed, true)?;
@@ -118,10 +299,36 @@ fn tx(alloc: Global, object: &Members<'_>) -> Result<Tx, RecordFault>
         FieldName::Scripts,
         Scripts::Absent,
     )?;
+    Ok(Form {
+        size,
+        script_fee,
+        witnessed,
+        scripts,
+    })
+}
+
+/// When it may stand, and what it loses where its scripts fail.
+#[tactic(auto, unfolding(crate::specs::Records::terms_in))]
+fn read_terms(alloc: Global, object: &Members<'_>) -> Result<Terms, RecordFault>
+    ensures { ReadsRecord result (terms_in (view object.now)) }
+{
     let from = optional_field::<Slot>(alloc, object, FieldName::From)?;
     let until = optional_field::<Slot>(alloc, object, FieldName::Until)?;
-    let collateral = optional_list::<OutRef>(alloc, object, FieldName::Collateral, TX_LIST_LIMIT)?;
+    let collateral = optional_refs(alloc, object, FieldName::Collateral)?;
     let collateral_return = optional_field::<Output>(alloc, object, FieldName::CollateralReturn)?;
+    Ok(Terms {
+        from,
+        until,
+        collateral,
+        collateral_return,
+    })
+}
+
+/// What it says of the treasury, and takes from accounts.
+#[tactic(auto, unfolding(crate::specs::Records::transfers_in))]
+fn read_transfers(alloc: Global, object: &Members<'_>) -> Result<Transfers, RecordFault>
+    ensures { ReadsRecord result (transfers_in (view object.now)) }
+{
     let treasury = optional_field::<u64>(alloc, object, FieldName::Treasury)?;
     let donation = defaulted_field::<u64>(alloc, object, FieldName::Donation, 0)?;
     let withdrawals = optional_distinct_list::<(Account, u64)>(
@@ -130,6 +337,18 @@ fn tx(alloc: Global, object: &Members<'_>) -> Result<Tx, RecordFault>
         FieldName::Withdrawals,
         TX_LIST_LIMIT,
     )?;
+    Ok(Transfers {
+        treasury,
+        donation,
+        withdrawals,
+    })
+}
+
+/// What it does beside paying.
+#[tactic(auto, unfolding(crate::specs::Records::acts_in))]
+fn read_acts(alloc: Global, object: &Members<'_>) -> Result<Acts, RecordFault>
+    ensures { ReadsRecord result (acts_in (view object.now)) }
+{
     let certs = optional_list::<CertEntry>(alloc, object, FieldName::Certs, TX_LIST_LIMIT)?;
     let proposals = optional_list::<ProposalEntry>(
         alloc,
@@ -138,9 +357,49 @@ fn tx(alloc: Global, object: &Members<'_>) -> Result<Tx, RecordFault>
         TX_LIST_LIMIT,
     )?;
     let votes = optional_list::<VoteEntry>(alloc, object, FieldName::Votes, TX_LIST_LIMIT)?;
+    Ok(Acts {
+        certs,
+        proposals,
+        votes,
+    })
+}
+
+/// A transaction.
+#[tactic(auto, unfolding(crate::specs::Records::tx_in))]
+fn tx(alloc: Global, object: &Members<'_>) -> Result<Tx, RecordFault>
+    ensures { ReadsRecord result (tx_in (view object.now)) }
+{
+    let Payment {
+        id,
+        inputs,
+        outputs,
+        fee,
+    } = read_payment(alloc, object)?;
+    let Form {
+        size,
+        script_fee,
+        witnessed,
+        scripts,
+    } = read_form(alloc, object)?;
+    let Terms {
+        from,
+        until,
+        collateral,
+        collateral_return,
+    } = read_terms(alloc, object)?;
+    let Transfers {
+        treasury,
+        donation,
+        withdrawals,
+    } = read_transfers(alloc, object)?;
+    let Acts {
+        certs,
+        proposals,
+        votes,
+    } = read_acts(alloc, object)?;
     Ok(Tx {
         id,
-        inputs: OutRefs::from_vec(alloc, inputs.into_vec())?,
+        inputs,
         outputs,
         fee,
         size,
@@ -149,7 +408,7 @@ fn tx(alloc: Global, object: &Members<'_>) -> Result<Tx, RecordFault>
         scripts,
         from,
         until,
-        collateral: OutRefs::from_vec(alloc, collateral.into_vec())?,
+        collateral,
         collateral_return,
         treasury,
         donation,
