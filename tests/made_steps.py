@@ -305,7 +305,7 @@ class Maker:
     def good(self):
         """A transaction that breaks no rule, where there are outputs enough."""
         r, slot = self.r, self.ledger["slot"]
-        tx = filled({"kind": "tx", "id": self.tx, "inputs": [], "outputs": [], "fee": 0, "size": r.randrange(400)})
+        tx = filled({"kind": "tx", "id": self.tx, "inputs": [], "outputs": [], "fee": 0, "size": r.choice([r.randrange(400), r.randrange(400), 400])})
         tx["scriptFee"], tx["donation"] = r.choice([0, 0, 0, 5]), r.choice([0, 0, 0, 30])
         tx["from"], tx["until"] = r.choice([None, None, slot, max(0, slot - 1)]), r.choice([None, None, slot + 1, slot + 9])
         tx["treasury"] = r.choice([None, None, None, self.ledger["treasury"]])
