@@ -4,6 +4,7 @@ They are those of examples/, tests/streams/ and tests/streams/worked/ (NAME.in, 
 NAME.args, one word a line, `replay` if absent), those of tests/streams/whole that WHOLE names, and the one that the program itself
 keeps."""
 
+import os
 from pathlib import Path
 
 from cases import Case
@@ -30,6 +31,15 @@ WHOLE = (
     "genesis_unknown_pool",
     "parameters_set_to_zero",
 )
+
+
+def is_missing(program, script):
+    """Whether there is no program to run, which is told in the name of the script."""
+    missing = not (program.is_file() and os.access(program, os.X_OK))
+    if missing:
+        where = program.relative_to(TOP) if program.is_relative_to(TOP) else program
+        print(f"{script}: there is no program at {where}: run rt ci first")
+    return missing
 
 
 def case_in(stream):
