@@ -39,6 +39,12 @@ ROLES = ["committee", "drep", "pool", "pool"]
 SIZES = (0, 29, 57, 65)
 # how often an item is made until one is as it is asked for
 TRIES = 200
+# records that are read and not built yet
+NOT_BUILT = [
+    {"kind": "print", "what": "state"},
+    {"kind": "block", "slot": 60, "pulse": 1},
+    {"kind": "rewards", "epoch": 0, "fromReserves": 0, "fromFees": 0, "toTreasury": 0, "rewards": []},
+]
 
 
 # ---- the genesis
@@ -299,7 +305,7 @@ class Maker:
     def good(self):
         """A transaction that breaks no rule, where there are outputs enough."""
         r, slot = self.r, self.ledger["slot"]
-        tx = filled({"kind": "tx", "id": self.tx, "inputs": [], "outputs": [], "fee": 0, "size": r.randrange(400)})
+        tx = filled({"kind": "tx", "id": self.tx, "inputs": [], "outputs": [], "fee": 0, "size": r.choice([r.randrange(400), r.randrange(400), 400])})
         tx["scriptFee"], tx["donation"] = r.choice([0, 0, 0, 5]), r.choice([0, 0, 0, 30])
         tx["from"], tx["until"] = r.choice([None, None, slot, max(0, slot - 1)]), r.choice([None, None, slot + 1, slot + 9])
         tx["treasury"] = r.choice([None, None, None, self.ledger["treasury"]])
@@ -430,13 +436,15 @@ def short(tx):
 
 
 def a_stream(r):
-    """A genesis and some 20 to 40 records."""
+    """A genesis, some 20 to 40 transactions, and other records between them."""
     genesis = a_genesis(r)
     records, ledger = [genesis], ledger_of(genesis)
     number = 10
     for _ in range(r.randrange(20, 41)):
         if r.random() < 0.1:
             records.append({"kind": "print", "what": "pots"})
+        if r.random() < 0.02:
+            records.append(r.choice([genesis, *NOT_BUILT]))
         maker = Maker(r, ledger, tx_id(number))
         tx = maker.good()
         for rule in r.sample([*NAMES], r.choice([0, 0, 1, 1, 2])):

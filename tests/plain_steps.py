@@ -2,7 +2,8 @@
 
 It knows nothing of the definitions and of the crates, and looks everything up anew. A ledger is a map; of its parts `outputs`,
 `accounts`, `pools`, `dreps` and `hot` are maps by name, `proposals` is a list in order of submission. Records are as
-`json.loads` gives them, with ids in lower case; a transaction has been through `filled`."""
+`json.loads` gives them, with ids in lower case; a transaction has been through `filled`. It reads no lines: that a record can
+be read, and that a genesis breaks no rule of one, is asked of the caller."""
 
 from copy import deepcopy
 from typing import NamedTuple, Optional
@@ -605,14 +606,24 @@ def applied(ledger, tx):
     return ledger, broken.rule, f"refused {broken.rule} {NAMES[broken.rule]}{place} {broken.kept}".rstrip()
 
 
+def answer_to(ledger, record):
+    """The ledger after a record past the genesis, and the answer to it."""
+    if record["kind"] == "genesis":
+        return ledger, "refused 3 GenesisAgain"
+    if record["kind"] == "tx":
+        ledger, _, answer = applied(ledger, record)
+        return ledger, answer
+    if record["kind"] == "print" and record["what"] == "pots":
+        return ledger, f"pots {pots(ledger)}"
+    # blocks, reward updates and prints of the state are read and not built yet
+    return ledger, "refused 9 NotBuilt"
+
+
 def answers(records):
-    """The text of a stream: a genesis, then transactions and prints of the pots."""
-    ledger, lines = ledger_of(records[0]), []
-    lines.append(f"1 genesis {pots(ledger)}\n")
+    """The text of a stream: a genesis that breaks no rule of one, then further records."""
+    ledger = ledger_of(records[0])
+    lines = [f"1 genesis {pots(ledger)}\n"]
     for number, it in enumerate(records[1:], 2):
-        if it["kind"] == "print":
-            answer = f"pots {pots(ledger)}"
-        else:
-            ledger, _, answer = applied(ledger, it)
+        ledger, answer = answer_to(ledger, it)
         lines.append(f"{number} {answer}\n")
     return "".join(lines)

@@ -54,6 +54,11 @@ class Wrong(NamedTuple):
             text = text.replace(old, new)
         return None
 
+    def nothing(self):
+        """What is expected to refuse it, and is neither a stream, nor a module of rows, nor a crate."""
+        places = (lambda it: STREAMS / f"{it}.in", lambda it: ROWS / f"{it}.antt", lambda it: TOP / "crates" / it)
+        return [it for it in self.by if not any(place(it).exists() for place in places)]
+
     def text(self):
         """The changed file."""
         if self.fault():
