@@ -50,9 +50,10 @@ fn entry(rewards: u64, to: u8) -> Entry {
 fn put_all(book: &mut AccountBook, entries: [(u8, u64, u8); 3]) -> Result<(), NoMemory>
     ensures { frozen_of credential_cmp book.new ≡ frozen_of credential_cmp book.old }
 {
-    for (byte, rewards, to) in entries {
-        book.put(key(byte), entry(rewards, to))?;
-    }
+    let [first, second, third] = entries;
+    book.put(key(first.0), entry(first.1, first.2))?;
+    book.put(key(second.0), entry(second.1, second.2))?;
+    book.put(key(third.0), entry(third.1, third.2))?;
     Ok(())
 }
 
@@ -66,10 +67,14 @@ fn dreps(alloc: Global) -> Result<DrepBook, NoMemory> {
 }
 
 // A count of the frozen entries, which hold little.
-fn begun(rt: &impl Abort, alloc: Global, book: &AccountBook) -> Result<Counting, NoMemory>
+fn begun(
+    rt: &impl Abort,
+    alloc: Global,
+    book: &AccountBook,
+    deposits: &TotalMap<Credential>,
+) -> Result<Counting, NoMemory>
     ensures { IfOk result (IsCountIn (frozen_of credential_cmp book.now)) }
 {
-    let deposits = TotalMap::new(alloc);
     let mut held = deposits.total();
     for (_, entry) in book.frozen_past(None) {
         let rewards = entry.registered.map_or(0, |r| r.rewards);
@@ -78,7 +83,7 @@ fn begun(rt: &impl Abort, alloc: Global, book: &AccountBook) -> Result<Counting,
         assert!(rt; rewards < 1000);
         held += entry.stake + rewards;
     }
-    begin(alloc, book, &dreps(alloc)?, &deposits, 1)
+    begin(alloc, book, &dreps(alloc)?, deposits, 1)
 }
 
 // One visited, then changes before the cursor and behind it, then the rest.
@@ -95,7 +100,9 @@ fn counts_what_was_frozen_on<L: Ledger>(
     let mut book = AccountBook::new(alloc);
     put_all(&mut book, [(10, 67, BOB), (11, 33, EVE), (12, 0, 0)])?;
     book.freeze();
-    let Pulser::Counting(counting) = begun(rt, alloc, &book)?.pulse(&book, 1, &mut steps) else {
+    let deposits = TotalMap::new(alloc);
+    let counting = begun(rt, alloc, &book, &deposits)?;
+    let Pulser::Counting(counting) = counting.pulse(&book, 1, &mut steps) else {
         panic!(rt; "one of three is all");
     };
     let seen = [
@@ -126,7 +133,8 @@ fn ends_on<L: Ledger>(rt: &impl Abort, alloc: Global, blank: Blank) -> Result<()
 {
     let mut steps = Steps::<L>::open(blank);
     let none = AccountBook::new(alloc);
-    let pulser = begun(rt, alloc, &none)?.pulse(&none, u32::MAX, &mut steps);
+    let deposits = TotalMap::new(alloc);
+    let pulser = begun(rt, alloc, &none, &deposits)?.pulse(&none, u32::MAX, &mut steps);
     assert!(rt; matches!(pulser, Pulser::Counted(_)));
     Ok(())
 }
