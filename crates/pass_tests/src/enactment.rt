@@ -1,16 +1,19 @@
-ghost use Rattle.std.specs.Prelude.{◌≡◌, IfOk};
+//! What each action changes, and that it changes nothing else of what is compared.
+ghost use Rattle.std.specs.Prelude.{◌≡◌, ◌≤◌, IfOk};
 ghost use Rattle.gov_ids.specs.Orders.{credential_cmp};
 ghost use Rattle.gov_model.specs.Enacted.{withdrawn_by};
 ghost use Rattle.gov_model.specs.Sides.{members_of};
 ghost use Rattle.maps.specs.Maps.{IsMap};
 
-use enact::*;
 use coin_frac::{Ratio, Unit};
 use credential_list::CredentialList;
-use gov_ids::{Account, CredKind, Credential, TxId};
+use enact::Enact;
+use gov_actions::{Action, EnactState, LastIds};
+use gov_ids::{Account, ActionId, CredKind, Credential, TxId};
 use listed::Listed;
 use pparams::{Params, Update};
 use std::alloc::Global;
+use std::process::Abort;
 use std::test::Fail;
 
 const NO_UPDATE: Update = Update {
@@ -46,10 +49,8 @@ const NO_UPDATE: Update = Update {
     committee_max_term_length: None,
 };
 
-fn params() -> Result<Params, Fail> {
-    let half = Unit::new(1, 2)?;
-    let one = Ratio::new(1, 1)?;
-    Ok(Params {
+fn params(half: Unit, one: Ratio) -> Params {
+    Params {
         max_block_body_size: 90_112,
         max_tx_size: 16_384,
         max_block_header_size: 1_100,
@@ -80,16 +81,16 @@ fn params() -> Result<Params, Fail> {
         drep_activity: 20,
         committee_min_size: 7,
         committee_max_term_length: 146,
-    })
+    }
 }
 
 // No committee, no action enacted, a treasury of 100.
-fn start() -> Result<EnactState, Fail>
-    ensures treasury { IfOk result (λ s. s.treasury ≡ 100) }
-    ensures in_order { IfOk result (λ s. IsMap credential_cmp (members_of s.committee)) }
+fn bare(params: Params) -> EnactState
+    ensures treasury { result.treasury ≡ 100 }
+    ensures in_order { IsMap credential_cmp (members_of result.committee) }
 {
-    Ok(EnactState {
-        params: params()?,
+    EnactState {
+        params,
         version: (9, 0),
         committee: None,
         document: [1; 32],
@@ -101,7 +102,7 @@ fn start() -> Result<EnactState, Fail>
             parameters: None,
         },
         treasury: 100,
-    })
+    }
 }
 
 fn id(byte: u8) -> ActionId {
@@ -118,7 +119,14 @@ fn key(byte: u8) -> Credential {
     }
 }
 
-fn update(
+fn account(byte: u8) -> Account {
+    Account {
+        network: 1,
+        cred: key(byte),
+    }
+}
+
+fn committee(
     alloc: Global,
     remove: &[Credential],
     add: &[(Credential, u64)],
@@ -134,81 +142,137 @@ fn update(
     })
 }
 
-#[test]
-fn withdrawals_come_from_the_treasury(rt: HostRuntime) -> Result<(), Fail> {
-    let account = |cred| Account { network: 1, cred };
-    let targets = [(account(key(1)), 30), (account(key(2)), 12)].to_vec(rt.alloc())?;
-    let withdrawals = Action::TreasuryWithdrawals {
-        targets: Listed::from_vec(targets),
+fn withdrawal(alloc: Global) -> Result<Action, Fail>
+    ensures { IfOk result (λ a. withdrawn_by a ≡ 42) }
+{
+    Ok(Action::TreasuryWithdrawals {
+        targets: Listed::from_vec([(account(1), 30), (account(2), 12)].to_vec(alloc)?),
         policy: None,
-    };
-    let after = start()?.apply(id(7), &withdrawals)?;
-    assert_eq!(rt; after.treasury, 58);
-    assert_eq!(rt; after.last.parameters, None);
-    Ok(())
+    })
 }
 
-#[test]
-fn committees_change_and_are_dismissed(rt: HostRuntime) -> Result<(), Fail> {
-    let alloc = rt.alloc();
-    let first = update(alloc, &[], &[(key(2), 20), (key(1), 10)], Unit::new(1, 2)?)?;
-    let second = update(
-        alloc,
-        &[key(1), key(3)],
-        &[(key(3), 30), (key(2), 25)],
-        Unit::new(2, 3)?,
-    )?;
-    let after = start()?.apply(id(7), &first)?.apply(id(8), &second)?;
-    let members = [(key(2), 25), (key(3), 30)];
-    assert_eq!(rt;
-        after.committee.as_ref().map(|c| c.members.as_slice()),
-        Some(members.as_slice())
-    );
-    assert_eq!(rt;
-        after.committee.as_ref().map(|c| c.threshold),
-        Some(Unit::new(2, 3)?)
-    );
-    let after = after.apply(id(9), &Action::NoConfidence { previous: None })?;
-    assert!(rt; after.committee.is_none());
-    assert_eq!(rt; after.last.committee, Some(id(9)));
-    Ok(())
-}
-
-#[test]
-fn the_others_change_what_they_name(rt: HostRuntime) -> Result<(), Fail> {
-    let constitution = Action::NewConstitution {
-        previous: None,
-        document: [2; 32],
-        script: None,
-    };
-    let after = start()?.apply(id(7), &constitution)?;
-    assert_eq!(rt; (after.document, after.script), ([2; 32], None));
-    assert_eq!(rt; after.last.constitution, Some(id(7)));
-    let fork = Action::HardForkInitiation {
-        previous: None,
-        version: (10, 0),
-    };
-    let after = after.apply(id(8), &fork)?;
-    assert_eq!(rt; after.version, (10, 0));
-    let change = Action::ParameterChange {
+fn change() -> Action
+    ensures { withdrawn_by result ≡ 0 }
+{
+    Action::ParameterChange {
         previous: None,
         update: Update {
             min_fee_a: Some(45),
             ..NO_UPDATE
         },
         policy: None,
+    }
+}
+
+// An action of each type, by its number in order of priority.
+fn action(alloc: Global, kind: u8) -> Result<Action, Fail>
+    ensures { IfOk result (λ a. withdrawn_by a ≤ 100) }
+{
+    match kind {
+        0 => Ok(Action::NoConfidence { previous: None }),
+        1 => committee(
+            alloc,
+            &[key(1), key(3)],
+            &[(key(3), 30), (key(2), 25)],
+            Unit::new(2, 3)?,
+        ),
+        2 => Ok(Action::NewConstitution {
+            previous: None,
+            document: [2; 32],
+            script: None,
+        }),
+        3 => Ok(Action::HardForkInitiation {
+            previous: None,
+            version: (10, 0),
+        }),
+        4 => Ok(change()),
+        5 => withdrawal(alloc),
+        _ => Ok(Action::Info),
+    }
+}
+
+// Two members, who were enacted by an action of id 6.
+fn start(rt: &impl Abort, alloc: Global) -> Result<EnactState, Fail>
+    ensures treasury { IfOk result (λ s. s.treasury ≡ 100) }
+    ensures in_order { IfOk result (λ s. IsMap credential_cmp (members_of s.committee)) }
+{
+    let half = Unit::new(1, 2)?;
+    let one = Ratio::new(1, 1)?;
+    let members = committee(alloc, &[], &[(key(2), 20), (key(1), 10)], half)?;
+    let state = bare(params(half, one)).apply(id(6), &members)?;
+    assert!(rt; state.treasury == 100);
+    Ok(state)
+}
+
+// The treasury, the version, the constitution with its script, and two parameters.
+fn held(s: &EnactState) -> [u64; 6] {
+    let script = s.script.map_or(0, |script| script[0]);
+    [
+        s.treasury,
+        u64::from(s.version.0),
+        u64::from(s.document[0]),
+        u64::from(script),
+        s.params.min_fee_a,
+        s.params.min_fee_b,
+    ]
+}
+
+fn term(s: &EnactState, byte: u8) -> u64 {
+    let Some(committee) = &s.committee else {
+        return 0;
     };
-    let after = after.apply(id(9), &change)?.apply(id(10), &Action::Info)?;
-    assert_eq!(rt;
-        (after.params.min_fee_a, after.params.min_fee_b),
-        (45, 155_381)
-    );
-    let last = LastIds {
-        committee: None,
-        constitution: Some(id(7)),
-        hardfork: Some(id(8)),
-        parameters: Some(id(9)),
-    };
-    assert_eq!(rt; after.last, last);
+    let cold = key(byte);
+    for (member, term) in committee.members.as_slice() {
+        if *member == cold {
+            return *term;
+        }
+    }
+    0
+}
+
+// The number below the line of the threshold, and the terms of three cold keys. 0 where there is none.
+fn committee_of(s: &EnactState) -> [u64; 4] {
+    let below = s.committee.as_ref().map_or(0, |c| c.threshold.den());
+    [below, term(s, 1), term(s, 2), term(s, 3)]
+}
+
+fn byte(id: Option<ActionId>) -> u8 {
+    id.map_or(0, |id| id.tx.0[0])
+}
+
+// The bytes of the last enacted ids.
+fn last(s: &EnactState) -> [u8; 4] {
+    let last = s.last;
+    [
+        byte(last.committee),
+        byte(last.constitution),
+        byte(last.hardfork),
+        byte(last.parameters),
+    ]
+}
+
+#[test]
+fn each_action_changes_what_it_names(rt: HostRuntime) -> Result<(), Fail> {
+    let rows = [
+        (0, [100, 9, 1, 1, 44, 155_381], [0, 0, 0, 0], [7, 0, 0, 0]),
+        (1, [100, 9, 1, 1, 44, 155_381], [3, 0, 25, 30], [7, 0, 0, 0]),
+        (2, [100, 9, 2, 0, 44, 155_381], [2, 10, 20, 0], [6, 7, 0, 0]),
+        (
+            3,
+            [100, 10, 1, 1, 44, 155_381],
+            [2, 10, 20, 0],
+            [6, 0, 7, 0],
+        ),
+        (4, [100, 9, 1, 1, 45, 155_381], [2, 10, 20, 0], [6, 0, 0, 7]),
+        (5, [58, 9, 1, 1, 44, 155_381], [2, 10, 20, 0], [6, 0, 0, 0]),
+        (6, [100, 9, 1, 1, 44, 155_381], [2, 10, 20, 0], [6, 0, 0, 0]),
+    ];
+    for (kind, wanted, members, ids) in rows {
+        let action = action(rt.alloc(), kind)?;
+        let after = start(&rt, rt.alloc())?.apply(id(7), &action)?;
+        assert_eq!(rt; held(&after), wanted, "at {kind}");
+        assert_eq!(rt; committee_of(&after), members, "at {kind}");
+        assert_eq!(rt; last(&after), ids, "at {kind}");
+    }
     Ok(())
 }

@@ -1,20 +1,8 @@
-//! Tests of the count and the pass as calls, on snapshots that are filled by hand. It has no code, so that a test is proved
-//! alone.
+//! Tests of what an action changes and of a count in pulses, as calls. It has no code, so that a test is proved alone. What the
+//! count, the tallies and the pass come to is shown by the rows of pass_replay.
 #![tactic(auto)]
 
 #[cfg(test)]
-mod base;
-#[cfg(test)]
-mod counting;
-#[cfg(test)]
 mod enactment;
 #[cfg(test)]
-mod judged;
-#[cfg(test)]
-mod motions;
-#[cfg(test)]
-mod proposing;
-#[cfg(test)]
 mod pulses;
-#[cfg(test)]
-mod several;

@@ -1,0 +1,138 @@
+//! Actions, by the number of their type.
+use crate::numbers::Numbers;
+use crate::stop::Result;
+use credential_list::CredentialList;
+use gov_actions::Action;
+use gov_ids::Account;
+use listed::Listed;
+use pparams::Update;
+use std::alloc::Global;
+
+const NO_UPDATE: Update = Update {
+    max_block_body_size: None,
+    max_tx_size: None,
+    max_block_header_size: None,
+    max_value_size: None,
+    max_tx_ex_units: None,
+    max_block_ex_units: None,
+    max_collateral_inputs: None,
+    min_fee_a: None,
+    min_fee_b: None,
+    key_deposit: None,
+    pool_deposit: None,
+    rho: None,
+    tau: None,
+    min_pool_cost: None,
+    coins_per_utxo_byte: None,
+    prices: None,
+    min_fee_ref_script_cost_per_byte: None,
+    a0: None,
+    e_max: None,
+    n_opt: None,
+    cost_models: None,
+    collateral_percentage: None,
+    pool_voting_thresholds: None,
+    drep_voting_thresholds: None,
+    gov_action_lifetime: None,
+    gov_action_deposit: None,
+    drep_deposit: None,
+    drep_activity: None,
+    committee_min_size: None,
+    committee_max_term_length: None,
+};
+
+fn amount(n: &mut Numbers) -> Option<u64> {
+    if n.is_there() { Some(n.next()) } else { None }
+}
+
+fn wide(n: &mut Numbers) -> Option<u32> {
+    if n.is_there() {
+        Some(n.next_u32())
+    } else {
+        None
+    }
+}
+
+fn narrow(n: &mut Numbers) -> Option<u16> {
+    if n.is_there() {
+        Some(n.next_u16())
+    } else {
+        None
+    }
+}
+
+// A parameter of each group, security parameters and others, and the thresholds by which the rest of the pass goes.
+fn update(n: &mut Numbers) -> Update {
+    Update {
+        max_tx_size: wide(n),
+        max_collateral_inputs: narrow(n),
+        key_deposit: amount(n),
+        min_fee_a: amount(n),
+        n_opt: narrow(n),
+        drep_voting_thresholds: if n.is_there() {
+            Some(n.dreps_thresholds())
+        } else {
+            None
+        },
+        pool_voting_thresholds: if n.is_there() {
+            Some(n.pools_thresholds())
+        } else {
+            None
+        },
+        committee_min_size: narrow(n),
+        committee_max_term_length: wide(n),
+        gov_action_deposit: amount(n),
+        ..NO_UPDATE
+    }
+}
+
+fn targets(alloc: Global, n: &mut Numbers) -> Result<Vec<(Account, u64)>> {
+    let mut all = Vec::new(alloc);
+    for _ in 0..n.next() {
+        let to = n.account();
+        all.push((to, n.next()))?;
+    }
+    Ok(all)
+}
+
+fn committee(alloc: Global, n: &mut Numbers) -> Result<Action> {
+    let previous = n.previous();
+    let mut remove = Vec::new(alloc);
+    for _ in 0..n.next() {
+        remove.push(n.key())?;
+    }
+    Ok(Action::UpdateCommittee {
+        previous,
+        remove: CredentialList::from_vec(alloc, remove)?,
+        add: Listed::from_vec(n.pairs(alloc)?),
+        threshold: n.unit(),
+    })
+}
+
+pub(crate) fn action(alloc: Global, n: &mut Numbers) -> Result<Action> {
+    Ok(match n.next() {
+        0 => Action::NoConfidence {
+            previous: n.previous(),
+        },
+        1 => committee(alloc, n)?,
+        2 => Action::NewConstitution {
+            previous: n.previous(),
+            document: [n.next_byte(); 32],
+            script: n.script(),
+        },
+        3 => Action::HardForkInitiation {
+            previous: n.previous(),
+            version: (n.next_u32(), n.next_u32()),
+        },
+        4 => Action::ParameterChange {
+            previous: n.previous(),
+            update: update(n),
+            policy: None,
+        },
+        5 => Action::TreasuryWithdrawals {
+            targets: Listed::from_vec(targets(alloc, n)?),
+            policy: None,
+        },
+        _ => Action::Info,
+    })
+}
