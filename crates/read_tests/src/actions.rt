@@ -1,5 +1,6 @@
 //! Parameters and actions as they stand in a stream, and what they read as, in the words of `Debug`.
 use action_read::{read_action, read_params, read_update};
+use coin_frac::{Ratio, Unit};
 use json_fields::FieldFault;
 use serde_json::Value;
 use std::test::Fail;
@@ -16,6 +17,7 @@ const PRINTED: &str =
 fn reads_params(rt: HostRuntime) -> Result<(), Fail> {
     let value = Value::from_str(rt.alloc(), PARAMS)?;
     let params = read_params(rt.alloc(), &value)?;
+    assert!(rt; params.rho == Unit::new(14, 15)? && params.a0 == Ratio::new(3, 10)?);
     let text = format!(in rt.alloc(); "{params:?}")?;
     assert!(rt; text.as_str() == PRINTED, "{text}");
     Ok(())
