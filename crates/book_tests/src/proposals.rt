@@ -63,11 +63,11 @@ pub fn add(
     Ok(())
 }
 
-#[test]
-fn keeps_votes_and_what_is_listed(rt: HostRuntime) -> Result<(), Fail> {
-    let mut store = ProposalStore::new(rt.alloc());
+/// Three proposals, and votes on two of them and on none.
+fn voted_on(rt: &impl Abort, alloc: Global) -> Result<ProposalStore, Fail> {
+    let mut store = ProposalStore::new(alloc);
     for byte in [2, 1, 3] {
-        add(&rt, &mut store, rt.alloc(), byte, fork_after(2))?;
+        add(rt, &mut store, alloc, byte, fork_after(2))?;
     }
     for (proposal, byte, vote) in [
         (1, 7, Vote::Yes),
@@ -78,9 +78,15 @@ fn keeps_votes_and_what_is_listed(rt: HostRuntime) -> Result<(), Fail> {
     ] {
         store.vote(&id(proposal), Voter::Drep(key(byte)), vote)?;
     }
+    Ok(store)
+}
+
+/// What is removed has both voters, each with its last vote.
+#[test]
+fn keeps_votes_and_what_is_listed(rt: HostRuntime) -> Result<(), Fail> {
+    let mut store = voted_on(&rt, rt.alloc())?;
     let removed = store.retain_listed([id(3), id(7), id(2)].as_slice())?;
     assert!(rt; store.len() == 2 && store.deposits() == 20);
-    // both voters, each with its last vote
     let votes = removed.first().map(|p| (p.id, p.votes.len()));
     assert!(rt; votes == Some((id(1), 2)));
     Ok(())
