@@ -1,14 +1,11 @@
-//! Tests of the books. It has no code, so that a test is proved alone.
+//! Tests of the books: each call that needs memory once, and what their rows come to. It has no code, so that a test is
+//! proved alone.
 #![tactic(auto)]
 
 #[cfg(test)]
 mod chains;
 #[cfg(test)]
 mod committee;
-#[cfg(test)]
-mod marks;
-#[cfg(test)]
-mod outputs;
 #[cfg(test)]
 mod pools;
 #[cfg(test)]
@@ -19,5 +16,3 @@ mod registrations;
 mod representatives;
 #[cfg(test)]
 mod stakes;
-#[cfg(test)]
-mod views;

@@ -1,103 +1,74 @@
+//! A store of proposals that are voted on, and from which some are taken. (Its own words serve the tests of chains.)
 ghost use Rattle.std.specs.Prelude.{◌≡◌, []};
 
-use proposal_store::*;
-use gov_actions::{Action, Proposal, Purpose, Vote};
+use gov_actions::{Action, Proposal, Vote};
 use gov_ids::{Account, ActionId, CredKind, Credential, TxId, Voter};
 use listed::Listed;
+use proposal_store::ProposalStore;
 use std::alloc::Global;
 use std::process::Abort;
 use std::test::Fail;
 
-fn id(byte: u8) -> ActionId {
+pub fn id(byte: u8) -> ActionId {
     ActionId {
         tx: TxId([byte; 32]),
         index: 0,
     }
 }
 
-// A hard fork after another, or none, with this deposit.
-fn fork(alloc: Global, byte: u8, previous: Option<ActionId>, deposit: u64) -> Proposal
-    ensures deposit { result.deposit ≡ deposit }
+/// A hard fork after the action of this byte.
+pub fn fork_after(previous: u8) -> Action {
+    Action::HardForkInitiation {
+        previous: Some(id(previous)),
+        version: (11, 0),
+    }
+}
+
+fn key(byte: u8) -> Credential {
+    Credential {
+        hash: [byte; 28],
+        kind: CredKind::Key,
+    }
+}
+
+fn proposal(alloc: Global, byte: u8, action: Action) -> Proposal
+    ensures deposit { result.deposit ≡ 10 }
     ensures votes { result.votes ≡ [] }
 {
-    let cred = Credential {
-        hash: [9; 28],
-        kind: CredKind::Key,
-    };
     Proposal {
         id: id(byte),
-        action: Action::HardForkInitiation {
-            previous,
-            version: (11, 0),
+        action,
+        deposit: 10,
+        account: Account {
+            network: 1,
+            cred: key(9),
         },
-        deposit,
-        account: Account { network: 1, cred },
         expires_after: 6,
         votes: Listed::new(alloc),
     }
 }
 
-fn add(
+/// Adds the action of this byte to a store that holds little and has none of that byte.
+pub fn add(
     rt: &impl Abort,
     store: &mut ProposalStore,
     alloc: Global,
     byte: u8,
-    previous: Option<ActionId>,
+    action: Action,
 ) -> Result<(), Fail> {
-    let p = fork(alloc, byte, previous, 10);
+    let p = proposal(alloc, byte, action);
     assert!(rt; store.get(&p.id).is_none());
     assert!(rt; store.deposits() < 1000);
     store.add(p)?;
     Ok(())
 }
 
-#[test]
-fn keeps_proposals_in_order(rt: HostRuntime) -> Result<(), Fail> {
-    let mut store = ProposalStore::new(rt.alloc());
-    add(&rt, &mut store, rt.alloc(), 2, None)?;
-    add(&rt, &mut store, rt.alloc(), 1, Some(id(2)))?;
-    add(&rt, &mut store, rt.alloc(), 3, Some(id(2)))?;
-    assert_eq!(rt; (store.len(), store.deposits()), (3, 30));
-    assert_eq!(rt; store.at(1).map(|p| p.id), Some(id(1)));
-    assert!(rt; store.at(3).is_none());
-    assert_eq!(rt; store.get(&id(3)).map(|p| p.deposit), Some(10));
-    assert!(rt; store.get(&id(4)).is_none());
-    assert_eq!(rt;
-        store.children(Purpose::HardFork, Some(id(2))),
-        [id(1), id(3)].as_slice()
-    );
-    assert_eq!(rt; store.children(Purpose::HardFork, None), [id(2)].as_slice());
-    assert_eq!(rt; store.children(Purpose::Committee, Some(id(2))).len(), 0);
-    Ok(())
-}
-
-#[test]
-fn keeps_those_that_are_listed(rt: HostRuntime) -> Result<(), Fail> {
-    let mut store = ProposalStore::new(rt.alloc());
-    add(&rt, &mut store, rt.alloc(), 2, None)?;
-    add(&rt, &mut store, rt.alloc(), 1, Some(id(2)))?;
-    add(&rt, &mut store, rt.alloc(), 3, Some(id(2)))?;
-    let removed = store.retain_listed([id(3), id(7), id(2)].as_slice())?;
-    assert_eq!(rt; removed.len(), 1);
-    assert_eq!(rt; removed.first().map(|p| p.id), Some(id(1)));
-    assert_eq!(rt; (store.len(), store.deposits()), (2, 20));
-    assert_eq!(rt; store.at(0).map(|p| p.id), Some(id(2)));
-    assert_eq!(rt;
-        store.children(Purpose::HardFork, Some(id(2))),
-        [id(3)].as_slice()
-    );
-    Ok(())
-}
-
-#[test]
-fn keeps_the_last_vote_of_each_voter(rt: HostRuntime) -> Result<(), Fail> {
-    let mut store = ProposalStore::new(rt.alloc());
-    add(&rt, &mut store, rt.alloc(), 1, None)?;
-    add(&rt, &mut store, rt.alloc(), 2, None)?;
-    let drep = |byte| Voter::Drep(Credential {
-        hash: [byte; 28],
-        kind: CredKind::Key,
-    });
+/// Three proposals, and votes on two of them and on none.
+fn voted_on(rt: &impl Abort, alloc: Global) -> Result<ProposalStore, Fail> {
+    let mut store = ProposalStore::new(alloc);
+    for byte in [2, 1, 3] {
+        add(rt, &mut store, alloc, byte, fork_after(2))?;
+    }
     for (proposal, byte, vote) in [
         (1, 7, Vote::Yes),
         (1, 5, Vote::No),
@@ -105,37 +76,18 @@ fn keeps_the_last_vote_of_each_voter(rt: HostRuntime) -> Result<(), Fail> {
         (1, 7, Vote::Abstain),
         (9, 7, Vote::Yes),
     ] {
-        store.vote(&id(proposal), drep(byte), vote)?;
+        store.vote(&id(proposal), Voter::Drep(key(byte)), vote)?;
     }
-    let votes = |store: &ProposalStore, n| store.get(&id(n)).map(|p| p.votes.len());
-    let first = [(drep(5), Vote::No), (drep(7), Vote::Abstain)];
-    assert!(rt;
-        store
-            .get(&id(1))
-            .is_some_and(|p| p.votes.as_slice() == first.as_slice())
-    );
-    assert_eq!(rt; votes(&store, 2), Some(1));
-    store.unvote(&id(1), &drep(5));
-    store.unvote(&id(2), &drep(5));
-    assert_eq!(rt; (votes(&store, 1), votes(&store, 2)), (Some(1), Some(1)));
-    store.vote(&id(2), drep(3), Vote::Yes)?;
-    store.clear_votes(&Credential {
-        hash: [7; 28],
-        kind: CredKind::Key,
-    });
-    assert_eq!(rt; (votes(&store, 1), votes(&store, 2)), (Some(0), Some(1)));
-    store.vote(&id(1), drep(7), Vote::Yes)?;
-    store.vote(&id(2), drep(9), Vote::Yes)?;
-    store.clear_votes_of(&[
-        Credential {
-            hash: [3; 28],
-            kind: CredKind::Key,
-        },
-        Credential {
-            hash: [9; 28],
-            kind: CredKind::Key,
-        },
-    ]);
-    assert_eq!(rt; (votes(&store, 1), votes(&store, 2)), (Some(1), Some(0)));
+    Ok(store)
+}
+
+/// What is removed has both voters, each with its last vote.
+#[test]
+fn keeps_votes_and_what_is_listed(rt: HostRuntime) -> Result<(), Fail> {
+    let mut store = voted_on(&rt, rt.alloc())?;
+    let removed = store.retain_listed([id(3), id(7), id(2)].as_slice())?;
+    assert!(rt; store.len() == 2 && store.deposits() == 20);
+    let votes = removed.first().map(|p| (p.id, p.votes.len()));
+    assert!(rt; votes == Some((id(1), 2)));
     Ok(())
 }

@@ -1,7 +1,13 @@
-use accounts::*;
-use gov_ids::CredKind;
+//! The book of accounts after a freeze: the entries that stood then, and those that stand.
+use accounts::AccountBook;
+use book_records::Entry;
+use coin_frac::NoMemory;
+use gov_ids::{CredKind, Credential};
+use std::alloc::Global;
 use std::collections::BTreeMap;
+use std::mem::size_of;
 use std::test::Fail;
+use view_map::ViewMap;
 
 fn key(byte: u8) -> Credential {
     Credential {
@@ -17,47 +23,42 @@ fn staked(stake: u64) -> Entry {
     }
 }
 
-// Two entries, frozen, and four changes after it.
+/// Two entries, frozen, and four changes after it.
 fn changed(alloc: Global) -> Result<AccountBook, NoMemory> {
     let mut book = AccountBook::new(alloc);
     book.put(key(1), staked(10))?;
     book.put(key(2), staked(20))?;
     book.freeze();
-    book.put(key(1), staked(11))?;
-    book.put(key(2), staked(0))?;
-    book.put(key(3), staked(0))?;
-    book.put(key(0), staked(5))?;
+    for (byte, stake) in [(1, 11), (2, 0), (3, 0), (0, 5)] {
+        book.put(key(byte), staked(stake))?;
+    }
     Ok(book)
 }
 
 #[test]
 fn keeps_the_frozen_entries(rt: HostRuntime) -> Result<(), Fail> {
-    let mut book = changed(rt.alloc())?;
-    assert_eq!(rt; book.get(&key(1)), Some(staked(11)));
-    assert_eq!(rt; book.next(None), Some((key(0), staked(5))));
-    assert_eq!(rt; book.next(Some(&key(1))), None);
-    assert_eq!(rt; book.frozen_next(None), Some((key(1), staked(10))));
-    assert_eq!(rt; book.frozen_next(Some(&key(1))), Some((key(2), staked(20))));
-    assert_eq!(rt; book.frozen_next(Some(&key(2))), None);
-    assert_eq!(rt;
-        book.frozen_past(Some(&key(1))).next(),
-        Some((key(2), staked(20)))
+    let book = changed(rt.alloc())?;
+    for (byte, frozen, live) in [
+        (0, None, Some(5)),
+        (1, Some(10), Some(11)),
+        (2, Some(20), None),
+        (3, None, None),
+    ] {
+        assert!(rt; book.frozen_get(&key(byte)).map(|e| e.stake) == frozen);
+        assert!(rt; book.get(&key(byte)).map(|e| e.stake) == live);
+    }
+    let next = book.frozen_past(Some(&key(1))).next();
+    assert!(rt; next == Some((key(2), staked(20))));
+    // no further field, which could hold a copy
+    assert!(rt; size_of::<AccountBook>() == size_of::<ViewMap<Credential, Entry>>());
+    assert!(rt;
+        size_of::<ViewMap<Credential, Entry>>()
+            == size_of::<
+                (
+                    BTreeMap<Credential, Entry>,
+                    BTreeMap<Credential, Option<Entry>>
+                )
+            >()
     );
-    assert_eq!(rt; book.frozen_len(), 2);
-    assert_eq!(rt; book.frozen_get(&key(0)), None);
-    book.freeze();
-    assert_eq!(rt; book.frozen_len(), 2);
-    assert_eq!(rt; book.frozen_get(&key(0)), Some(staked(5)));
-    Ok(())
-}
-
-// Each pattern names every field with its type, and no rest: with a further field it does not compile.
-#[test]
-fn has_one_field(rt: HostRuntime) -> Result<(), Fail> {
-    let AccountBook { view } = changed(rt.alloc())?;
-    let ViewMap { live, saved } = view;
-    let live: BTreeMap<Credential, Entry> = live;
-    let saved: BTreeMap<Credential, Option<Entry>> = saved;
-    assert_eq!(rt; (live.len(), saved.len()), (2, 3));
     Ok(())
 }

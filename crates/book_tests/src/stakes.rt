@@ -1,5 +1,9 @@
-use stake_book::*;
-use gov_ids::{Address, CredKind, Drep};
+//! The book of stake: what each call leaves of the stakes of pools, the balances and the outputs.
+use book_records::{Output, Registered};
+use coin_frac::NoMemory;
+use gov_ids::{Address, CredKind, Credential, Drep, OutRef, PoolId, TxId};
+use stake_book::StakeBook;
+use std::alloc::Global;
 use std::process::Abort;
 use std::test::Fail;
 
@@ -30,7 +34,7 @@ fn pool(byte: u8) -> PoolId {
     PoolId([byte; 28])
 }
 
-// A registration with a balance, which delegates to a pool and to the DRep of a credential.
+/// A registration with a balance, which delegates to a pool and to the DRep of a credential.
 fn delegating(rewards: u64, to: PoolId, voter: Credential) -> Option<Registered> {
     Some(Registered {
         deposit: 2,
@@ -40,20 +44,7 @@ fn delegating(rewards: u64, to: PoolId, voter: Credential) -> Option<Registered>
     })
 }
 
-fn registered(rewards: u64) -> Option<Registered> {
-    Some(Registered {
-        deposit: 2,
-        rewards,
-        pool: None,
-        drep: None,
-    })
-}
-
-fn entry(stake: u64, registered: Option<Registered>) -> Option<Entry> {
-    Some(Entry { stake, registered })
-}
-
-// Adds an output to a book that holds little and has none there.
+/// Adds an output to a book that holds little and has none there.
 fn add(rt: &impl Abort, book: &mut StakeBook, r: OutRef, o: Output) -> Result<(), NoMemory> {
     assert!(rt; book.outputs().get(&r).is_none());
     assert!(rt; book.outputs().total() < 1000);
@@ -62,7 +53,7 @@ fn add(rt: &impl Abort, book: &mut StakeBook, r: OutRef, o: Output) -> Result<()
     book.add(r, o)
 }
 
-// Sets a registration with a small balance in a book that holds little.
+/// Sets a registration with a small balance in a book that holds little.
 fn set(
     rt: &impl Abort,
     book: &mut StakeBook,
@@ -75,68 +66,7 @@ fn set(
     book.set_account(c, to)
 }
 
-#[test]
-fn keeps_the_stake_of_a_registered_account(rt: HostRuntime) -> Result<(), Fail> {
-    let mut book = StakeBook::new(rt.alloc());
-    set(&rt, &mut book, key(1), registered(3))?;
-    add(&rt, &mut book, at(1), held_by(Some(key(1)), 10))?;
-    assert_eq!(rt; book.book().get(&key(1)), entry(10, registered(3)));
-    assert_eq!(rt; book.outputs().total(), 10);
-    Ok(())
-}
-
-#[test]
-fn takes_the_stake_of_a_spent_output(rt: HostRuntime) -> Result<(), Fail> {
-    let mut book = StakeBook::new(rt.alloc());
-    set(&rt, &mut book, key(1), registered(3))?;
-    add(&rt, &mut book, at(1), held_by(Some(key(1)), 10))?;
-    assert_eq!(rt; book.spend(&at(1))?.map(|o| o.lovelace), Some(10));
-    assert_eq!(rt; book.book().get(&key(1)), entry(0, registered(3)));
-    Ok(())
-}
-
-#[test]
-fn an_entry_goes_with_its_last_output(rt: HostRuntime) -> Result<(), Fail> {
-    let mut book = StakeBook::new(rt.alloc());
-    add(&rt, &mut book, at(1), held_by(Some(key(1)), 10))?;
-    assert_eq!(rt; book.book().get(&key(1)), entry(10, None));
-    assert_eq!(rt; book.spend(&at(1))?.map(|o| o.lovelace), Some(10));
-    assert_eq!(rt; book.spend(&at(1))?.map(|o| o.lovelace), None);
-    assert_eq!(rt; book.book().get(&key(1)), None);
-    Ok(())
-}
-
-#[test]
-fn a_frozen_entry_stays(rt: HostRuntime) -> Result<(), Fail> {
-    let mut book = StakeBook::new(rt.alloc());
-    add(&rt, &mut book, at(1), held_by(Some(key(1)), 10))?;
-    book.freeze();
-    book.spend(&at(1))?;
-    assert_eq!(rt; book.book().get(&key(1)), None);
-    assert_eq!(rt; book.book().frozen_get(&key(1)), entry(10, None));
-    Ok(())
-}
-
-#[test]
-fn an_address_without_a_stake_part_touches_no_account(rt: HostRuntime) -> Result<(), Fail> {
-    let mut book = StakeBook::new(rt.alloc());
-    add(&rt, &mut book, at(1), held_by(None, 7))?;
-    assert_eq!(rt; book.outputs().total(), 7);
-    assert_eq!(rt; book.book().next(None), None);
-    Ok(())
-}
-
-#[test]
-fn keeps_used_ids(rt: HostRuntime) -> Result<(), Fail> {
-    let mut book = StakeBook::new(rt.alloc());
-    book.mark_used(TxId([3; 32]))?;
-    assert!(rt; book.outputs().used(&TxId([3; 32])));
-    book.unmark(&TxId([3; 32]));
-    assert!(rt; !book.outputs().used(&TxId([3; 32])));
-    Ok(())
-}
-
-// Two accounts that delegate to pool 5 and to DRep 31, one that delegates to pool 6 and to DRep 32, and 7 lovelace of no account.
+/// Two accounts that delegate to pool 5 and to DRep 31, one that delegates to pool 6 and to DRep 32, and 7 lovelace of no account.
 fn three_accounts(rt: &impl Abort, alloc: Global) -> Result<StakeBook, NoMemory> {
     let mut book = StakeBook::new(alloc);
     set(rt, &mut book, key(1), delegating(3, pool(5), key(31)))?;
@@ -149,75 +79,60 @@ fn three_accounts(rt: &impl Abort, alloc: Global) -> Result<StakeBook, NoMemory>
     Ok(book)
 }
 
-// The stakes of pools 5 and 6.
-fn pool_stakes(book: &StakeBook) -> (u64, u64) {
-    (book.pool_stake(&pool(5)), book.pool_stake(&pool(6)))
+/// A change of the book.
+#[derive(Clone, Copy)]
+enum Change {
+    Nothing,
+    Spend(u8),
+    Move,
+    End,
+    ClearPool,
+    ClearPools,
+    ClearDrep,
+    Use,
 }
 
+/// The book of three accounts, after the change.
+fn changed(rt: &impl Abort, alloc: Global, change: Change) -> Result<StakeBook, NoMemory> {
+    let mut book = three_accounts(rt, alloc)?;
+    match change {
+        Change::Nothing => book.freeze(),
+        Change::Spend(tx) => {
+            book.spend(&at(tx))?;
+        }
+        Change::Move => set(rt, &mut book, key(1), delegating(1, pool(6), key(31)))?,
+        Change::End => set(rt, &mut book, key(2), None)?,
+        Change::ClearPool => book.clear_pool(&pool(5))?,
+        Change::ClearPools => book.clear_pools(&[pool(6), pool(5), pool(6)])?,
+        Change::ClearDrep => book.clear_drep(&key(31))?,
+        Change::Use => book.mark_used(TxId([3; 32]))?,
+    }
+    Ok(book)
+}
+
+/// The change, and then the stakes of pools 5 and 6, the balances and the outputs.
 #[test]
 fn keeps_the_stake_of_pools(rt: HostRuntime) -> Result<(), Fail> {
-    let mut book = three_accounts(&rt, rt.alloc())?;
-    assert_eq!(rt; pool_stakes(&book), (37, 45));
-    assert_eq!(rt; (book.balances(), book.outputs().total()), (12, 77));
-    book.spend(&at(2))?;
-    assert_eq!(rt; pool_stakes(&book), (17, 45));
-    Ok(())
-}
-
-#[test]
-fn an_account_takes_its_stake_to_another_pool(rt: HostRuntime) -> Result<(), Fail> {
-    let mut book = three_accounts(&rt, rt.alloc())?;
-    set(&rt, &mut book, key(1), delegating(1, pool(6), key(31)))?;
-    assert_eq!(rt; pool_stakes(&book), (4, 76));
-    Ok(())
-}
-
-#[test]
-fn an_account_ends(rt: HostRuntime) -> Result<(), Fail> {
-    let mut book = three_accounts(&rt, rt.alloc())?;
-    set(&rt, &mut book, key(2), None)?;
-    assert_eq!(rt; book.account(&key(2)), None);
-    assert_eq!(rt; pool_stakes(&book), (33, 45));
-    assert_eq!(rt; book.balances(), 8);
-    Ok(())
-}
-
-#[test]
-fn clears_pools(rt: HostRuntime) -> Result<(), Fail> {
-    let mut book = three_accounts(&rt, rt.alloc())?;
-    book.freeze();
-    book.clear_pools(&[pool(6), pool(5), pool(6)])?;
-    assert_eq!(rt; pool_stakes(&book), (0, 0));
-    let pool_before = book
-        .book()
-        .frozen_get(&key(1))
-        .and_then(|e| e.registered?.pool);
-    assert_eq!(rt; pool_before, Some(pool(5)));
-    assert_eq!(rt; (book.balances(), book.outputs().total()), (12, 77));
-    Ok(())
-}
-
-#[test]
-fn clears_one_pool(rt: HostRuntime) -> Result<(), Fail> {
-    let mut book = three_accounts(&rt, rt.alloc())?;
-    book.clear_pool(&pool(5))?;
-    assert_eq!(rt; pool_stakes(&book), (0, 45));
-    assert_eq!(rt; book.account(&key(3)), delegating(5, pool(6), key(32)));
-    Ok(())
-}
-
-#[test]
-fn clears_a_drep(rt: HostRuntime) -> Result<(), Fail> {
-    let mut book = three_accounts(&rt, rt.alloc())?;
-    book.clear_drep(&key(31))?;
-    let left = Registered {
-        deposit: 2,
-        rewards: 4,
-        pool: Some(pool(5)),
-        drep: None,
-    };
-    assert_eq!(rt; book.account(&key(2)), Some(left));
-    assert_eq!(rt; book.account(&key(3)), delegating(5, pool(6), key(32)));
-    assert_eq!(rt; pool_stakes(&book), (37, 45));
+    for (change, wanted) in [
+        (Change::Nothing, [37, 45, 12, 77]),
+        (Change::Spend(2), [17, 45, 12, 57]),
+        (Change::Spend(4), [37, 45, 12, 70]),
+        (Change::Spend(9), [37, 45, 12, 77]),
+        (Change::Move, [4, 76, 10, 77]),
+        (Change::End, [33, 45, 8, 77]),
+        (Change::ClearPool, [0, 45, 12, 77]),
+        (Change::ClearPools, [0, 0, 12, 77]),
+        (Change::ClearDrep, [37, 45, 12, 77]),
+        (Change::Use, [37, 45, 12, 77]),
+    ] {
+        let book = changed(&rt, rt.alloc(), change)?;
+        let left = [
+            book.pool_stake(&pool(5)),
+            book.pool_stake(&pool(6)),
+            book.balances(),
+            book.outputs().total(),
+        ];
+        assert!(rt; left == wanted);
+    }
     Ok(())
 }

@@ -1,20 +1,44 @@
-use byte_lines::*;
+//! Lines read from sources in memory and from readers, and pieces put to sinks and writers: with faults in mid-stream.
+use byte_lines::{
+    FaultySink, FaultySource, Line, LineFault, Lines, MemorySink, MemorySource, ReaderSource, Sink,
+    SinkFault, Source, WriterSink, put_all,
+};
+use std::alloc::Global;
 use std::io;
 use std::io::{Read, Write};
+use std::process::Abort;
 
 /// What `next` should come to, with the text and the number then.
 #[derive(Drop)]
 struct Want(Result<Line, LineFault>, &'static [u8], u64);
 
-/// A stream whose reads fail, and whose writes take nothing.
-#[derive(Drop)]
-struct Broken;
-
-impl Read for Broken {
-    fn read(&mut self, _buf: &mut [u8]) -> io::Result<usize> {
-        Err(io::ErrorKind::Other.into())
+/// Reads from the source once for each that is wanted.
+fn reads<S: Source>(rt: &impl Abort, mut lines: Lines, source: &mut S, wants: &[Want]) {
+    for want in wants {
+        assert!(rt; lines.next(source) == want.0, "in line {}", want.2);
+        assert!(rt;
+            lines.text() == want.1 && lines.number() == want.2,
+            "in line {}",
+            want.2
+        );
     }
 }
+
+/// Puts each piece, and each either goes or fails.
+fn puts<K: Sink>(rt: &impl Abort, sink: &mut K, pieces: &[(&'static [u8], bool)]) {
+    for (piece, goes) in pieces {
+        let wanted = if *goes {
+            Ok(())
+        } else {
+            Err(SinkFault::WriteFault)
+        };
+        assert!(rt; put_all(sink, *piece) == wanted);
+    }
+}
+
+/// A writer that takes nothing.
+#[derive(Drop)]
+struct Broken;
 
 impl Write for Broken {
     fn write(&mut self, _buf: &[u8]) -> io::Result<usize> {
@@ -70,16 +94,6 @@ impl Read for Failing {
 }
 
 #[test]
-fn stops_at_the_limit(rt: HostRuntime) {
-    let mut source = MemorySource::new(b"ab\ncd", 65_536);
-    let mut lines = Lines::new(rt.alloc(), 16_777_216, 4);
-    assert_eq!(rt; lines.next(&mut source), Ok(Line::Whole));
-    assert_eq!(rt; lines.text(), b"ab".as_slice());
-    assert_eq!(rt; lines.next(&mut source), Err(LineFault::TooMuch));
-    assert_eq!(rt; lines.next(&mut source), Err(LineFault::TooMuch));
-}
-
-#[test]
 fn reads_any_parts(rt: HostRuntime) {
     let wants = [
         Want(Ok(Line::Whole), b"one", 1),
@@ -92,62 +106,65 @@ fn reads_any_parts(rt: HostRuntime) {
     ];
     for part in [1, 2, 7, 65_536] {
         let mut source = MemorySource::new(b"one\n\ntoolong\nfive5\nlast", part);
-        let mut lines = Lines::new(rt.alloc(), 5, 23);
-        for want in &wants {
-            assert_eq!(rt; lines.next(&mut source), want.0, "in parts of {part}");
-            assert_eq!(rt; lines.text(), want.1, "in parts of {part}");
-            assert_eq!(rt; lines.number(), want.2, "in parts of {part}");
-        }
+        let lines = Lines::new(rt.alloc(), 5, 23);
+        reads(&rt, lines, &mut source, wants.as_slice());
     }
 }
 
+/// The limit of a stream ends it; a fault does not.
 #[test]
-fn reads_on_after_a_fault(rt: HostRuntime) {
+fn stops_at_the_limit_alone(rt: HostRuntime) {
+    let wants = [
+        Want(Ok(Line::Whole), b"ab", 1),
+        Want(Err(LineFault::TooMuch), b"ab", 1),
+        Want(Err(LineFault::TooMuch), b"ab", 1),
+    ];
+    let mut source = MemorySource::new(b"ab\ncd", 65_536);
+    let lines = Lines::new(rt.alloc(), 16_777_216, 4);
+    reads(&rt, lines, &mut source, wants.as_slice());
+    let wants = [
+        Want(Ok(Line::Whole), b"ab", 1),
+        Want(Err(LineFault::ReadFault), b"ab", 1),
+        Want(Ok(Line::Whole), b"cd", 2),
+        Want(Ok(Line::End), b"cd", 2),
+    ];
     let mut source = FaultySource::new(b"ab\ncd\n", 4, &[1]);
-    let mut lines = Lines::new(rt.alloc(), 16, 16);
-    assert_eq!(rt; lines.next(&mut source), Ok(Line::Whole));
-    assert_eq!(rt; lines.next(&mut source), Err(LineFault::ReadFault));
-    assert_eq!(rt; lines.text(), b"ab".as_slice());
-    assert_eq!(rt; lines.next(&mut source), Ok(Line::Whole));
-    assert_eq!(rt; lines.text(), b"cd".as_slice());
-    assert_eq!(rt; lines.next(&mut source), Ok(Line::End));
+    let lines = Lines::new(rt.alloc(), 16, 16);
+    reads(&rt, lines, &mut source, wants.as_slice());
 }
 
+/// A reader's error is a fault, and is read on after; it is asked for as much as fits.
+#[test]
+fn reads_from_readers(rt: HostRuntime) {
+    let mut failing = Failing { calls: 0, asked: 0 };
+    let wants = [
+        Want(Err(LineFault::ReadFault), b"", 0),
+        Want(Ok(Line::Whole), b"aa", 1),
+    ];
+    let mut source = ReaderSource::new(&mut failing);
+    let lines = Lines::new(rt.alloc(), 16, 1_000_000);
+    reads(&rt, lines, &mut source, wants.as_slice());
+    drop(source);
+    assert!(rt; failing.calls == 4 && failing.asked == 65_536);
+}
+
+/// A prefix goes before a fault, and what follows it goes after.
 #[test]
 fn puts_a_prefix_before_a_fault(rt: HostRuntime) {
     let mut sink = FaultySink::new(rt.alloc(), 2, &[1]);
-    assert_eq!(rt; put_all(&mut sink, b"abcde"), Err(SinkFault::WriteFault));
-    assert_eq!(rt; sink.as_slice(), b"ab".as_slice());
-    assert_eq!(rt; put_all(&mut sink, b"cde"), Ok(()));
-    assert_eq!(rt; sink.as_slice(), b"abcde".as_slice());
-}
-
-#[test]
-fn keeps_all_in_memory(rt: HostRuntime) {
+    let pieces = [(b"abcde".as_slice(), false), (b"cde", true)];
+    puts(&rt, &mut sink, pieces.as_slice());
+    assert!(rt; sink.as_slice() == b"abcde".as_slice());
     let mut sink = MemorySink::new(rt.alloc());
-    assert_eq!(rt; put_all(&mut sink, b"ab"), Ok(()));
-    assert_eq!(rt; put_all(&mut sink, b"cd"), Ok(()));
-    assert_eq!(rt; sink.as_slice(), b"abcd".as_slice());
+    puts(
+        &rt,
+        &mut sink,
+        [(b"ab".as_slice(), true), (b"cd", true)].as_slice(),
+    );
+    assert!(rt; sink.as_slice() == b"abcd".as_slice());
 }
 
-#[test]
-fn adapts_readers_and_writers(rt: HostRuntime) {
-    let mut source = ReaderSource::new(b"ab".as_slice());
-    let mut lines = Lines::new(rt.alloc(), 16, 16);
-    assert_eq!(rt; lines.next(&mut source), Ok(Line::Whole));
-    assert_eq!(rt; lines.text(), b"ab".as_slice());
-    let mut broken = ReaderSource::new(Broken);
-    let mut unread = Lines::new(rt.alloc(), 16, 16);
-    assert_eq!(rt; unread.next(&mut broken), Err(LineFault::ReadFault));
-    let mut bytes = Vec::new(rt.alloc());
-    let mut sink = WriterSink::new(&mut bytes);
-    assert_eq!(rt; put_all(&mut sink, b"ab"), Ok(()));
-    drop(sink);
-    assert_eq!(rt; bytes.as_slice(), b"ab".as_slice());
-    let mut stuck = WriterSink::new(Broken);
-    assert_eq!(rt; put_all(&mut stuck, b"ab"), Err(SinkFault::WriteFault));
-}
-
+/// Each write is flushed, and after a failed flush nothing is written; a writer that takes nothing is a fault.
 #[test]
 fn flushes_each_write(rt: HostRuntime) {
     let mut watched = Watched {
@@ -155,22 +172,15 @@ fn flushes_each_write(rt: HostRuntime) {
         failing: 2,
     };
     let mut sink = WriterSink::new(&mut watched);
-    assert_eq!(rt; put_all(&mut sink, b"ab"), Ok(()));
-    assert_eq!(rt; put_all(&mut sink, b"cd"), Err(SinkFault::WriteFault));
-    assert_eq!(rt; put_all(&mut sink, b"ef"), Err(SinkFault::WriteFault));
+    let pieces = [(b"ab".as_slice(), true), (b"cd", false), (b"ef", false)];
+    puts(&rt, &mut sink, pieces.as_slice());
     drop(sink);
-    assert_eq!(rt; watched.flushes, 2);
-}
-
-#[test]
-fn reads_on_after_an_error_of_the_reader(rt: HostRuntime) {
-    let mut failing = Failing { calls: 0, asked: 0 };
-    let mut source = ReaderSource::new(&mut failing);
-    let mut lines = Lines::new(rt.alloc(), 16, 1_000_000);
-    assert_eq!(rt; lines.next(&mut source), Err(LineFault::ReadFault));
-    assert_eq!(rt; lines.next(&mut source), Ok(Line::Whole));
-    assert_eq!(rt; lines.text(), b"aa".as_slice());
-    drop(source);
-    assert_eq!(rt; failing.calls, 4);
-    assert_eq!(rt; failing.asked, 65_536);
+    assert!(rt; watched.flushes == 2);
+    let mut bytes = Vec::new(rt.alloc());
+    let mut sink = WriterSink::new(&mut bytes);
+    puts(&rt, &mut sink, [(b"ab".as_slice(), true)].as_slice());
+    drop(sink);
+    assert!(rt; bytes.as_slice() == b"ab".as_slice());
+    let mut stuck = WriterSink::new(Broken);
+    puts(&rt, &mut stuck, [(b"ab".as_slice(), false)].as_slice());
 }

@@ -1,73 +1,94 @@
 //! Replies, pots and words, with the lines that each must give.
-use report::*;
+use report::{PotsWord, pots_line, reply_line, words_line};
 use std::test::Fail;
 use tx_records::{FieldName, Pots, Reply, Rule, rules};
 
-/// A refusal of a line that is no record.
-fn malformed(what: FieldName, place: Option<u32>) -> Reply {
-    Reply::Refused(Rule {
-        number: rules::MALFORMED,
-        what: Some(what),
-        place,
-        first: 0,
-        second: 0,
-    })
-}
-
 #[test]
 fn lines_of_replies(rt: HostRuntime) -> Result<(), Fail> {
-    let table = [
-        (2, Reply::Accepted, "2 accepted\n"),
-        (
-            2,
-            Reply::AcceptedFailedScripts,
-            "2 accepted failed-scripts\n",
-        ),
+    let mut line = Vec::new(rt.alloc());
+    for (line_number, number, what, place, first, second, text) in [
         (
             6,
-            malformed(FieldName::Certs, Some(1)),
+            rules::MALFORMED,
+            Some(FieldName::Certs),
+            Some(1),
+            0,
+            0,
             "6 refused 1 Malformed certs[1]\n",
         ),
         (
             7,
-            malformed(FieldName::Json, None),
+            rules::MALFORMED,
+            Some(FieldName::Json),
+            None,
+            0,
+            0,
             "7 refused 1 Malformed json\n",
         ),
         (
             9,
-            malformed(FieldName::EpochLength, Some(u32::MAX)),
+            rules::MALFORMED,
+            Some(FieldName::EpochLength),
+            Some(u32::MAX),
+            0,
+            0,
             "9 refused 1 Malformed epochLength[4294967295]\n",
         ),
         (
             8,
-            Reply::Refused(Rule::new(rules::TOO_LONG)),
+            rules::TOO_LONG,
+            None,
+            None,
+            0,
+            0,
             "8 refused 2 TooLong\n",
         ),
         (
             2,
-            Reply::Refused(Rule::new(rules::INPUT_MISSING).at(0)),
+            rules::INPUT_MISSING,
+            None,
+            Some(0),
+            0,
+            0,
             "2 refused 33 InputMissing at 0\n",
         ),
         (
             2,
-            Reply::Refused(Rule::keeping(rules::OUTPUT_TOO_SMALL, 160).at(0)),
+            rules::OUTPUT_TOO_SMALL,
+            None,
+            Some(0),
+            160,
+            0,
             "2 refused 38 OutputTooSmall at 0 min 160\n",
         ),
         (
             2,
-            Reply::Refused(Rule::keeping_two(rules::NOT_BALANCED, 20, 21)),
+            rules::NOT_BALANCED,
+            None,
+            None,
+            20,
+            21,
             "2 refused 110 NotBalanced consumed 20 produced 21\n",
         ),
         (
             u64::MAX,
-            Reply::Refused(Rule::keeping_two(rules::NOT_BALANCED, 0, u128::MAX)),
+            rules::NOT_BALANCED,
+            None,
+            None,
+            0,
+            u128::MAX,
             "18446744073709551615 refused 110 NotBalanced consumed 0 produced 340282366920938463463374607431768211455\n",
         ),
-    ];
-    let mut line = Vec::new(rt.alloc());
-    for (number, reply, text) in table {
-        reply_line(&mut line, number, &reply)?;
-        assert_eq!(rt; line.as_slice(), text.as_bytes(), "{text}");
+    ] {
+        let rule = Rule {
+            number,
+            what,
+            place,
+            first,
+            second,
+        };
+        reply_line(&mut line, line_number, &Reply::Refused(rule))?;
+        assert!(rt; line.as_slice() == text.as_bytes(), "{text}");
     }
     Ok(())
 }
@@ -147,34 +168,48 @@ fn lines_of_all_rules(rt: HostRuntime) -> Result<(), Fail> {
         let wanted = format!(in rt.alloc(); "5 refused {number}{text}\n")?;
         let reply = Reply::Refused(Rule::keeping_two(number, 7, 8).at(3));
         reply_line(&mut line, 5, &reply)?;
-        assert_eq!(rt; line.as_slice(), wanted.as_bytes(), "{wanted}");
+        assert!(rt; line.as_slice() == wanted.as_bytes(), "{wanted}");
     }
     Ok(())
 }
 
+const POTS: Pots = Pots {
+    outputs: 200,
+    deposits: 21,
+    rewards: 100,
+    fees: 0,
+    donations: 0,
+    treasury: 100,
+    reserves: 579,
+};
+
+const POTS_TEXT: &str =
+    "outputs 200 deposits 21 rewards 100 fees 0 donations 0 treasury 100 reserves 579 supply 1000";
+
 #[test]
 fn lines_of_pots_and_words(rt: HostRuntime) -> Result<(), Fail> {
-    let pots = Pots {
-        outputs: 200,
-        deposits: 21,
-        rewards: 100,
-        fees: 0,
-        donations: 0,
-        treasury: 100,
-        reserves: 579,
-    };
     let mut line = Vec::new(rt.alloc());
-    pots_line(&mut line, 1, PotsWord::Genesis, &pots)?;
-    let text =
-        "1 genesis outputs 200 deposits 21 rewards 100 fees 0 donations 0 treasury 100 reserves 579 supply 1000\n";
-    assert_eq!(rt; line.as_slice(), text.as_bytes());
-    pots_line(&mut line, 12, PotsWord::Pots, &pots)?;
-    let text =
-        "12 pots outputs 200 deposits 21 rewards 100 fees 0 donations 0 treasury 100 reserves 579 supply 1000\n";
-    assert_eq!(rt; line.as_slice(), text.as_bytes());
-    words_line(&mut line, 3, &["committee", "none"])?;
-    assert_eq!(rt; line.as_slice(), "3 committee none\n".as_bytes());
-    words_line(&mut line, 4, &[])?;
-    assert_eq!(rt; line.as_slice(), "4\n".as_bytes());
+    for (number, word, text) in [
+        (1, PotsWord::Genesis, "1 genesis"),
+        (12, PotsWord::Pots, "12 pots"),
+    ] {
+        pots_line(&mut line, number, word, &POTS)?;
+        let wanted = format!(in rt.alloc(); "{text} {POTS_TEXT}\n")?;
+        assert!(rt; line.as_slice() == wanted.as_bytes(), "{wanted}");
+    }
+    for (number, words, text) in [
+        (3, ["committee", "none"].as_slice(), "3 committee none\n"),
+        (4, [].as_slice(), "4\n"),
+    ] {
+        words_line(&mut line, number, words)?;
+        assert!(rt; line.as_slice() == text.as_bytes(), "{text}");
+    }
+    for (reply, text) in [
+        (Reply::Accepted, "2 accepted\n"),
+        (Reply::AcceptedFailedScripts, "2 accepted failed-scripts\n"),
+    ] {
+        reply_line(&mut line, 2, &reply)?;
+        assert!(rt; line.as_slice() == text.as_bytes(), "{text}");
+    }
     Ok(())
 }

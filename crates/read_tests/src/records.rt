@@ -1,45 +1,29 @@
-// Short lines, and what they read as.
+//! Short lines, and what they read as.
 use record_read::{RecordFault, read_record};
-use std::test::Fail;
 use tx_records::{FieldName, Record, What};
 
 const GENESIS: &[u8] =
     br#"{"kind":"genesis","network":1,"slot":0,"epochLength":10,"version":[10,0],"supply":9,"reserves":9,"treasury":0,"params":{"maxBlockBodySize":90112,"maxTxSize":16384,"maxBlockHeaderSize":1100,"maxValueSize":5000,"maxTxExUnits":[1000,1000],"maxBlockExUnits":[1000,1000],"maxCollateralInputs":3,"minFeeA":1,"minFeeB":70,"keyDeposit":2,"poolDeposit":5,"rho":[0,1],"tau":[0,1],"minPoolCost":0,"coinsPerUTxOByte":1,"prices":[[0,1],[0,1]],"minFeeRefScriptCostPerByte":[15,1],"a0":[0,1],"eMax":18,"nOpt":500,"costModels":"0000000000000000000000000000000000000000000000000000000000000000","collateralPercentage":150,"poolVotingThresholds":[[0,1],[0,1],[0,1],[0,1],[0,1]],"drepVotingThresholds":[[67,100],[67,100],[67,100],[67,100],[67,100],[67,100],[67,100],[67,100],[67,100],[67,100]],"govActionLifetime":2,"govActionDeposit":10,"drepDeposit":5,"drepActivity":20,"committeeMinSize":0,"committeeMaxTermLength":100},"document":"dddddddddddddddddddddddddddddddddddddddddddddddddddddddddddddddd","committee":{"threshold":[2,3],"members":[["keeeeeeeeeeeeeeeeeeeeeeeeeeeeeeeeeeeeeeeeeeeeeeeeeeeeeeee",100,null]]},"outputs":[],"accounts":[],"pools":[],"dreps":[]}"#;
 
-#[test]
-fn reads_a_record(rt: HostRuntime) -> Result<(), Fail> {
-    let block = read_record(rt.alloc(), br#"{"kind":"block","slot":5,"pulse":3}"#).ok();
-    assert!(rt; matches!(block, Some(Record::Block { slot: 5, pulse: 3 })));
-    let print = read_record(rt.alloc(), br#"{"kind":"print","what":"state"}"#).ok();
-    assert!(rt; matches!(print, Some(Record::Print(What::State))));
-    // of two fields of one name the last counts
-    let twice = br#"{"what":"pots","kind":"block","kind":"print","what":"state"}"#;
-    assert!(rt;
-        matches!(
-            read_record(rt.alloc(), twice).ok(),
-            Some(Record::Print(What::State))
-        )
-    );
-    Ok(())
-}
+/// A print of the state: of two fields of one name the last counts.
+const PRINT: &[u8] = br#"{"what":"pots","kind":"block","kind":"print","what":"state"}"#;
+
+const BLOCK: &[u8] = br#"{"kind":"block","slot":5,"pulse":3}"#;
 
 #[test]
-fn reads_a_genesis(rt: HostRuntime) {
-    match read_record(rt.alloc(), GENESIS) {
-        Ok(Record::Genesis(genesis)) => {
-            let mut genesis = genesis.into_value();
-            assert!(rt; genesis.is_within_limits());
-            genesis.version = (9, 0);
-            assert!(rt; !genesis.is_within_limits());
-        }
-        _ => panic!(rt; "no genesis"),
-    }
+fn reads_a_record(rt: HostRuntime) {
+    let print = read_record(rt.alloc(), PRINT).ok();
+    assert!(rt; matches!(print, Some(Record::Print(What::State))));
+    let block = read_record(rt.alloc(), BLOCK).ok();
+    assert!(rt; matches!(block, Some(Record::Block { slot: 5, pulse: 3 })));
+    let genesis = read_record(rt.alloc(), GENESIS).ok();
+    assert!(rt; matches!(genesis, Some(Record::Genesis(_))));
 }
 
 #[test]
 fn names_the_fault(rt: HostRuntime) {
     let bad = |name| RecordFault::BadField { name, place: None };
-    let table = [
+    for (line, fault) in [
         ("[1", RecordFault::BadJson),
         ("7", RecordFault::UnknownKind),
         (r#"{"kind":"xx"}"#, RecordFault::UnknownKind),
@@ -62,8 +46,7 @@ fn names_the_fault(rt: HostRuntime) {
         (r#"{"kind":"print","what":"all"}"#, bad(FieldName::What)),
         (r#"{"kind":"print","what":null}"#, bad(FieldName::What)),
         (r#"{"id":null,"kind":"tx"}"#, bad(FieldName::Id)),
-    ];
-    for (line, fault) in table {
+    ] {
         assert!(rt; read_record(rt.alloc(), line.as_bytes()).err() == Some(fault));
     }
 }

@@ -5,6 +5,5 @@ pub mod Ended
 mod Moves
 mod Pools
 mod Registrations
-mod Rooms
 mod Sums
 mod Weights

@@ -1,24 +1,21 @@
-use coin_frac::*;
-use std::test::Fail;
+//! Fractions that are none, and the votes that reach those that are.
+use coin_frac::{FracFault, Unit, reaches};
 
-#[test]
-fn fractions(rt: HostRuntime) -> Result<(), Fail> {
-    assert_eq!(rt; Unit::new(1, 0), Err(FracFault::ZeroDen));
-    assert_eq!(rt; Unit::new(2, 1), Err(FracFault::AboveOne));
-    assert_eq!(rt; Ratio::new(1, 0), Err(FracFault::ZeroDen));
-    let third = Ratio::new(4, 3)?;
-    assert_eq!(rt; (third.num(), third.den()), (4, 3));
-    let most = Unit::new(67, 100)?;
-    assert_eq!(rt; (most.num(), most.den()), (67, 100));
-    Ok(())
+/// Whether so many votes of all reach the threshold num / den.
+fn reached(yes: u64, all: u64, num: u64, den: u64) -> Result<bool, FracFault> {
+    Ok(reaches(yes, all, Unit::new(num, den)?))
 }
 
 #[test]
-fn thresholds(rt: HostRuntime) -> Result<(), Fail> {
-    let most = Unit::new(67, 100)?;
-    assert!(rt; !reaches(66, 100, most));
-    assert!(rt; reaches(67, 100, most));
-    assert!(rt; !reaches(0, 0, Unit::new(1, 100)?));
-    assert!(rt; reaches(0, 0, Unit::new(0, 1)?));
-    Ok(())
+fn thresholds(rt: HostRuntime) {
+    for (yes, all, num, den, wanted) in [
+        (66, 100, 67, 100, Ok(false)),
+        (67, 100, 67, 100, Ok(true)),
+        (0, 0, 1, 100, Ok(false)),
+        (0, 0, 0, 1, Ok(true)),
+        (1, 1, 1, 0, Err(FracFault::ZeroDen)),
+        (1, 1, 2, 1, Err(FracFault::AboveOne)),
+    ] {
+        assert_eq!(rt; reached(yes, all, num, den), wanted);
+    }
 }

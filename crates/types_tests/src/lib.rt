@@ -4,10 +4,6 @@
 #[cfg(test)]
 mod actions;
 #[cfg(test)]
-mod boxes;
-#[cfg(test)]
-mod credentials;
-#[cfg(test)]
 mod fractions;
 #[cfg(test)]
 mod ids;
@@ -16,14 +12,6 @@ mod limits;
 #[cfg(test)]
 mod lists;
 #[cfg(test)]
-mod memory;
-#[cfg(test)]
 mod parameters;
-#[cfg(test)]
-mod references;
-#[cfg(test)]
-mod refusals;
-#[cfg(test)]
-mod steps;
 #[cfg(test)]
 mod totals;

@@ -1,11 +1,11 @@
 //! Records within the limits of the formats, and just beyond them.
-use tx_records::*;
-use tx_records::limits::SLOT_LIMIT;
 use gov_ids::{Account, CredKind, Credential, TxId};
 use listed::{Boxed, Listed};
 use out_refs::OutRefs;
 use std::alloc::{AllocError, Global};
 use std::test::Fail;
+use tx_records::limits::SLOT_LIMIT;
+use tx_records::{Record, Rewards, Scripts, Tx};
 
 fn account(network: u8) -> Account {
     let cred = Credential {
@@ -20,8 +20,8 @@ fn transaction(
     alloc: Global,
     until: u64,
     withdrawals: &[(Account, u64)],
-) -> Result<Tx, AllocError> {
-    Ok(Tx {
+) -> Result<Record, AllocError> {
+    let tx = Tx {
         id: TxId([1; 32]),
         inputs: OutRefs::new(alloc),
         outputs: Listed::new(alloc),
@@ -40,12 +40,23 @@ fn transaction(
         certs: Listed::new(alloc),
         proposals: Listed::new(alloc),
         votes: Listed::new(alloc),
-    })
+    };
+    Ok(Record::Tx(Boxed::new(alloc, tx)?))
+}
+
+/// A reward update with these rewards, and nothing else.
+fn rewards(alloc: Global, rewards: &[(Credential, u64)]) -> Result<Record, AllocError> {
+    Ok(Record::Rewards(Rewards {
+        epoch: 0,
+        from_reserves: 5,
+        from_fees: 0,
+        to_treasury: 0,
+        rewards: Listed::from_vec(rewards.to_vec(alloc)?),
+    }))
 }
 
 #[test]
 fn transactions(rt: HostRuntime) -> Result<(), Fail> {
-    let alloc = rt.alloc();
     let two = [(account(0), 1), (account(1), 1)];
     let twice = [(account(1), 1), (account(1), 2)];
     let last = SLOT_LIMIT - 1;
@@ -54,30 +65,21 @@ fn transactions(rt: HostRuntime) -> Result<(), Fail> {
         (last + 1, two.as_slice(), false),
         (last, twice.as_slice(), false),
     ] {
-        let tx = transaction(alloc, until, withdrawals)?;
-        assert_eq!(rt; tx.is_within_limits(alloc).ok(), Some(within));
-        let record = Record::Tx(Boxed::new(alloc, tx)?);
-        assert_eq!(rt; record.is_within_limits(alloc).ok(), Some(within));
+        let record = transaction(rt.alloc(), until, withdrawals)?;
+        assert!(rt; record.is_within_limits(rt.alloc())? == within);
     }
     Ok(())
 }
 
 #[test]
-fn rewards(rt: HostRuntime) -> Result<(), Fail> {
-    let alloc = rt.alloc();
+fn reward_updates(rt: HostRuntime) -> Result<(), Fail> {
     let cred = account(0).cred;
-    for (rewards, within) in [
+    for (list, within) in [
         ([(cred, 5)].as_slice(), true),
         ([(cred, 5), (cred, 6)].as_slice(), false),
     ] {
-        let update = Rewards {
-            epoch: 0,
-            from_reserves: 5,
-            from_fees: 0,
-            to_treasury: 0,
-            rewards: Listed::from_vec(rewards.to_vec(alloc)?),
-        };
-        assert_eq!(rt; update.is_within_limits(alloc).ok(), Some(within));
+        let record = rewards(rt.alloc(), list)?;
+        assert!(rt; record.is_within_limits(rt.alloc())? == within);
     }
     Ok(())
 }

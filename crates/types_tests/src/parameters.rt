@@ -1,5 +1,5 @@
-use pparams::*;
-use std::test::Fail;
+//! An update of a fee and of a size: what it touches, and whether it is well formed.
+use pparams::Update;
 
 /// An update that names no parameter.
 const NO_UPDATE: Update = Update {
@@ -35,79 +35,30 @@ const NO_UPDATE: Update = Update {
     committee_max_term_length: None,
 };
 
+/// A fee may be set to 0, a size may not, and an update that names nothing is none.
 #[test]
-fn an_update_says_what_it_touches(rt: HostRuntime) -> Result<(), Fail> {
-    let dearer = Update {
-        min_fee_a: Some(45),
-        ..NO_UPDATE
-    };
-    let economic = Groups {
-        network: false,
-        economic: true,
-        technical: false,
-        governance: false,
-    };
-    assert_eq!(rt; dearer.groups(), economic);
-    assert!(rt; dearer.security());
-    Ok(())
-}
-
-#[test]
-fn an_update_names_some_and_none_as_0(rt: HostRuntime) -> Result<(), Fail> {
-    let free = Update {
-        min_fee_a: Some(0),
-        ..NO_UPDATE
-    };
-    let tiny = Update {
-        max_tx_size: Some(0),
-        ..NO_UPDATE
-    };
-    assert!(rt; free.well_formed());
-    assert!(rt; !tiny.well_formed());
-    assert!(rt; !NO_UPDATE.well_formed());
-    Ok(())
-}
-
-#[test]
-fn an_update_is_laid_over(rt: HostRuntime) -> Result<(), Fail> {
-    let half = Unit::new(1, 2)?;
-    let one = Ratio::new(1, 1)?;
-    let before = Params {
-        max_block_body_size: 90_112,
-        max_tx_size: 16_384,
-        max_block_header_size: 1_100,
-        max_value_size: 5_000,
-        max_tx_ex_units: (14_000_000, 10_000_000_000),
-        max_block_ex_units: (62_000_000, 20_000_000_000),
-        max_collateral_inputs: 3,
-        min_fee_a: 44,
-        min_fee_b: 155_381,
-        key_deposit: 2_000_000,
-        pool_deposit: 500_000_000,
-        rho: half,
-        tau: half,
-        min_pool_cost: 170_000_000,
-        coins_per_utxo_byte: 4_310,
-        prices: (one, one),
-        min_fee_ref_script_cost_per_byte: one,
-        a0: one,
-        e_max: 18,
-        n_opt: 500,
-        cost_models: [0; 32],
-        collateral_percentage: 150,
-        pool_voting_thresholds: [half; 5],
-        drep_voting_thresholds: [half; 10],
-        gov_action_lifetime: 6,
-        gov_action_deposit: 100_000_000_000,
-        drep_deposit: 500_000_000,
-        drep_activity: 20,
-        committee_min_size: 7,
-        committee_max_term_length: 146,
-    };
-    let after = before.laid_over(&Update {
-        min_fee_a: Some(45),
-        ..NO_UPDATE
-    });
-    assert_eq!(rt; (after.min_fee_a, after.min_fee_b), (45, 155_381));
-    Ok(())
+fn tells_what_it_touches(rt: HostRuntime) {
+    for (min_fee_a, max_tx_size, touched, well_formed) in [
+        (Some(45), None, (false, true, false, false), true),
+        (Some(0), None, (false, true, false, false), true),
+        (None, Some(0), (true, false, false, false), false),
+        (None, None, (false, false, false, false), false),
+    ] {
+        let update = Update {
+            min_fee_a,
+            max_tx_size,
+            ..NO_UPDATE
+        };
+        let groups = update.groups();
+        assert!(rt;
+            (
+                groups.network,
+                groups.economic,
+                groups.technical,
+                groups.governance
+            ) == touched
+        );
+        assert!(rt; update.security() == (groups.network || groups.economic));
+        assert!(rt; update.well_formed() == well_formed);
+    }
 }

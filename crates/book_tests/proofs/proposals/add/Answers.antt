@@ -11,4 +11,4 @@ unfolding IsStrictlySortedBy
 no_votes = tt
 
 pub add-requires-clause-ordered : goal.add-requires-clause-ordered
-add-requires-clause-ordered g c = subst (λ (votes : List (Voter × Vote)). IsMap voter_cmp votes) (sym c.fork-p.ensures.votes) no_votes
+add-requires-clause-ordered g c = subst (λ (votes : List (Voter × Vote)). IsMap voter_cmp votes) (sym c.proposal-p.ensures.votes) no_votes

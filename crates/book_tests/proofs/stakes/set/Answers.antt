@@ -1,6 +1,6 @@
 use Rattle.std.proofs.Common.{arith}
 use Rattle.stake_book.specs.Stakes.{accounts_of}
-use Rattle.stake_book.proofs.Rooms.{balances_within}
+use Rattle.book_tests.proofs.Rooms.{balances_within}
 use Rattle.book_tests.proofs.stakes.set.Goals as goal
 
 pub set_account-requires : goal.set_account-requires
