@@ -47,6 +47,15 @@ impl AccountBook {
         }
     }
 
+    /// The entries, live and frozen: all that a book holds. (Own)
+    pub fn into_view(self) -> ViewMap<Credential, Entry>
+        ensures { result ≡ self }
+    {
+        // The pattern has no rest: with a further field it does not compile.
+        let AccountBook { view } = self;
+        view
+    }
+
     /// The live entry of a credential, none where there is none. (DState of the formal specification)
     pub fn get(&self, c: &Credential) -> Option<Entry>
         ensures value { result ≡ value_at credential_cmp self.now.live c.now }

@@ -5,9 +5,7 @@ use coin_frac::NoMemory;
 use gov_ids::{CredKind, Credential};
 use std::alloc::Global;
 use std::collections::BTreeMap;
-use std::mem::size_of;
 use std::test::Fail;
-use view_map::ViewMap;
 
 fn key(byte: u8) -> Credential {
     Credential {
@@ -49,16 +47,11 @@ fn keeps_the_frozen_entries(rt: HostRuntime) -> Result<(), Fail> {
     }
     let next = book.frozen_past(Some(&key(1))).next();
     assert!(rt; next == Some((key(2), staked(20))));
-    // no further field, which could hold a copy
-    assert!(rt; size_of::<AccountBook>() == size_of::<ViewMap<Credential, Entry>>());
-    assert!(rt;
-        size_of::<ViewMap<Credential, Entry>>()
-            == size_of::<
-                (
-                    BTreeMap<Credential, Entry>,
-                    BTreeMap<Credential, Option<Entry>>
-                )
-            >()
-    );
+    // all that a book holds: the live entries, and what was saved of the keys that changed
+    let (live, saved): (
+        BTreeMap<Credential, Entry>,
+        BTreeMap<Credential, Option<Entry>>,
+    ) = book.into_view().into_maps();
+    assert!(rt; (live.len(), saved.len()) == (2, 3));
     Ok(())
 }

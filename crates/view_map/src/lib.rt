@@ -46,6 +46,16 @@ impl<K: Copy + Ord, V: Copy> ViewMap<K, V> {
         }
     }
 
+    /// The live entries, and of each key that has changed since the freeze what was there then: all that a map holds. (Own)
+    pub fn into_maps(self) -> (BTreeMap<K, V>, BTreeMap<K, Option<V>>)
+        ensures live { result.0.entries ≡ self.live }
+        ensures saved { result.1.entries ≡ self.saved }
+    {
+        // The pattern has no rest: with a further field it does not compile.
+        let ViewMap { live, saved } = self;
+        (live, saved)
+    }
+
     /// The live value at a key, none where there is none. (Own)
     pub fn get(&self, k: &K) -> Option<V>
         ensures value { result ≡ value_at K.cmp self.now.live k.now }
