@@ -7,7 +7,7 @@ ghost use Rattle.commands.specs.Statuses.{status_number};
 ghost use Rattle.commands.specs.declared.status.Status.{Status};
 
 use crate::command::after_name;
-use crate::run::run;
+use crate::dispatch::run;
 use byte_lines::{Sink, Source};
 use std::alloc::Global;
 use std::process::ExitCode;

@@ -4,16 +4,16 @@
 
 mod answer;
 mod command;
+mod dispatch;
+mod every_run;
 mod exit;
 mod fault;
-mod laws;
 mod outcome;
 mod reading;
 mod replay;
-mod run;
 mod status;
 
+pub use dispatch::run;
+pub use every_run::laws;
 pub use exit::run_to_exit;
-pub use laws::laws;
-pub use run::run;
 pub use status::{GenesisCause, Status};

@@ -1,5 +1,5 @@
 use Rattle.commands.proofs.LawsHold.{reached, refused, runs, supply, text_is, within}
-use Rattle.commands.proofs.laws.laws.Goals as goal
+use Rattle.commands.proofs.every_run.laws.Goals as goal
 
 pub returns-clause-runs : goal.returns-clause-runs
 returns-clause-runs c = runs

@@ -1,6 +1,6 @@
 use Rattle.std.proofs.Common.{ap, Err}
 use Rattle.commands.proofs.Complete.{done_or_memory}
-use Rattle.commands.proofs.run.run.Goals as goal
+use Rattle.commands.proofs.dispatch.run.Goals as goal
 
 pub returns-in-Err-clause-complete : goal.returns-in-Err-clause-complete
 returns-in-Err-clause-complete g c = λ bytes command told good short no_read no_write.
