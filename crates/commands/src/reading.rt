@@ -1,7 +1,7 @@
 ghost use Rattle.std.specs.Prelude.{◌≡◌, ◌≢◌, ℕ, ◌<◌, List, IfSome, IfOk, Err, Some, true};
 ghost use Rattle.byte_lines.specs.Faults.{CountsFaults};
 ghost use Rattle.commands.specs.Heard.{HasHeard, HearsLine, HearsNext, IsFoundWithin, turns_left};
-ghost use Rattle.commands.specs.Records.{is_within, reading_of_line, is_blank};
+ghost use Rattle.commands.specs.Records.{is_blank, is_blank_byte, is_within, reading_of_line};
 ghost use Rattle.tx_records.specs.declared.record.Reading.{Reading};
 
 use byte_lines::{Line, LineFault, Lines, Source, whole_lines};
@@ -10,12 +10,18 @@ use record_read::{RecordFault, read_record};
 use std::alloc::Global;
 use tx_records::{FieldName, Reading};
 
-/// Whether a line holds spaces, tabs and carriage returns alone.
+/// Whether a byte is a space, a tab or a carriage return.
+fn blank_byte(byte: u8) -> bool
+    ensures { result ≡ is_blank_byte byte }
+{
+    byte == b' ' || byte == b'\t' || byte == b'\r'
+}
+
+/// Whether a line holds these alone.
 fn blank(line: &[u8]) -> bool
     ensures { result ≡ is_blank line.now }
 {
-    line.iter()
-        .all(|b| *b == b' ' || *b == b'\t' || *b == b'\r')
+    line.iter().all(|byte| blank_byte(*byte))
 }
 
 /// What a line that is no record says.

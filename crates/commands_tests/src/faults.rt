@@ -1,6 +1,6 @@
 //! Reads and writes that fail, each in turn, and input that is cut.
-use crate::memory::{replayed, replayed_in_memory};
-use crate::streams::{ROW, ROW_TEXT, first_lines, first_pieces, stream, whole_lines};
+use crate::memory::{ran, replayed_in_memory};
+use crate::streams::{ROW, ROW_TEXT, first_lines, stream, whole_lines};
 use byte_lines::{FaultySink, FaultySource, MemorySink, MemorySource};
 use commands::{GenesisCause, Status};
 use std::test::Fail;
@@ -14,7 +14,7 @@ fn each_read_fails(rt: HostRuntime) -> Result<(), Fail> {
         let failing = [k];
         let mut source = FaultySource::new(bytes.as_slice(), 64, &failing);
         let mut sink = MemorySink::new(rt.alloc());
-        let status = replayed(rt.alloc(), &mut source, &mut sink)?;
+        let status = ran(rt.alloc(), "replay", &mut source, &mut sink)?;
         let came = bytes.get(..64 * k as usize).unwrap_or(bytes.as_slice());
         let text = first_lines(ROW_TEXT.as_bytes(), whole_lines(came));
         let want = if k as usize > bytes.len().div_ceil(64) {
@@ -27,22 +27,27 @@ fn each_read_fails(rt: HostRuntime) -> Result<(), Fail> {
     Ok(())
 }
 
-/// Write k fails, in pieces of so many bytes at most: the pieces before it were written, each of one line.
+/// Write k fails, of those of one byte each or of those of a line each: the bytes, or the lines, before it were written.
 #[test]
 fn each_write_fails(rt: HostRuntime) -> Result<(), Fail> {
     let bytes = stream(rt.alloc(), ROW)?;
-    for number in 0..32u64 {
+    let whole = ROW_TEXT.as_bytes();
+    for number in 0..320usize {
         let (piece, k) = if number < 7 {
             (65_536, number)
         } else {
-            (16, number - 7)
+            (1, number - 7)
         };
-        let failing = [k];
+        let failing = [k as u64];
         let mut source = MemorySource::new(bytes.as_slice(), 7);
         let mut sink = FaultySink::new(rt.alloc(), piece, &failing);
-        let status = replayed(rt.alloc(), &mut source, &mut sink)?;
-        let text = first_pieces(ROW_TEXT.as_bytes(), piece, k);
-        let want = if text.len() == ROW_TEXT.as_bytes().len() {
+        let status = ran(rt.alloc(), "replay", &mut source, &mut sink)?;
+        let text = if number < 7 {
+            first_lines(whole, k)
+        } else {
+            whole.get(..k).unwrap_or(whole)
+        };
+        let want = if text.len() == whole.len() {
             Status::Done
         } else {
             Status::WriteFault

@@ -11,12 +11,23 @@ use commands::{Status, run};
 use std::alloc::Global;
 
 /// Words of a command, each after a space.
-pub fn words_of(alloc: Global, text: &str) -> Result<Vec<String>, NoMemory> {
+fn words_of(alloc: Global, text: &str) -> Result<Vec<String>, NoMemory> {
     let mut words = Vec::new(alloc);
     for word in text.split_ascii_whitespace() {
         words.push(String::from_str(alloc, word)?)?;
     }
     Ok(words)
+}
+
+/// How a run ends, whose words are those of a text.
+pub fn ran<S: Source, K: Sink>(
+    alloc: Global,
+    text: &str,
+    source: &mut S,
+    sink: &mut K,
+) -> Result<Status, NoMemory> {
+    let words = words_of(alloc, text)?;
+    Ok(run(alloc, words.as_slice(), source, sink))
 }
 
 /// The word of a replay.
@@ -26,16 +37,6 @@ fn replay_words(alloc: Global) -> Result<Vec<String>, NoMemory>
     let mut words = Vec::new(alloc);
     words.push(String::from_str(alloc, "replay")?)?;
     Ok(words)
-}
-
-/// How a replay ends.
-pub fn replayed<S: Source, K: Sink>(
-    alloc: Global,
-    source: &mut S,
-    sink: &mut K,
-) -> Result<Status, NoMemory> {
-    let words = replay_words(alloc)?;
-    Ok(run(alloc, words.as_slice(), source, sink))
 }
 
 /// How a replay over memory ends, one read giving at most `part` bytes, and what it wrote.

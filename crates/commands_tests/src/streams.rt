@@ -110,22 +110,3 @@ pub fn first_lines(text: &[u8], count: usize) -> &[u8] {
     }
     text
 }
-
-/// What so many pieces of a text hold, each of at most so many bytes of one line.
-pub fn first_pieces(text: &[u8], piece: usize, count: u64) -> &[u8] {
-    let mut taken: &[u8] = &[];
-    let mut left = count;
-    let mut room = piece;
-    for (at, byte) in text.iter().enumerate() {
-        if left == 0 {
-            return taken;
-        }
-        room = room.saturating_sub(1);
-        if room == 0 || *byte == b'\n' {
-            left -= 1;
-            room = piece;
-            taken = text.get(..at + 1).unwrap_or(text);
-        }
-    }
-    taken
-}
