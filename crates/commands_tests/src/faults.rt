@@ -1,4 +1,6 @@
 //! Reads and writes that fail, each in turn, and input that is cut.
+ghost use Rattle.std.specs.Prelude.{◌<◌};
+
 use crate::memory::{ran, replayed_in_memory};
 use crate::streams::{ROW, ROW_TEXT, first_lines, stream, whole_lines};
 use byte_lines::{FaultySink, FaultySource, MemorySink, MemorySource};
@@ -27,27 +29,29 @@ fn each_read_fails(rt: HostRuntime) -> Result<(), Fail> {
     Ok(())
 }
 
-/// Write k fails, of those of one byte each or of those of a line each: the bytes, or the lines, before it were written.
+/// How long each write is at most, which one fails, and the text before it: for the first seven a line each, then a byte each.
+fn failing_write(number: usize) -> (usize, u64, &'static [u8])
+    ensures { 0 < result.0 }
+{
+    let text = ROW_TEXT.as_bytes();
+    if number < 7 {
+        return (65_536, number as u64, first_lines(text, number));
+    }
+    let count = number - 7;
+    (1, count as u64, text.get(..count).unwrap_or(text))
+}
+
+/// A write fails: the lines, or the bytes, before it were written.
 #[test]
 fn each_write_fails(rt: HostRuntime) -> Result<(), Fail> {
     let bytes = stream(rt.alloc(), ROW)?;
-    let whole = ROW_TEXT.as_bytes();
     for number in 0..320usize {
-        let (piece, k) = if number < 7 {
-            (65_536, number)
-        } else {
-            (1, number - 7)
-        };
-        let failing = [k as u64];
+        let (piece, k, text) = failing_write(number);
+        let failing = [k];
         let mut source = MemorySource::new(bytes.as_slice(), 7);
         let mut sink = FaultySink::new(rt.alloc(), piece, &failing);
         let status = ran(rt.alloc(), "replay", &mut source, &mut sink)?;
-        let text = if number < 7 {
-            first_lines(whole, k)
-        } else {
-            whole.get(..k).unwrap_or(whole)
-        };
-        let want = if text.len() == whole.len() {
+        let want = if text.len() == ROW_TEXT.len() {
             Status::Done
         } else {
             Status::WriteFault

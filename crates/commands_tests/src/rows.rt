@@ -1,16 +1,19 @@
 //! Rows with the text that each must give.
+ghost use Rattle.std.specs.Prelude.{◌<◌};
+
 use crate::memory::{ran, replayed_in_memory};
 use crate::streams::{ROW, ROW_TEXT, stream};
 use byte_lines::{MemorySink, MemorySource};
+use coin_frac::NoMemory;
 use commands::{GenesisCause, Status};
+use std::alloc::Global;
 use std::test::Fail;
 use tx_records::{FieldName, GenesisRule};
 
-/// How a stream ends, and what was written: that of the worked row; line ends, blank lines, a float that nobody names, two
-/// equal names, of which the later counts, and prints; streams that make no ledger, each with its cause.
-#[test]
-fn gives_these_texts(rt: HostRuntime) -> Result<(), Fail> {
-    let table = [
+/// Shapes of streams, how each ends, and what was written: that of the worked row; line ends, blank lines, a float that
+/// nobody names, two equal names, of which the later counts, and prints; streams that make no ledger, each with its cause.
+fn rows() -> [(&'static str, Status, &'static str); 13] {
+    [
         (ROW, Status::Done, ROW_TEXT),
         (
             "f\np\n",
@@ -59,11 +62,23 @@ fn gives_these_texts(rt: HostRuntime) -> Result<(), Fail> {
             }),
             "",
         ),
-    ];
-    for (shape, want, text) in table {
-        let bytes = stream(rt.alloc(), shape)?;
+    ]
+}
+
+/// How the replay of a stream ends, one read giving at most `part` bytes, and what it wrote.
+fn given(alloc: Global, shape: &str, part: usize) -> Result<(Status, MemorySink), NoMemory>
+    requires { 0 < part }
+{
+    let bytes = stream(alloc, shape)?;
+    replayed_in_memory(alloc, bytes.as_slice(), part)
+}
+
+/// Each stream, in parts of several sizes.
+#[test]
+fn gives_these_texts(rt: HostRuntime) -> Result<(), Fail> {
+    for (shape, want, text) in rows() {
         for part in [1, 2, 7, 65_536] {
-            let (status, sink) = replayed_in_memory(rt.alloc(), bytes.as_slice(), part)?;
+            let (status, sink) = given(rt.alloc(), shape, part)?;
             assert_eq!(rt; status, want, "{shape} in parts of {part}");
             assert_eq!(rt;
                 sink.as_slice(),
