@@ -1,21 +1,8 @@
 //! conway: Cardano's Conway ledger, replayed from records on standard input.
 #![tactic(auto)]
 
-mod answer;
-mod command;
-mod exit;
-mod fault;
-mod laws;
-mod outcome;
-mod reading;
-mod replay;
-mod run;
-mod status;
-#[cfg(test)]
-mod tests;
-
 use byte_lines::{ReaderSource, WriterSink};
-use exit::run_to_exit;
+use commands::run_to_exit;
 use std::env;
 use std::process::ExitCode;
 use std::rt::Env;

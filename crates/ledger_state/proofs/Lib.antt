@@ -1,11 +1,6 @@
 pub mod Puts
-pub mod Walks
-pub mod MemberWalks
-pub mod Listings
 pub mod Laid
 pub mod Replacing
-pub mod Frozen
-pub mod FirstBook
 pub mod Starting
 pub mod Balances
 pub mod Proposing

@@ -19,7 +19,7 @@ use Rattle.drep_book.specs.Dreps.{Dreps}
 use Rattle.stake_book.specs.Stakes.{Stakes, accounts_of, with_used, without_dreps}
 use Rattle.utxo_set.specs.Utxos.{Utxos}
 use Rattle.view_map.specs.View.{frozen_of}
-use Rattle.ledger_state.specs.Books.{KeepsAccounts, KeepsOutputs}
+use Rattle.ledger_state.specs.Books.{IsMade, KeepsAccounts, KeepsOutputs}
 use Rattle.ledger_state.specs.ChangedDreps as changed_dreps
 use Rattle.ledger_state.specs.Drafts.{Changed, with_registrations}
 use Rattle.proposal_store.specs.Leaving.{without_votes_of}
@@ -35,10 +35,6 @@ taken_from s a rs taken e p k =
     record { outputs = p ∙ ap (λ (ks : List OutRef). record s.outputs { outputs = without_keys outref_cmp ks s.outputs.outputs }) e; kept = k }
 
 -- into which others were put, and in which an id was marked
-pub record IsMade (s t : Stakes) (taken : List OutRef) (made : List (OutRef × Output)) (id : TxId) : Type 0 where
-  pub outputs : t.outputs ≡ record { outputs = with_values outref_cmp made (without_keys outref_cmp taken s.outputs.outputs); used = with_key txid_cmp id s.outputs.used }
-  pub kept : KeepsAccounts s t
-
 pub made_from_taken : (s a b t : Stakes) (taken : List OutRef) (made : List (OutRef × Output)) (id : TxId) → IsTaken s a taken
     → b.outputs ≡ record a.outputs { outputs = with_values outref_cmp made a.outputs.outputs } → KeepsAccounts a b → t ≡ with_used (with_key txid_cmp id b.outputs.used) b → IsMade s t taken made id
 made_from_taken s a b t taken made id h p k q = record {

@@ -3,8 +3,6 @@ pub mod Standing
 pub mod Starts
 pub mod Drafts
 pub mod Moved
-pub mod Listing
-pub mod Members
 pub mod Books
 pub mod ChangedAccounts
 pub mod ChangedDreps

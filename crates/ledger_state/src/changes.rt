@@ -61,16 +61,19 @@ impl Changes {
         ensures hot { IfOk result (λ after. after.hot ≡ with_values credential_cmp self.hot books.hot) }
         ensures proposals { IfOk result (λ after. after.proposals ≡ map (without_votes_of self.left) books.proposals) }
     {
-        let left = self.accounts.left(alloc)?;
-        let mut proposals = books.proposals;
-        proposals.clear_votes_of(&left);
-        Ok(Books {
-            stake: self.accounts.lay_over(books.stake, &left)?,
-            pools: with_pools(books.pools, self.pools)?,
-            dreps: self.dreps.lay_over(books.dreps, epoch)?,
-            hot: self.hot.lay_over(books.hot)?,
-            proposals,
-        })
+        over_parts(
+            alloc,
+            epoch,
+            self.accounts,
+            books.stake,
+            books.proposals,
+            self.pools,
+            books.pools,
+            self.dreps,
+            books.dreps,
+            self.hot,
+            books.hot,
+        )
     }
 }
 
@@ -82,6 +85,108 @@ pub(crate) struct Books {
     pub dreps: DrepBook,
     pub hot: HotBook,
     pub proposals: LiveProposals,
+}
+
+/// The books of an epoch with what changed of each. (They are passed one by one, and few are left where memory can run out: a proof follows the end of each value that is held there)
+fn over_parts(
+    alloc: Global,
+    epoch: u64,
+    accounts: AccountChanges,
+    stake: StakeBook,
+    proposals: LiveProposals,
+    changed_pools: BTreeMap<PoolId, Pool>,
+    pools: PoolBook,
+    changed_dreps: DrepChanges,
+    dreps: DrepBook,
+    changed_hot: HotChanges,
+    hot: HotBook,
+) -> Result<Books, NoMemory>
+    requires stake { IsMap credential_cmp (accounts_of stake) × HasRoom 0 stake }
+    requires lower { NoneRises accounts.accounts (without_dreps accounts.left (accounts_of stake)) }
+    requires fit { AllFit dreps.dormant dreps.dreps }
+    ensures accounts { IfOk result (λ after. accounts_of after.stake ≡
+        with_registrations accounts.accounts (without_dreps accounts.left (accounts_of stake))) }
+    ensures rest { IfOk result (λ after. KeepsOutputs stake after.stake) }
+    ensures pools { IfOk result (λ after. after.pools ≡ with_values pool_cmp changed_pools.entries pools) }
+    ensures dreps { IfOk result (λ after. after.dreps ≡ laid_over changed_dreps epoch dreps) }
+    ensures hot { IfOk result (λ after. after.hot ≡ with_values credential_cmp changed_hot.entries hot) }
+    ensures proposals { IfOk result (λ after. after.proposals ≡ map (without_votes_of accounts.left) proposals) }
+{
+    let (pools, dreps, hot) = with_parts(
+        epoch,
+        changed_pools,
+        pools,
+        changed_dreps,
+        dreps,
+        changed_hot,
+        hot,
+    )?;
+    let (stake, proposals) = with_accounts(alloc, accounts, stake, proposals)?;
+    Ok(Books {
+        stake,
+        pools,
+        dreps,
+        hot,
+        proposals,
+    })
+}
+
+/// The accounts with what changed of them, and the proposals without the votes of the DReps that left.
+fn with_accounts(
+    alloc: Global,
+    accounts: AccountChanges,
+    stake: StakeBook,
+    proposals: LiveProposals,
+) -> Result<(StakeBook, LiveProposals), NoMemory>
+    requires stake { IsMap credential_cmp (accounts_of stake) × HasRoom 0 stake }
+    requires lower { NoneRises accounts.accounts (without_dreps accounts.left (accounts_of stake)) }
+    ensures accounts { IfOk result (λ after. accounts_of after.0 ≡
+        with_registrations accounts.accounts (without_dreps accounts.left (accounts_of stake))) }
+    ensures rest { IfOk result (λ after. KeepsOutputs stake after.0) }
+    ensures proposals { IfOk result (λ after. after.1 ≡ map (without_votes_of accounts.left) proposals) }
+{
+    let left = accounts.left(alloc)?;
+    let mut proposals = proposals;
+    proposals.clear_votes_of(&left);
+    let stake = accounts.lay_over(stake, &left)?;
+    Ok((stake, proposals))
+}
+
+/// The pools, the DReps and the hot keys of an epoch with what changed of them.
+fn with_parts(
+    epoch: u64,
+    changed_pools: BTreeMap<PoolId, Pool>,
+    pools: PoolBook,
+    changed_dreps: DrepChanges,
+    dreps: DrepBook,
+    changed_hot: HotChanges,
+    hot: HotBook,
+) -> Result<(PoolBook, DrepBook, HotBook), NoMemory>
+    requires fit { AllFit dreps.dormant dreps.dreps }
+    ensures pools { IfOk result (λ after. after.0 ≡ with_values pool_cmp changed_pools.entries pools) }
+    ensures dreps { IfOk result (λ after. after.1 ≡ laid_over changed_dreps epoch dreps) }
+    ensures hot { IfOk result (λ after. after.2 ≡ with_values credential_cmp changed_hot.entries hot) }
+{
+    let (dreps, hot) = with_keys(epoch, changed_dreps, dreps, changed_hot, hot)?;
+    let pools = with_pools(pools, changed_pools)?;
+    Ok((pools, dreps, hot))
+}
+
+/// The DReps and the hot keys of an epoch with what changed of them.
+fn with_keys(
+    epoch: u64,
+    changed_dreps: DrepChanges,
+    dreps: DrepBook,
+    changed_hot: HotChanges,
+    hot: HotBook,
+) -> Result<(DrepBook, HotBook), NoMemory>
+    requires fit { AllFit dreps.dormant dreps.dreps }
+    ensures dreps { IfOk result (λ after. after.0 ≡ laid_over changed_dreps epoch dreps) }
+    ensures hot { IfOk result (λ after. after.1 ≡ with_values credential_cmp changed_hot.entries hot) }
+{
+    let dreps = changed_dreps.lay_over(dreps, epoch)?;
+    let hot = changed_hot.lay_over(hot)?;
+    Ok((dreps, hot))
 }
 
 /// The pools with these.

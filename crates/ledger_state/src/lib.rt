@@ -4,13 +4,9 @@
 mod account_changes;
 mod books;
 mod changes;
-mod committee;
 mod draft;
 mod drep_changes;
-mod entries;
 mod fault;
-mod first;
-mod genesis_rules;
 mod hot_changes;
 mod live_proposals;
 mod proposals;

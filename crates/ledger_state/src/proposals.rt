@@ -12,8 +12,26 @@ use listed::Listed;
 use std::alloc::Global;
 use tx_records::{ProposalRecord, Tx};
 
+/// The live proposals with the votes and then with the proposals of a transaction; `last` is the last epoch in which these may be voted on. (GOV of the formal specification)
+pub fn with_tx_proposals(
+    alloc: Global,
+    store: LiveProposals,
+    last: u64,
+    tx: &Tx,
+) -> Result<LiveProposals, NoMemory>
+    requires few { length tx.now.proposals ≤ 65536 }
+    requires unknown { IsUnknown tx.now.id (map (with_votes tx.now) store) }
+    requires room { deposits_of (map (with_votes tx.now) store)
+        + sum_by (λ (p : ProposalRecord). p.deposit) tx.now.proposals < 2 ^ 64 }
+    ensures { IfOk result (λ after. after ≡ map (with_votes tx.now) store ++ made_proposals last tx.now) }
+{
+    let voted = with_votes(store, tx)?;
+    let proposed = with_proposals(alloc, voted, last, tx)?;
+    Ok(proposed)
+}
+
 /// The live proposals with the votes of a transaction, a later one of a voter in place of an earlier one. (GOV of the formal specification)
-pub fn with_votes(store: LiveProposals, tx: &Tx) -> Result<LiveProposals, NoMemory>
+fn with_votes(store: LiveProposals, tx: &Tx) -> Result<LiveProposals, NoMemory>
     ensures { IfOk result (λ after. after ≡ map (with_votes tx.now) store) }
 {
     let mut store = store;
@@ -24,7 +42,7 @@ pub fn with_votes(store: LiveProposals, tx: &Tx) -> Result<LiveProposals, NoMemo
 }
 
 /// With the proposals of a transaction, as id#0, id#1 and so on, with no votes; `last` is the last epoch in which they may be voted on. (GOV of the formal specification)
-pub fn with_proposals(
+fn with_proposals(
     alloc: Global,
     store: LiveProposals,
     last: u64,

@@ -1,17 +1,32 @@
-ghost use Rattle.std.specs.Prelude.{◌≡◌, false, true, IfOk};
+ghost use Rattle.std.specs.Prelude.{◌≡◌, ◌+◌, ◌<◌, ◌≤◌, ◌^◌, ◌++◌, false, true, IfOk, None, length, map, sum_by};
+ghost use Rattle.std.specs.List.{AllByRecursion};
+ghost use Rattle.std.specs.Map.{keys_of};
+ghost use Rattle.book_records.specs.Outputs.{lovelace_in};
+ghost use Rattle.gov_ids.specs.Orders.{outref_cmp};
+ghost use Rattle.gov_model.specs.Proposals.{deposits_of};
 ghost use Rattle.ledger_model.specs.Broken.{is_allowed};
 ghost use Rattle.ledger_model.specs.Draft.{last_draft};
-ghost use Rattle.ledger_model.specs.Transaction.{ledger_after_tx};
+ghost use Rattle.ledger_model.specs.Transaction.{ledger_after_tx, made_outputs, made_proposals, with_votes};
 ghost use Rattle.ledger_model.specs.UtxoRules.{is_failed, returned};
+ghost use Rattle.ledger_state.specs.Books.{IsMade};
 ghost use Rattle.ledger_state.specs.Drafts.{draft_of, laid_over};
+ghost use Rattle.ledger_state.specs.Proposed.{IsUnknown};
 ghost use Rattle.ledger_state.specs.Standing.{on_ledger};
+ghost use Rattle.maps.specs.Maps.{IsMap, value_at, without_keys};
+ghost use Rattle.stake_book.specs.Stakes.{accounts_of, balances_in};
 ghost use Rattle.tx_records.specs.TxLimits.{is_within_limits};
+ghost use Rattle.tx_records.specs.declared.limits.TheConstants.{SUPPLY_LIMIT};
+ghost use Rattle.tx_records.specs.declared.tx.ProposalRecord.{ProposalRecord};
+ghost use Rattle.tx_records.specs.declared.tx.TxOutput.{TxOutput};
 
 use super::LedgerState;
-use crate::books::{with_outputs, with_return, without_outputs};
+use crate::books::{with_tx_collateral, with_tx_outputs};
 use crate::changes::{Books, Changes};
-use crate::proposals::{with_proposals, with_votes};
+use crate::live_proposals::LiveProposals;
+use crate::proposals::with_tx_proposals;
 use coin_frac::NoMemory;
+use stake_book::StakeBook;
+use std::alloc::Global;
 use tx_records::{Scripts, Tx};
 
 impl LedgerState {
@@ -45,11 +60,7 @@ impl LedgerState {
             proposals: self.proposals,
         };
         let books = changes.laid_over(self.alloc, self.epoch, books)?;
-        let stake = without_outputs(books.stake, tx.inputs.as_slice())?;
-        let mut stake = with_outputs(stake, tx)?;
-        stake.mark_used(tx.id)?;
-        let proposals = with_votes(books.proposals, tx)?;
-        let proposals = with_proposals(self.alloc, proposals, last, tx)?;
+        let (stake, proposals) = with_tx(self.alloc, last, books.stake, books.proposals, tx)?;
         Ok(LedgerState {
             fees: self.fees + tx.fee,
             donations: self.donations + tx.donation,
@@ -69,17 +80,41 @@ impl LedgerState {
         requires failed { is_failed tx.now.scripts ≡ true }
         ensures { IfOk result (λ s. s ≡ on_ledger (λ l. ledger_after_tx l tx.now) self) }
     {
-        let held = self.outputs().total();
-        let stake = without_outputs(self.stake, tx.collateral.as_slice())?;
-        let collateral = held - stake.outputs().total();
-        let mut stake = with_return(stake, tx)?;
-        stake.mark_used(tx.id)?;
+        let (stake, collateral) = with_tx_collateral(self.stake, tx)?;
         Ok(LedgerState {
             fees: self.fees + (collateral - returned(tx)),
             stake,
             ..self
         })
     }
+}
+
+/// The outputs and the proposals after an allowed transaction, over which its changes are laid.
+fn with_tx(
+    alloc: Global,
+    last: u64,
+    stake: StakeBook,
+    proposals: LiveProposals,
+    tx: &Tx,
+) -> Result<(StakeBook, LiveProposals), NoMemory>
+    requires in_order { IsMap outref_cmp stake.outputs.outputs }
+    requires few_outputs { length tx.now.outputs ≤ 65535 }
+    requires absent { AllByRecursion
+        (λ r. value_at outref_cmp (without_keys outref_cmp tx.now.inputs stake.outputs.outputs) r ≡ None)
+        (keys_of (made_outputs tx.now)) }
+    requires room { lovelace_in (without_keys outref_cmp tx.now.inputs stake.outputs.outputs)
+        + balances_in (accounts_of stake) + sum_by (λ (o : TxOutput). o.lovelace) tx.now.outputs ≤ SUPPLY_LIMIT }
+    requires few_proposals { length tx.now.proposals ≤ 65536 }
+    requires unknown { IsUnknown tx.now.id (map (with_votes tx.now) proposals) }
+    requires deposits { deposits_of (map (with_votes tx.now) proposals)
+        + sum_by (λ (p : ProposalRecord). p.deposit) tx.now.proposals < 2 ^ 64 }
+    ensures made { IfOk result (λ after. IsMade stake after.0 tx.now.inputs (made_outputs tx.now) tx.now.id) }
+    ensures proposed { IfOk result (λ after.
+        after.1 ≡ map (with_votes tx.now) proposals ++ made_proposals last tx.now) }
+{
+    let stake = with_tx_outputs(stake, tx)?;
+    let proposals = with_tx_proposals(alloc, proposals, last, tx)?;
+    Ok((stake, proposals))
 }
 
 /// What the collateral return of a transaction gives back, 0 where it has none, in lovelace.

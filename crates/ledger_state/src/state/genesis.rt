@@ -4,12 +4,10 @@ ghost use Rattle.tx_records.specs.GenesisLimits.{is_within_limits};
 ghost use Rattle.ledger_state.specs.Starts.{StartsAs};
 
 use super::LedgerState;
-use crate::committee::{first_committee, first_hot, members_of};
 use crate::fault::GenesisFault;
-use crate::first::{first_dreps, first_pools, first_stake};
-use crate::genesis_rules::broken_rule;
 use crate::live_proposals::LiveProposals;
 use coin_frac::NoMemory;
+use genesis_books::{broken_rule, first_committee, first_holdings, first_keys};
 use gov_actions::{EnactState, LastIds};
 use listed::Boxed;
 use std::alloc::Global;
@@ -24,6 +22,9 @@ impl LedgerState {
         if let Some(rule) = broken_rule(alloc, genesis)? {
             return Err(GenesisFault::Broken(rule));
         }
+        let state = first_state(alloc, genesis)?;
+        let (stake, pools) = first_holdings(alloc, genesis)?;
+        let (dreps, hot) = first_keys(alloc, genesis)?;
         Ok(LedgerState {
             alloc,
             network: genesis.network,
@@ -34,11 +35,11 @@ impl LedgerState {
             reserves: genesis.reserves,
             fees: 0,
             donations: 0,
-            state: first_state(alloc, genesis)?,
-            stake: first_stake(alloc, genesis)?,
-            pools: first_pools(alloc, genesis)?,
-            dreps: first_dreps(alloc, genesis)?,
-            hot: first_hot(alloc, members_of(&genesis.committee))?,
+            state,
+            stake,
+            pools,
+            dreps,
+            hot,
             proposals: LiveProposals::new(alloc),
         })
     }

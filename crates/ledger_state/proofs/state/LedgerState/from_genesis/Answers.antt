@@ -1,8 +1,7 @@
-use Rattle.std.proofs.Common.{◌≡◌, [], None, sym, subst, ◌∙◌}
+use Rattle.std.proofs.Common.{◌≡◌, None, sym, subst, ◌∙◌}
 use Rattle.ledger_model.specs.Ledger.{Ledger}
 use Rattle.run_model.specs.Genesis.{genesis_fault}
 use Rattle.ledger_state.specs.Kept.{IsKept}
-use Rattle.ledger_state.proofs.MemberWalks.{with_hot}
 use Rattle.ledger_state.proofs.Starting.{genesis_kept, made_ledger}
 use Rattle.ledger_state.proofs.state.LedgerState.from_genesis.Goals as goal
 
@@ -11,19 +10,19 @@ unbroken c = sym c.in_ok-rule.ensures ∙ c.in_default.is
 
 pub invariant_of-result : goal.invariant_of-result
 invariant_of-result c =
-    let stake = c.in_ok-first_stake.ensures in
+    let stake = c.in_ok-stake.ensures in
     subst (λ (l : Ledger). IsKept l)
     (sym (
-    made_ledger c.args.genesis.now c.in_ok-first_state.field-0 c.from.result c.in_ok-first_stake.field-0 c.in_ok-first_pools.field-0 c.in_ok-first_dreps.field-0 c.in_ok-first_hot.field-0 c.new.result
-    c.in_ok-first_state.ensures c.from.ensures stake.outputs stake.used stake.accounts c.in_ok-first_pools.ensures c.in_ok-first_dreps.ensures.dreps c.in_ok-first_dreps.ensures.dormant
-    (c.in_ok-first_hot.ensures ∙ (λ i. with_hot (c.members_of.ensures i) [])) c.new.ensures
+    made_ledger c.args.genesis.now c.in_ok-state.state c.from.result c.in_ok-stake.stake c.in_ok-stake.pools c.in_ok-dreps.dreps c.in_ok-dreps.hot c.new.result
+    c.in_ok-state.ensures c.from.ensures stake.outputs stake.used stake.accounts c.in_ok-stake.ensures.pools c.in_ok-dreps.ensures.dreps c.in_ok-dreps.ensures.dormant
+    c.in_ok-dreps.ensures.hot c.new.ensures
     ))
     (genesis_kept c.args.genesis.now c.requires.within (unbroken c))
 
 pub returns : goal.returns
 returns c =
-    let stake = c.in_ok-first_stake.ensures in
-    let ledger = made_ledger c.args.genesis.now c.in_ok-first_state.field-0 c.from.result c.in_ok-first_stake.field-0 c.in_ok-first_pools.field-0 c.in_ok-first_dreps.field-0 c.in_ok-first_hot.field-0 c.new.result
-    c.in_ok-first_state.ensures c.from.ensures stake.outputs stake.used stake.accounts c.in_ok-first_pools.ensures c.in_ok-first_dreps.ensures.dreps c.in_ok-first_dreps.ensures.dormant
-    (c.in_ok-first_hot.ensures ∙ (λ i. with_hot (c.members_of.ensures i) [])) c.new.ensures in
+    let stake = c.in_ok-stake.ensures in
+    let ledger = made_ledger c.args.genesis.now c.in_ok-state.state c.from.result c.in_ok-stake.stake c.in_ok-stake.pools c.in_ok-dreps.dreps c.in_ok-dreps.hot c.new.result
+    c.in_ok-state.ensures c.from.ensures stake.outputs stake.used stake.accounts c.in_ok-stake.ensures.pools c.in_ok-dreps.ensures.dreps c.in_ok-dreps.ensures.dormant
+    c.in_ok-dreps.ensures.hot c.new.ensures in
     (unbroken c, λ i. record { ledger = ledger i; frozen = stake.frozen i })

@@ -1,0 +1,17 @@
+ghost use Rattle.commands.specs.Laws.{LinesAreWithin, LinesReach, RefusedChangesNothing, RunsAreOfTheWhole, SupplyStays, TextIsOfTheWhole};
+
+use record_read::lines_read_within_limits;
+use run_laws::supply_stays;
+
+/// What holds of every run. It does nothing.
+pub fn laws()
+    ensures runs { RunsAreOfTheWhole }
+    ensures text { TextIsOfTheWhole }
+    ensures within { LinesAreWithin }
+    ensures reached { LinesReach }
+    ensures supply { SupplyStays }
+    ensures refused { RefusedChangesNothing }
+{
+    lines_read_within_limits();
+    supply_stays();
+}

@@ -1,0 +1,61 @@
+//! Runs over memory, where no read and no write fails, and runs whose ending is not told beforehand.
+ghost use Rattle.std.specs.Prelude.{◌≡◌, ◌≢◌, ◌<◌, ◌≤◌, ◌⊎◌, IfOk, None, Some, length};
+ghost use Rattle.commands.specs.Commands.{IsReplayCommand};
+ghost use Rattle.tx_records.specs.declared.limits.TheConstants.{STREAM_LIMIT};
+ghost use Rattle.commands.specs.Records.{records_of};
+ghost use Rattle.commands.specs.Runs.{start_fault, text_of_run};
+
+use byte_lines::{MemorySink, MemorySource, Sink, Source};
+use coin_frac::NoMemory;
+use commands::{Status, run};
+use std::alloc::Global;
+
+/// Words of a command, each after a space.
+fn words_of(alloc: Global, text: &str) -> Result<Vec<String>, NoMemory> {
+    let mut words = Vec::new(alloc);
+    for word in text.split_ascii_whitespace() {
+        words.push(String::from_str(alloc, word)?)?;
+    }
+    Ok(words)
+}
+
+/// How a run ends, whose words are those of a text.
+pub fn ran<S: Source, K: Sink>(
+    alloc: Global,
+    text: &str,
+    source: &mut S,
+    sink: &mut K,
+) -> Result<Status, NoMemory> {
+    let words = words_of(alloc, text)?;
+    Ok(run(alloc, words.as_slice(), source, sink))
+}
+
+/// The word of a replay.
+fn replay_words(alloc: Global) -> Result<Vec<String>, NoMemory>
+    ensures { IfOk result (λ words. IsReplayCommand words.items) }
+{
+    let mut words = Vec::new(alloc);
+    words.push(String::from_str(alloc, "replay")?)?;
+    Ok(words)
+}
+
+/// How a replay over memory ends, one read giving at most `part` bytes, and what it wrote.
+pub fn replayed_in_memory(
+    alloc: Global,
+    bytes: &[u8],
+    part: usize,
+) -> Result<(Status, MemorySink), NoMemory>
+    requires { 0 < part }
+    ensures no_usage { IfOk result (λ r. r.0 ≢ Status.Usage) }
+    ensures no_read_fault { IfOk result (λ r. r.0 ≢ Status.ReadFault) }
+    ensures no_write_fault { IfOk result (λ r. r.0 ≢ Status.WriteFault) }
+    ensures done { IfOk result (λ r. r.0 ≡ Status.Done → text_of_run bytes.now ≡ Some r.1) }
+    ensures complete { start_fault (records_of bytes.now) ≡ None → length bytes.now ≤ STREAM_LIMIT →
+        IfOk result (λ r. (r.0 ≡ Status.Done) ⊎ (r.0 ≡ Status.NoMemory)) }
+{
+    let words = replay_words(alloc)?;
+    let mut source = MemorySource::new(bytes, part);
+    let mut sink = MemorySink::new(alloc);
+    let status = run(alloc, words.as_slice(), &mut source, &mut sink);
+    Ok((status, sink))
+}
