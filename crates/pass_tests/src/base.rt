@@ -125,7 +125,7 @@ pub(crate) fn start(
     ensures { IfOk result (λ s. IsMap credential_cmp (members_of s.committee)) }
 {
     let committee = committee(alloc, members, threshold)?;
-    let mut state = bare(params).apply(id(0), &committee)?;
+    let mut state = bare(params).apply(alloc, id(0), &committee)?;
     state.last.committee = None;
     Ok(state)
 }

@@ -136,13 +136,14 @@ fn update(
 
 #[test]
 fn withdrawals_come_from_the_treasury(rt: HostRuntime) -> Result<(), Fail> {
+    let alloc = rt.alloc();
     let account = |cred| Account { network: 1, cred };
-    let targets = [(account(key(1)), 30), (account(key(2)), 12)].to_vec(rt.alloc())?;
+    let targets = [(account(key(1)), 30), (account(key(2)), 12)].to_vec(alloc)?;
     let withdrawals = Action::TreasuryWithdrawals {
         targets: Listed::from_vec(targets),
         policy: None,
     };
-    let after = start()?.apply(id(7), &withdrawals)?;
+    let after = start()?.apply(alloc, id(7), &withdrawals)?;
     assert_eq!(rt; after.treasury, 58);
     assert_eq!(rt; after.last.parameters, None);
     Ok(())
@@ -158,7 +159,9 @@ fn committees_change_and_are_dismissed(rt: HostRuntime) -> Result<(), Fail> {
         &[(key(3), 30), (key(2), 25)],
         Unit::new(2, 3)?,
     )?;
-    let after = start()?.apply(id(7), &first)?.apply(id(8), &second)?;
+    let after = start()?
+        .apply(alloc, id(7), &first)?
+        .apply(alloc, id(8), &second)?;
     let members = [(key(2), 25), (key(3), 30)];
     assert_eq!(rt;
         after.committee.as_ref().map(|c| c.members.as_slice()),
@@ -168,7 +171,7 @@ fn committees_change_and_are_dismissed(rt: HostRuntime) -> Result<(), Fail> {
         after.committee.as_ref().map(|c| c.threshold),
         Some(Unit::new(2, 3)?)
     );
-    let after = after.apply(id(9), &Action::NoConfidence { previous: None })?;
+    let after = after.apply(alloc, id(9), &Action::NoConfidence { previous: None })?;
     assert!(rt; after.committee.is_none());
     assert_eq!(rt; after.last.committee, Some(id(9)));
     Ok(())
@@ -176,19 +179,20 @@ fn committees_change_and_are_dismissed(rt: HostRuntime) -> Result<(), Fail> {
 
 #[test]
 fn the_others_change_what_they_name(rt: HostRuntime) -> Result<(), Fail> {
+    let alloc = rt.alloc();
     let constitution = Action::NewConstitution {
         previous: None,
         document: [2; 32],
         script: None,
     };
-    let after = start()?.apply(id(7), &constitution)?;
+    let after = start()?.apply(alloc, id(7), &constitution)?;
     assert_eq!(rt; (after.document, after.script), ([2; 32], None));
     assert_eq!(rt; after.last.constitution, Some(id(7)));
     let fork = Action::HardForkInitiation {
         previous: None,
         version: (10, 0),
     };
-    let after = after.apply(id(8), &fork)?;
+    let after = after.apply(alloc, id(8), &fork)?;
     assert_eq!(rt; after.version, (10, 0));
     let change = Action::ParameterChange {
         previous: None,
@@ -198,7 +202,9 @@ fn the_others_change_what_they_name(rt: HostRuntime) -> Result<(), Fail> {
         },
         policy: None,
     };
-    let after = after.apply(id(9), &change)?.apply(id(10), &Action::Info)?;
+    let after = after
+        .apply(alloc, id(9), &change)?
+        .apply(alloc, id(10), &Action::Info)?;
     assert_eq!(rt;
         (after.params.min_fee_a, after.params.min_fee_b),
         (45, 155_381)
