@@ -144,15 +144,6 @@ setting_votes votes h = record { ids = λ p. refl; actions = λ p. refl; deposit
 pub dropping_votes : (v : Voter) → ChangesVotes (without_vote v)
 dropping_votes v = record { ids = λ p. refl; actions = λ p. refl; deposits = λ p. refl; ordered = λ p h. IsMap-without_key voter_cmp v p.votes h }
 
--- votes without those of DReps
-pub dropping_those : (dreps : List Credential) → ChangesVotes (without_votes_of dreps)
-dropping_those dreps = record {
-  ids = λ p. refl;
-  actions = λ p. refl;
-  deposits = λ p. refl;
-  ordered = λ p h. IsMap-entries_where voter_cmp (λ v x. not (is_drep_among dreps v)) p.votes h;
-}
-
 -- a proposal with one vote put in, or as it was, has other votes alone
 pub put_votes : {T E : Type 0} (r : Result T E) (old new : Proposal) (v : Voter) (vote : Vote) → OnOk r (new ≡ with_vote v vote old) → OnErr r (new ≡ old) → new ≡ record old { votes = new.votes }
 put_votes (Ok x) old new v vote ok err = ok ∙ sym (ap (λ (q : Proposal). record old { votes = q.votes }) ok)
@@ -171,14 +162,6 @@ found_ordered id p (e ∷ es) h m =
       | true ↦ λ m. let is : e.1 ≡ p = cc in subst (λ (q : Proposal). IsMap voter_cmp q.votes) is h.0
       | false ↦ λ m. found_ordered id p es h.1 m
     ] m
-
--- and those of one that stands among the entries
-pub ordered_at_key : (es before after : List (ActionId × Proposal)) (k : ActionId) (p : Proposal) → es ≡ before ++ (k, p) ∷ after → AllOrdered (values_of es) → IsMap voter_cmp p.votes
-ordered_at_key es before after k p split h = at before (subst (λ (l : List (ActionId × Proposal)). AllOrdered (values_of l)) split h)
-  where
-    at : (front : List (ActionId × Proposal)) → AllOrdered (values_of (front ++ (k, p) ∷ after)) → IsMap voter_cmp p.votes
-    at [] h = h.0
-    at (e ∷ front) h = at front h.1
 
 -- each proposal stands at its id, no two have one, and votes are in order
 pub record IsListed (es : List (ActionId × Proposal)) : Type 0 where
