@@ -1,9 +1,9 @@
 ghost use Rattle.std.specs.Prelude.{◌≡◌, []};
 
-use lineage::*;
 use coin_frac::{Ratio, Unit};
 use gov_actions::{Action, EnactState, LastIds, Proposal};
 use gov_ids::{Account, ActionId, CredKind, Credential, TxId};
+use lineage::*;
 use listed::Listed;
 use pparams::Params;
 use proposal_store::ProposalStore;

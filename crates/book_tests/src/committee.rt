@@ -1,5 +1,5 @@
-use committee_book::*;
 use coin_frac::Unit;
+use committee_book::*;
 use gov_actions::MemberList;
 use gov_ids::CredKind;
 use std::test::Fail;

@@ -1,6 +1,6 @@
-use snapshots::*;
 use gov_ids::PoolId;
 use listed::Listed;
+use snapshots::*;
 use std::test::Fail;
 
 #[test]

@@ -1,7 +1,7 @@
-use utxo_set::*;
 use gov_ids::{Address, CredKind, Credential};
 use std::process::Abort;
 use std::test::Fail;
+use utxo_set::*;
 
 fn at(tx: u8, index: u16) -> OutRef {
     OutRef {

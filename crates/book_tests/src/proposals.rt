@@ -1,9 +1,9 @@
 ghost use Rattle.std.specs.Prelude.{◌≡◌, []};
 
-use proposal_store::*;
 use gov_actions::{Action, Proposal, Purpose, Vote};
 use gov_ids::{Account, ActionId, CredKind, Credential, TxId, Voter};
 use listed::Listed;
+use proposal_store::*;
 use std::alloc::Global;
 use std::process::Abort;
 use std::test::Fail;
@@ -58,9 +58,9 @@ fn keeps_proposals_in_order(rt: HostRuntime) -> Result<(), Fail> {
     add(&rt, &mut store, rt.alloc(), 1, Some(id(2)))?;
     add(&rt, &mut store, rt.alloc(), 3, Some(id(2)))?;
     assert_eq!(rt; (store.len(), store.deposits()), (3, 30));
-    assert_eq!(rt; store.at(1).map(|p| p.id), Some(id(1)));
+    assert_eq!(rt; store.at(1).map(|p| p.id()), Some(id(1)));
     assert!(rt; store.at(3).is_none());
-    assert_eq!(rt; store.get(&id(3)).map(|p| p.deposit), Some(10));
+    assert_eq!(rt; store.get(&id(3)).map(|p| p.deposit()), Some(10));
     assert!(rt; store.get(&id(4)).is_none());
     assert_eq!(rt;
         store.children(Purpose::HardFork, Some(id(2))),
@@ -79,14 +79,22 @@ fn keeps_those_that_are_listed(rt: HostRuntime) -> Result<(), Fail> {
     add(&rt, &mut store, rt.alloc(), 3, Some(id(2)))?;
     let removed = store.retain_listed([id(3), id(7), id(2)].as_slice())?;
     assert_eq!(rt; removed.len(), 1);
-    assert_eq!(rt; removed.first().map(|p| p.id), Some(id(1)));
+    assert_eq!(rt; removed.first().map(|p| p.id()), Some(id(1)));
     assert_eq!(rt; (store.len(), store.deposits()), (2, 20));
-    assert_eq!(rt; store.at(0).map(|p| p.id), Some(id(2)));
+    assert_eq!(rt; store.at(0).map(|p| p.id()), Some(id(2)));
     assert_eq!(rt;
         store.children(Purpose::HardFork, Some(id(2))),
         [id(3)].as_slice()
     );
     Ok(())
+}
+
+// The votes on a proposal in order of voter; none where there is no such proposal.
+fn votes_on(alloc: Global, store: &ProposalStore, byte: u8) -> Result<Listed<(Voter, Vote)>, Fail> {
+    match store.get(&id(byte)) {
+        Some(p) => Ok(p.copied(alloc)?.votes),
+        None => Ok(Listed::new(alloc)),
+    }
 }
 
 #[test]
@@ -107,23 +115,22 @@ fn keeps_the_last_vote_of_each_voter(rt: HostRuntime) -> Result<(), Fail> {
     ] {
         store.vote(&id(proposal), drep(byte), vote)?;
     }
-    let votes = |store: &ProposalStore, n| store.get(&id(n)).map(|p| p.votes.len());
+    let votes = |store: &ProposalStore, n| votes_on(rt.alloc(), store, n);
     let first = [(drep(5), Vote::No), (drep(7), Vote::Abstain)];
-    assert!(rt;
-        store
-            .get(&id(1))
-            .is_some_and(|p| p.votes.as_slice() == first.as_slice())
+    assert_eq!(rt; votes(&store, 1)?.as_slice(), first.as_slice());
+    assert_eq!(rt;
+        votes(&store, 2)?.as_slice(),
+        [(drep(7), Vote::No)].as_slice()
     );
-    assert_eq!(rt; votes(&store, 2), Some(1));
     store.unvote(&id(1), &drep(5));
     store.unvote(&id(2), &drep(5));
-    assert_eq!(rt; (votes(&store, 1), votes(&store, 2)), (Some(1), Some(1)));
+    assert_eq!(rt; (votes(&store, 1)?.len(), votes(&store, 2)?.len()), (1, 1));
     store.vote(&id(2), drep(3), Vote::Yes)?;
     store.clear_votes(&Credential {
         hash: [7; 28],
         kind: CredKind::Key,
     });
-    assert_eq!(rt; (votes(&store, 1), votes(&store, 2)), (Some(0), Some(1)));
+    assert_eq!(rt; (votes(&store, 1)?.len(), votes(&store, 2)?.len()), (0, 1));
     store.vote(&id(1), drep(7), Vote::Yes)?;
     store.vote(&id(2), drep(9), Vote::Yes)?;
     store.clear_votes_of(&[
@@ -136,6 +143,6 @@ fn keeps_the_last_vote_of_each_voter(rt: HostRuntime) -> Result<(), Fail> {
             kind: CredKind::Key,
         },
     ]);
-    assert_eq!(rt; (votes(&store, 1), votes(&store, 2)), (Some(1), Some(0)));
+    assert_eq!(rt; (votes(&store, 1)?.len(), votes(&store, 2)?.len()), (1, 0));
     Ok(())
 }

@@ -1,5 +1,5 @@
-use stake_book::*;
 use gov_ids::{Address, CredKind, Drep};
+use stake_book::*;
 use std::process::Abort;
 use std::test::Fail;
 

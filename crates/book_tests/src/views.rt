@@ -1,5 +1,5 @@
-use view_map::*;
 use std::test::Fail;
+use view_map::*;
 
 // 1 to 10 and 2 to 20, frozen, and five changes after it.
 fn changed(alloc: Global) -> Result<ViewMap<u64, u64>, NoMemory> {

@@ -15,7 +15,7 @@ use gov_actions::{Action, EnactState, HotState, LastIds, Proposal};
 use gov_ids::{Account, ActionId, CredKind, Credential, PoolId, TxId};
 use listed::Listed;
 use pparams::Params;
-use snapshots::{DefaultVote, Frozen, FrozenPool};
+use snapshots::{DefaultVote, Frozen, FrozenPool, HotList};
 use std::alloc::Global;
 use std::test::Fail;
 
@@ -172,7 +172,7 @@ pub(crate) fn frozen(
         start,
         dreps: Listed::from_vec([(key(BOB), 20), (key(EVE), 20)].to_vec(alloc)?),
         pools: Listed::from_vec([pool()].to_vec(alloc)?),
-        hot: Listed::from_vec([(key(70), HotState::Hot(key(71)))].to_vec(alloc)?),
+        hot: HotList::from_vec([(key(70), HotState::Hot(key(71)))].to_vec(alloc)?),
         proposals,
     })
 }
