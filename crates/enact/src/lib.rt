@@ -14,6 +14,7 @@ use coin_frac::NoMemory;
 use committee::updated;
 use gov_actions::{Action, EnactState, LastIds, Purpose};
 use gov_ids::{Account, ActionId};
+use std::alloc::Global;
 
 /// A state that actions change when they are enacted. (CIP-1694, Enactment; ENACT of the formal specification)
 pub trait Enact {
@@ -21,7 +22,7 @@ pub trait Enact {
 
     /// The state after an action with its id was enacted. Withdrawals leave the treasury here; who gets them is the
     /// caller's. Want of memory drops the state. (CIP-1694, Enactment; ENACT of the formal specification)
-    fn apply(self, id: ActionId, a: &Action) -> Result<EnactState, NoMemory>
+    fn apply(self, alloc: Global, id: ActionId, a: &Action) -> Result<EnactState, NoMemory>
         requires affordable { withdrawn_by a.now ≤ (state self).treasury }
         requires in_order { IsMap credential_cmp (members_of (state self).committee) }
         ensures enacted { IfOk result (λ s. s ≡ enacted_from (state self) ((id, a.now) ∷ [])) }
@@ -31,7 +32,7 @@ pub trait Enact {
 impl Enact for EnactState {
     ghost state = { λ s. s };
 
-    fn apply(self, id: ActionId, a: &Action) -> Result<EnactState, NoMemory> {
+    fn apply(self, alloc: Global, id: ActionId, a: &Action) -> Result<EnactState, NoMemory> {
         let last = last_ids(self.last, id, a);
         match a {
             Action::NoConfidence { .. } => Ok(EnactState {
@@ -45,7 +46,7 @@ impl Enact for EnactState {
                 threshold,
                 ..
             } => {
-                let committee = updated(self.committee, remove, add, *threshold)?;
+                let committee = updated(alloc, self.committee, remove, add.as_slice(), *threshold)?;
                 Ok(EnactState {
                     committee: Some(committee),
                     last,

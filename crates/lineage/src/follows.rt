@@ -48,7 +48,7 @@ fn names_live(store: &ProposalStore, purpose: Purpose, previous: Option<ActionId
         return false;
     };
     match store.get(&id) {
-        Some(p) => p.action.purpose() == Some(purpose),
+        Some(p) => p.action().purpose() == Some(purpose),
         None => false,
     }
 }
@@ -66,7 +66,7 @@ fn parent_version(
         return Some(state.version);
     }
     let p = store.get(&previous?)?;
-    match &p.action {
+    match p.action() {
         Action::HardForkInitiation { version, .. } => Some(*version),
         _ => None,
     }

@@ -6,11 +6,11 @@ ghost use Rattle.gov_model.specs.Ratified.{ids_of};
 ghost use Rattle.lineage.specs.Walks.{IsWalk, adopted, adopted_one, is_found, is_left, noted, noted_left, start_of};
 
 use coin_frac::NoMemory;
-use gov_actions::{LastIds, Proposal, Purpose};
+use gov_actions::{LastIds, Purpose};
 use gov_ids::ActionId;
 use gov_model::kept_by_chains;
 use maps::set_of;
-use proposal_store::ProposalStore;
+use proposal_store::{LiveProposal, ProposalStore};
 use std::alloc::Global;
 use std::collections::BTreeSet;
 use std::marker::Model;
@@ -61,10 +61,10 @@ struct Leaving {
 
 impl Leaving {
     // Whether a proposal is not among them.
-    fn is_left(&self, p: &Proposal) -> bool
+    fn is_left(&self, p: &LiveProposal) -> bool
         ensures { result ≡ is_left self.now.enacted.keys self.now.expired.keys p.now }
     {
-        !self.enacted.contains(&p.id) && !self.expired.contains(&p.id)
+        !self.enacted.contains(&p.id()) && !self.expired.contains(&p.id())
     }
 }
 
@@ -107,7 +107,12 @@ impl Walk {
     }
 
     // One proposal more, if it is left.
-    fn note_left(&mut self, leaving: &Leaving, p: &Proposal, last: &LastIds) -> Result<(), NoMemory>
+    fn note_left(
+        &mut self,
+        leaving: &Leaving,
+        p: &LiveProposal,
+        last: &LastIds,
+    ) -> Result<(), NoMemory>
         ensures { OnOk result
             (self.new ≡ noted_left leaving.now.enacted.keys leaving.now.expired.keys last.now self.old p.now) }
     {
@@ -118,16 +123,16 @@ impl Walk {
     }
 
     // One proposal more.
-    fn note(&mut self, p: &Proposal, last: &LastIds) -> Result<(), NoMemory>
+    fn note(&mut self, p: &LiveProposal, last: &LastIds) -> Result<(), NoMemory>
         ensures { OnOk result (self.new ≡ noted last.now self.old p.now) }
     {
-        let Some(purpose) = p.action.purpose() else {
+        let Some(purpose) = p.action().purpose() else {
             return Ok(());
         };
-        if p.action.previous() == last.of(purpose) {
-            self.pending.push((purpose, p.id))?;
+        if p.action().previous() == last.of(purpose) {
+            self.pending.push((purpose, p.id()))?;
         } else {
-            self.orphans.insert(p.id)?;
+            self.orphans.insert(p.id())?;
         }
         Ok(())
     }
@@ -186,14 +191,14 @@ impl Walk {
     fn add_found(
         &self,
         leaving: &Leaving,
-        p: &Proposal,
+        p: &LiveProposal,
         ids: &mut Vec<ActionId>,
     ) -> Result<(), NoMemory>
         ensures { OnOk result (ids.new.items ≡ ids.old.items ++ ids_of
             (filter (is_found leaving.now.enacted.keys leaving.now.expired.keys self.now) (p.now ∷ []))) }
     {
-        if leaving.is_left(p) && !self.orphans.contains(&p.id) {
-            ids.push(p.id)?;
+        if leaving.is_left(p) && !self.orphans.contains(&p.id()) {
+            ids.push(p.id())?;
         }
         Ok(())
     }

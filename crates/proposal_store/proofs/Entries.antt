@@ -19,11 +19,7 @@ use Rattle.gov_model.specs.Proposals.{proposal_of, is_child, children_of, deposi
 use Rattle.maps.specs.Maps.{IsMap}
 use Rattle.proposal_store.specs.declared.families.Parent.{Parent}
 use Rattle.proposal_store.specs.Families.{ids_at}
-use Rattle.proposal_store.specs.Store.{AllOrdered, IsStore}
-
--- each proposal stands at its id
-abbrev pub AllKeyed : List (ActionId × Proposal) → Type 0
-AllKeyed es = AllByRecursion (λ (e : ActionId × Proposal). e.0 ≡ e.1.id) es
+use Rattle.proposal_store.specs.Store.{AllKeyed, AllOrdered, IsStore}
 
 -- a look-up finds the proposal of the id
 pub lookup_finds : (id : ActionId) (es : List (ActionId × Proposal)) → AllKeyed es → lookup (action_eq.eq-value.it id) es ≡ proposal_of id (values_of es)
@@ -43,7 +39,7 @@ pub ids_distinct : (es : List (ActionId × Proposal)) → AllKeyed es → IsDist
 ids_distinct es h d = subst (λ (ids : List ActionId). IsDistinct same_action ids) (keys_are_ids es h) (subst (λ eq. IsDistinct eq (keys_of es)) action_same d)
 
 -- what holds of each holds with one more
-all_with : {A : Type 0} (P : A → Type 0) (xs : List A) (x : A) → AllByRecursion P xs → P x → AllByRecursion P (xs ++ x ∷ [])
+pub all_with : {A : Type 0} (P : A → Type 0) (xs : List A) (x : A) → AllByRecursion P xs → P x → AllByRecursion P (xs ++ x ∷ [])
 all_with P [] x h p = (p, tt)
 all_with P (y ∷ xs) x h p = (h.0, all_with P xs x h.1 p)
 

@@ -28,7 +28,7 @@ one_more parent q id ids was h =
     ] h
 
 -- a child of its parent, and of no other
-pub noted : (p : Proposal) (purpose : Purpose) (q : Parent) (l : List ActionId) → purpose_of p.action ≡ Some purpose
+noted : (p : Proposal) (purpose : Purpose) (q : Parent) (l : List ActionId) → purpose_of p.action ≡ Some purpose
     → (if eq_by_cmp parent_cmp (record { purpose = purpose; previous = previous_of p.action }) q then l ++ p.id ∷ [] else l) ≡ l ++ children_of q.purpose q.previous (p ∷ [])
 noted p purpose q l h =
     let is : eq_by_cmp parent_cmp (record { purpose = purpose; previous = previous_of p.action }) q ≡ (holds same_purpose (purpose_of p.action) q.purpose && same_option same_action (previous_of p.action) q.previous) =
@@ -40,3 +40,8 @@ noted p purpose q l h =
       | true ↦ refl
       | false ↦ sym (append-nil l)
     ]
+
+-- the same by what its parts are equal to
+pub noted_by : (p : Proposal) (purpose : Purpose) (previous : Option ActionId) (id : ActionId) (q : Parent) (l : List ActionId) → purpose_of p.action ≡ Some purpose → previous ≡ previous_of p.action → id ≡ p.id
+    → (if eq_by_cmp parent_cmp (record { purpose = purpose; previous = previous }) q then l ++ id ∷ [] else l) ≡ l ++ children_of q.purpose q.previous (p ∷ [])
+noted_by p purpose previous id q l h follows is = (λ i. if eq_by_cmp parent_cmp (record { purpose = purpose; previous = follows i }) q then l ++ is i ∷ [] else l) ∙ noted p purpose q l h

@@ -1,5 +1,5 @@
 -- The votes without those of DReps that leave, one DRep after another.
-use Rattle.std.proofs.Common.{◌≡◌, ℕ, ◌+◌, ◌<◌, List, length, get_or, drop, [], ◌∷◌, Bool, true, false, not, ◌||◌, cond, Option, Some, None, Result, Ok, Err, is_ok, IfErr, ◌≤◌, refl, ap, sym, subst, ◌∙◌}
+use Rattle.std.proofs.Common.{◌≡◌, ℕ, ◌+◌, ◌<◌, List, length, get_or, drop, [], ◌∷◌, Bool, true, false, not, ◌||◌, cond, map, Option, Some, None, ◌≤◌, refl, ap, sym, ◌∙◌}
 use Rattle.std.proofs.Math.ListN.{drop_of_length-le}
 use Rattle.std.specs.Ordering.{eq_by_cmp}
 use Rattle.std.proofs.lemmas.Cmp.{eq_by_cmp_equiv}
@@ -17,8 +17,10 @@ use Rattle.maps.proofs.Lookups.{value_at-entries_where, value_at-without_key}
 use Rattle.maps.proofs.Retained.{entries_where_all}
 use Rattle.maps.proofs.Same.{map_from_value_at}
 use Rattle.maps.specs.Maps.{IsMap, entries_where, has_member, value_at, without_key}
-use Rattle.proposal_store.specs.Leaving.{is_drep_among, without_those_of}
-use Rattle.proposal_store.specs.Places.{FitsAt}
+use Rattle.gov_actions.specs.declared.action.Proposal.{Proposal}
+use Rattle.gov_model.specs.Proposals.{without_vote}
+use Rattle.proposal_store.specs.Leaving.{is_drep_among, without_those_of, without_votes_of}
+use Rattle.proposal_store.specs.Store.{AllOrdered}
 
 -- the vote stays
 abbrev pub stays : List Credential → Voter → Vote → Bool
@@ -93,19 +95,16 @@ module _ (dreps : List Credential) (i : ℕ) (d : Credential) (votes : List (Vot
       ∙ votes_before here rest (here ∷ rest) (λ q. ap (λ b. b || has_member credential_cmp rest q) ((eq_by_cmp_equiv credential_total).symm q here)) votes m
       )
 
-  -- its vote is taken out
-  pub leave_next : (new : List (Voter × Vote)) → new ≡ without_key voter_cmp (voter.Drep here) votes
-      → IsMap voter_cmp new × (without_those_of (drop (i + 1) dreps) new ≡ without_those_of (drop i dreps) votes)
-  leave_next new e = (
-    subst (λ (vs : List (Voter × Vote)). IsMap voter_cmp vs) (sym e) (IsMap-without_key voter_cmp (voter.Drep here) votes m),
-    ap (λ (vs : List (Voter × Vote)). without_those_of (drop (i + 1) dreps) vs) e ∙ leaves,
-  )
-
-  -- it has none
-  pub leave_none : (r : Result ℕ ℕ) → is_ok r ≡ false → IfErr r (FitsAt voter_cmp (voter.Drep here) votes) → without_those_of (drop i dreps) votes ≡ without_those_of (drop (i + 1) dreps) votes
-  leave_none (Ok at) e f = cc
-  leave_none (Err at) e f = sym leaves ∙ ap (λ (vs : List (Voter × Vote)). without_those_of (drop (i + 1) dreps) vs) f.absent
-
 -- no DRep is left
-pub leave_done : (dreps : List Credential) (i : ℕ) (votes : List (Voter × Vote)) → length dreps ≤ i → without_those_of (drop i dreps) votes ≡ votes
-leave_done dreps i votes h = ap (λ (ks : List Credential). without_those_of ks votes) (drop_of_length-le dreps h) ∙ all_stay votes
+done : (dreps : List Credential) (i : ℕ) (votes : List (Voter × Vote)) → length dreps ≤ i → without_those_of (drop i dreps) votes ≡ votes
+done dreps i votes h = ap (λ (ks : List Credential). without_those_of ks votes) (drop_of_length-le dreps h) ∙ all_stay votes
+
+-- the votes of the DRep at the place i leave all proposals, and then those of the later ones
+pub leave_next : (dreps : List Credential) (i : ℕ) (d : Credential) → i < length dreps → (ps : List Proposal) → AllOrdered ps
+    → map (without_votes_of (drop (i + 1) dreps)) (map (without_vote (voter.Drep (get_or dreps i d))) ps) ≡ map (without_votes_of (drop i dreps)) ps
+leave_next dreps i d l [] o = refl
+leave_next dreps i d l (p ∷ ps) o = λ j. record p { votes = leaves dreps i d p.votes l o.0 j } ∷ leave_next dreps i d l ps o.1 j
+
+pub leave_done : (dreps : List Credential) (i : ℕ) → length dreps ≤ i → (ps : List Proposal) → map (without_votes_of (drop i dreps)) ps ≡ ps
+leave_done dreps i h [] = refl
+leave_done dreps i h (p ∷ ps) = λ j. record p { votes = done dreps i p.votes h j } ∷ leave_done dreps i h ps j

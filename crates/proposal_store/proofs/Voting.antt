@@ -1,5 +1,5 @@
 -- A change of votes leaves what the store keeps.
-use Rattle.std.proofs.Common.{◌≡◌, ℕ, true, false, cond, not, List, [], ◌∷◌, ◌++◌, map, filter, if◌then◌else◌, Option, Some, None, Result, Ok, Err, OnOk, OnErr, refl, ap, sym, subst, ◌∙◌, arith}
+use Rattle.std.proofs.Common.{◌≡◌, ℕ, true, false, cond, not, List, [], ◌∷◌, ◌++◌, map, filter, Option, Some, None, Result, Ok, Err, OnOk, OnErr, refl, ap, sym, subst, ◌∙◌, arith}
 use Rattle.std.specs.List.{AllByRecursion, IsDistinct}
 use Rattle.std.specs.Map.{values_of, lookup, set_value}
 use Rattle.std.proofs.lemmas.List.Sums.{sum_by-cons}
@@ -17,13 +17,13 @@ use Rattle.gov_actions.specs.declared.action.Proposal.{Proposal}
 use Rattle.gov_actions.specs.declared.action.Purpose.{Purpose}
 use Rattle.gov_actions.specs.declared.action.Vote.{Vote}
 use Rattle.gov_model.specs.Ratified.{ids_of}
-use Rattle.gov_model.specs.Proposals.{proposal_of, is_child, children_of, deposits_of, without_vote, with_change}
+use Rattle.gov_model.specs.Proposals.{proposal_of, is_child, children_of, deposits_of, with_vote, without_vote, with_change}
 use Rattle.maps.proofs.Kept.{IsMap-entries_where, IsMap-with_value, IsMap-without_key}
-use Rattle.maps.specs.Maps.{IsMap, with_value}
+use Rattle.maps.specs.Maps.{IsMap}
 use Rattle.proposal_store.specs.declared.families.Parent.{Parent}
 use Rattle.proposal_store.specs.Leaving.{is_drep_among, without_votes_of}
-use Rattle.proposal_store.specs.Store.{AllOrdered, IsStore}
-use Rattle.proposal_store.proofs.Entries.{AllKeyed}
+use Rattle.proposal_store.specs.Changes.{each, changing}
+use Rattle.proposal_store.specs.Store.{AllKeyed, AllOrdered, IsStore}
 
 -- only votes are changed, and they stay in order
 pub record ChangesVotes (g : Proposal → Proposal) : Type 0 where
@@ -31,10 +31,6 @@ pub record ChangesVotes (g : Proposal → Proposal) : Type 0 where
   pub actions : (p : Proposal) → (g p).action ≡ p.action
   pub deposits : (p : Proposal) → (g p).deposit ≡ p.deposit
   pub ordered : (p : Proposal) → IsMap voter_cmp p.votes → IsMap voter_cmp (g p).votes
-
--- g of each proposal
-abbrev pub each : (Proposal → Proposal) → List (ActionId × Proposal) → List (ActionId × Proposal)
-each g es = map (λ (e : ActionId × Proposal). (e.0, g e.1)) es
 
 pub values_each : (g : Proposal → Proposal) (es : List (ActionId × Proposal)) → values_of (each g es) ≡ map g (values_of es)
 values_each g [] = refl
@@ -89,10 +85,6 @@ module _ (g : Proposal → Proposal) (c : ChangesVotes g) where
         ordered = subst (λ (ps : List Proposal). AllOrdered ps) (sym values) (ordered_each (values_of es) h.ordered);
       }
 
--- f of the proposal of an id
-abbrev pub changing : ActionId → (Proposal → Proposal) → Proposal → Proposal
-changing id f p = if same_action p.id id then f p else p
-
 -- where there is none, nothing changes
 pub change_absent : (id : ActionId) (f : Proposal → Proposal) (ps : List Proposal) → proposal_of id ps ≡ None → with_change id f ps ≡ ps
 change_absent id f [] h = refl
@@ -102,7 +94,7 @@ change_absent id f (p ∷ ps) h =
       | false ↦ λ h. ap (λ (l : List Proposal). p ∷ l) (change_absent id f ps h)
     ] h
 
-each_absent : (id : ActionId) (f : Proposal → Proposal) (es : List (ActionId × Proposal)) → proposal_of id (values_of es) ≡ None → each (changing id f) es ≡ es
+pub each_absent : (id : ActionId) (f : Proposal → Proposal) (es : List (ActionId × Proposal)) → proposal_of id (values_of es) ≡ None → each (changing id f) es ≡ es
 each_absent id f [] h = refl
 each_absent id f (e ∷ es) h =
     elim (same_action e.1.id id) as (λ b. cond b (Some e.1) (proposal_of id (values_of es)) ≡ None → (e.0, cond b (f e.1) e.1) ∷ each (changing id f) es ≡ e ∷ es) [
@@ -152,19 +144,15 @@ setting_votes votes h = record { ids = λ p. refl; actions = λ p. refl; deposit
 pub dropping_votes : (v : Voter) → ChangesVotes (without_vote v)
 dropping_votes v = record { ids = λ p. refl; actions = λ p. refl; deposits = λ p. refl; ordered = λ p h. IsMap-without_key voter_cmp v p.votes h }
 
--- votes without those of DReps
-pub dropping_those : (dreps : List Credential) → ChangesVotes (without_votes_of dreps)
-dropping_those dreps = record {
-  ids = λ p. refl;
-  actions = λ p. refl;
-  deposits = λ p. refl;
-  ordered = λ p h. IsMap-entries_where voter_cmp (λ v x. not (is_drep_among dreps v)) p.votes h;
-}
+-- a proposal with one vote put in, or as it was, has other votes alone
+pub put_votes : {T E : Type 0} (r : Result T E) (old new : Proposal) (v : Voter) (vote : Vote) → OnOk r (new ≡ with_vote v vote old) → OnErr r (new ≡ old) → new ≡ record old { votes = new.votes }
+put_votes (Ok x) old new v vote ok err = ok ∙ sym (ap (λ (q : Proposal). record old { votes = q.votes }) ok)
+put_votes (Err e) old new v vote ok err = err ∙ sym (ap (λ (q : Proposal). record old { votes = q.votes }) err)
 
--- votes with one put in, or as they were, are in order
-pub put_ordered : {T E : Type 0} (r : Result T E) (old new : List (Voter × Vote)) (v : Voter) (vote : Vote) → OnOk r (new ≡ with_value voter_cmp v vote old) → OnErr r (new ≡ old) → IsMap voter_cmp old → IsMap voter_cmp new
-put_ordered (Ok x) old new v vote ok err h = subst (λ (l : List (Voter × Vote)). IsMap voter_cmp l) (sym ok) (IsMap-with_value voter_total v vote old h)
-put_ordered (Err e) old new v vote ok err h = subst (λ (l : List (Voter × Vote)). IsMap voter_cmp l) (sym err) h
+-- and they are in order
+pub put_ordered : {T E : Type 0} (r : Result T E) (old new : Proposal) (v : Voter) (vote : Vote) → OnOk r (new ≡ with_vote v vote old) → OnErr r (new ≡ old) → IsMap voter_cmp old.votes → IsMap voter_cmp new.votes
+put_ordered (Ok x) old new v vote ok err h = subst (λ (q : Proposal). IsMap voter_cmp q.votes) (sym ok) (IsMap-with_value voter_total v vote old.votes h)
+put_ordered (Err e) old new v vote ok err h = subst (λ (q : Proposal). IsMap voter_cmp q.votes) (sym err) h
 
 -- the votes of a proposal that is found are in order
 pub found_ordered : (id : ActionId) (p : Proposal) (es : List (ActionId × Proposal)) → AllOrdered (values_of es) → lookup (action_eq.eq-value.it id) es ≡ Some p → IsMap voter_cmp p.votes
@@ -175,10 +163,17 @@ found_ordered id p (e ∷ es) h m =
       | false ↦ λ m. found_ordered id p es h.1 m
     ] m
 
--- and those of one that stands among the entries
-pub ordered_at_key : (es before after : List (ActionId × Proposal)) (k : ActionId) (p : Proposal) → es ≡ before ++ (k, p) ∷ after → AllOrdered (values_of es) → IsMap voter_cmp p.votes
-ordered_at_key es before after k p split h = at before (subst (λ (l : List (ActionId × Proposal)). AllOrdered (values_of l)) split h)
-  where
-    at : (front : List (ActionId × Proposal)) → AllOrdered (values_of (front ++ (k, p) ∷ after)) → IsMap voter_cmp p.votes
-    at [] h = h.0
-    at (e ∷ front) h = at front h.1
+-- each proposal stands at its id, no two have one, and votes are in order
+pub record IsListed (es : List (ActionId × Proposal)) : Type 0 where
+  pub keyed : AllKeyed es
+  pub distinct : IsDistinct same_action (ids_of (values_of es))
+  pub ordered : AllOrdered (values_of es)
+
+pub IsListed-changed : (g : Proposal → Proposal) → ChangesVotes g → (es new : List (ActionId × Proposal)) → new ≡ each g es → AllKeyed es → IsDistinct same_action (ids_of (values_of es)) → AllOrdered (values_of es) → IsListed new
+IsListed-changed g c es new is keyed distinct ordered =
+    let values : values_of (each g es) ≡ map g (values_of es) = values_each g es in
+    subst (λ (l : List (ActionId × Proposal)). IsListed l) (sym is) (record {
+      keyed = keyed_each g c es keyed;
+      distinct = subst (λ (ids : List ActionId). IsDistinct same_action ids) (sym (ap (λ (ps : List Proposal). ids_of ps) values ∙ ids_each g c (values_of es))) distinct;
+      ordered = subst (λ (ps : List Proposal). AllOrdered ps) (sym values) (ordered_each g c (values_of es) ordered);
+    })

@@ -1,4 +1,5 @@
 pub mod Families
 pub mod Store
-pub mod Places
 pub mod Leaving
+pub mod Voted
+pub mod Changes

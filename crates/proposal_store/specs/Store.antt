@@ -12,13 +12,17 @@ use Rattle.maps.specs.Maps.{IsMap, has_member}
 use Rattle.proposal_store.specs.declared.families.Parent.{Parent}
 use Rattle.proposal_store.specs.Families.{ids_at}
 
+-- each proposal stands at its id
+abbrev pub AllKeyed : List (ActionId × Proposal) → Type 0
+AllKeyed es = AllByRecursion (λ (e : ActionId × Proposal). e.0 ≡ e.1.id) es
+
 -- the votes of each proposal name each voter once, in order
 abbrev pub AllOrdered : List Proposal → Type 0
 AllOrdered ps = AllByRecursion (λ (p : Proposal). IsMap voter_cmp p.votes) ps
 
 -- each proposal stands at its id, no two have one, the index has the children of each, and the sum is that of the deposits
 pub record IsStore (entries : List (ActionId × Proposal)) (index : List (Parent × List ActionId)) (sum : ℕ) : Type 0 where
-  pub keyed : AllByRecursion (λ (e : ActionId × Proposal). e.0 ≡ e.1.id) entries
+  pub keyed : AllKeyed entries
   pub distinct : IsDistinct same_action (ids_of (values_of entries))
   pub children : (q : Parent) → ids_at index q ≡ children_of q.purpose q.previous (values_of entries)
   pub deposits : sum ≡ deposits_of (values_of entries)

@@ -4,8 +4,9 @@ ghost use Rattle.gov_model.specs.Proposals.{children_of};
 ghost use Rattle.proposal_store.specs.declared.families.Parent.{Parent};
 ghost use Rattle.proposal_store.specs.Families.{parent_cmp, ids_at};
 
+use crate::live::LiveProposal;
 use coin_frac::NoMemory;
-use gov_actions::{Proposal, Purpose};
+use gov_actions::Purpose;
 use gov_ids::ActionId;
 use listed::Listed;
 use std::alloc::Global;
@@ -72,14 +73,14 @@ impl Families {
     }
 
     // A proposal among the children of what it follows, if it has a purpose. Want of memory changes nothing.
-    pub(crate) fn note(&mut self, p: &Proposal) -> Result<(), NoMemory>
+    pub(crate) fn note(&mut self, p: &LiveProposal) -> Result<(), NoMemory>
         ensures ok { OnOk result ((q : Parent) →
             ids_at self.new q ≡ ids_at self.old q ++ children_of q.purpose q.previous (p.now ∷ [])) }
         ensures err { OnErr result (self.new ≡ self.old) }
     {
-        let previous = p.action.previous();
-        match p.action.purpose() {
-            Some(purpose) => self.add(Parent { purpose, previous }, p.id),
+        let previous = p.action().previous();
+        match p.action().purpose() {
+            Some(purpose) => self.add(Parent { purpose, previous }, p.id()),
             None => Ok(()),
         }
     }

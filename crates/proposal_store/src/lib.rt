@@ -2,8 +2,9 @@
 #![tactic(auto)]
 
 mod families;
-mod leaving;
+mod live;
 mod store;
-mod votes;
+mod voted;
 
+pub use live::LiveProposal;
 pub use store::ProposalStore;

@@ -3,17 +3,18 @@ ghost use Rattle.std.specs.Option.{option_copied};
 ghost use Rattle.std.specs.List.{IsDistinct};
 ghost use Rattle.std.specs.Map.{values_of};
 ghost use Rattle.gov_ids.specs.declared.Voter.TheVariants.{Drep};
-ghost use Rattle.gov_ids.specs.Orders.{credential_cmp, voter_cmp};
+ghost use Rattle.gov_ids.specs.Orders.{voter_cmp};
 ghost use Rattle.gov_ids.specs.Same.{same_action};
 ghost use Rattle.gov_model.specs.Ratified.{ids_of};
 ghost use Rattle.gov_model.specs.Proposals.{proposal_of, children_of, deposits_of, those_of, others_than, with_vote, without_vote, with_change};
-ghost use Rattle.maps.specs.Maps.{IsMap, IsSet};
+ghost use Rattle.maps.specs.Maps.{IsMap};
 ghost use Rattle.proposal_store.specs.Leaving.{without_votes_of};
-ghost use Rattle.proposal_store.specs.Store.{AllOrdered, is_in, is_out};
+ghost use Rattle.proposal_store.specs.Changes.{each, changing, dropping};
+ghost use Rattle.proposal_store.specs.Store.{AllKeyed, AllOrdered, is_in, is_out};
 
 use crate::families::{Families, Parent};
-use crate::leaving::drop_votes;
-use crate::votes::{drop_vote, put_vote};
+use crate::live::LiveProposal;
+use crate::voted::VotedOn;
 use coin_frac::NoMemory;
 use gov_actions::{Proposal, Purpose, Vote};
 use gov_ids::{ActionId, Credential, Voter};
@@ -28,8 +29,9 @@ use std::mem;
 #[derive(Drop)]
 pub struct ProposalStore {
     alloc: Global,
-    proposals: IndexMap<ActionId, Proposal>,
+    proposals: IndexMap<ActionId, LiveProposal>,
     families: Families,
+    voted: VotedOn,
     deposits: u64,
 }
 
@@ -38,12 +40,14 @@ impl Model for ProposalStore {
     ghost use Rattle.std.specs.Map.{values_of};
     ghost use Rattle.gov_actions.specs.declared.action.Proposal.{Proposal};
     ghost use Rattle.proposal_store.specs.Store.{IsStore};
+    ghost use Rattle.proposal_store.specs.Voted.{AllNoted};
 
     ghost Value = { List Proposal };
 
     ghost view = { λ a. values_of a.proposals.entries };
 
-    ghost invariant = { λ a. IsStore a.proposals.entries a.families a.deposits };
+    ghost invariant = { λ a. IsStore a.proposals.entries a.families a.deposits
+        × AllNoted a.voted (values_of a.proposals.entries) };
 }
 
 impl ProposalStore {
@@ -55,12 +59,13 @@ impl ProposalStore {
             alloc,
             proposals: IndexMap::new(alloc),
             families: Families::new(alloc),
+            voted: VotedOn::new(alloc),
             deposits: 0,
         }
     }
 
     /// The proposal of an id, none where there is none. It does not walk the list. (GovState of the formal specification)
-    pub fn get(&self, id: &ActionId) -> Option<&Proposal>
+    pub fn get(&self, id: &ActionId) -> Option<&LiveProposal>
         ensures { option_copied result ≡ proposal_of id.now self.now }
     {
         self.proposals.get(id)
@@ -75,7 +80,7 @@ impl ProposalStore {
     }
 
     /// The proposal at the place `i` in order of submission, counted from 0; none past the end. (GovState of the formal specification)
-    pub fn at(&self, i: u64) -> Option<&Proposal>
+    pub fn at(&self, i: u64) -> Option<&LiveProposal>
         ensures { option_copied result ≡ slice_get self.now i }
     {
         let (_, p) = self.proposals.get_index(i as usize)?;
@@ -104,15 +109,12 @@ impl ProposalStore {
         ensures ok { OnOk result (self.new ≡ self.old ++ p ∷ []) }
         ensures err { OnErr result (self.new ≡ self.old) }
     {
-        self.proposals.reserve(1)?;
-        self.families.note(&p)?;
-        self.deposits += p.deposit;
-        self.proposals.insert(p.id, p)?;
-        Ok(())
+        let live = LiveProposal::of(self.alloc, p)?;
+        self.append(live)
     }
 
     /// Keeps the proposals whose ids are listed, and gives the others, both in order of submission. After want of memory the store has lost proposals: it is to be dropped. (EPOCH of the formal specification)
-    pub fn retain_listed(&mut self, keep: &[ActionId]) -> Result<Vec<Proposal>, NoMemory>
+    pub fn retain_listed(&mut self, keep: &[ActionId]) -> Result<Vec<LiveProposal>, NoMemory>
         ensures kept { OnOk result (self.new ≡ those_of keep.now self.old) }
         ensures removed { IfOk result (λ r. r.items ≡ others_than keep.now self.old) }
     {
@@ -130,56 +132,64 @@ impl ProposalStore {
         let Some(p) = self.proposals.get_mut(id) else {
             return Ok(());
         };
-        put_vote(&mut p.votes, v, vote)
+        self.voted.note_voter(p, &v)?;
+        p.put_vote(v, vote)
     }
 
     /// The vote of a voter on the proposal of an id leaves, if there is one. (Own)
     pub fn unvote(&mut self, id: &ActionId, v: &Voter)
         ensures { self.new ≡ with_change id.now (without_vote v.now) self.old }
     {
-        let Some(p) = self.proposals.get_mut(id) else {
-            return;
-        };
-        drop_vote(&mut p.votes, v);
+        drop_at(&mut self.proposals, id, v);
     }
 
     /// The votes of a DRep leave all proposals. (Own)
     pub fn clear_votes(&mut self, drep: &Credential)
         ensures { self.new ≡ map (without_vote (Drep drep.now)) self.old }
     {
-        let voter = Voter::Drep(*drep);
-        self.proposals.retain(
-            |_, p|
-                requires { IsMap voter_cmp p.old.votes }
-            {
-                drop_vote(&mut p.votes, &voter);
-                true
-            },
-        );
+        self.clear_one(drep);
     }
 
-    /// The votes of these DReps, which stand in order, leave all proposals, in one walk over the proposals. (Own)
+    /// The votes of these DReps leave all proposals. Only the proposals that they voted on are looked at. (Own)
     pub fn clear_votes_of(&mut self, dreps: &[Credential])
-        requires { IsSet credential_cmp dreps.now }
         ensures { self.new ≡ map (without_votes_of dreps.now) self.old }
     {
-        let alloc = self.alloc;
-        self.proposals.retain(
-            |_, p|
-                requires { IsMap voter_cmp p.old.votes }
-            {
-                drop_votes(alloc, &mut p.votes, dreps);
-                true
-            },
-        );
+        for drep in dreps {
+            self.clear_one(drep);
+        }
+    }
+
+    // The votes of a DRep leave the proposals that are noted of it.
+    fn clear_one(&mut self, drep: &Credential)
+        ensures cleared { self.new ≡ map (without_vote (Drep drep.now)) self.old }
+        ensures ordered { AllOrdered self.old }
+    {
+        let ids = self.voted.take(drep);
+        drop_from(&mut self.proposals, ids.as_slice(), &Voter::Drep(*drep));
+    }
+
+    // One more, at the end. Want of memory changes nothing.
+    fn append(&mut self, p: LiveProposal) -> Result<(), NoMemory>
+        requires absent { proposal_of p.id self.old ≡ None }
+        requires fits { deposits_of self.old + p.deposit < 2 ^ 64 }
+        requires ordered { IsMap voter_cmp p.votes }
+        ensures ok { OnOk result (self.new ≡ self.old ++ p ∷ []) }
+        ensures err { OnErr result (self.new ≡ self.old) }
+    {
+        self.proposals.reserve(1)?;
+        p.note_votes(&mut self.voted)?;
+        self.families.note(&p)?;
+        self.deposits += p.deposit();
+        self.proposals.insert(p.id(), p)?;
+        Ok(())
     }
 
     // Adds the proposals that are to be kept to an empty store, and gives the others.
     fn refill(
         &mut self,
-        proposals: IndexMap<ActionId, Proposal>,
+        proposals: IndexMap<ActionId, LiveProposal>,
         keep: &BTreeSet<ActionId>,
-    ) -> Result<Vec<Proposal>, NoMemory>
+    ) -> Result<Vec<LiveProposal>, NoMemory>
         requires empty { self.old ≡ [] }
         requires distinct { IsDistinct same_action (ids_of (values_of proposals.entries)) }
         requires fit { deposits_of (values_of proposals.entries) < 2 ^ 64 }
@@ -189,12 +199,35 @@ impl ProposalStore {
     {
         let mut removed = Vec::new(self.alloc);
         for (_, p) in proposals {
-            if keep.contains(&p.id) {
-                self.add(p)?;
+            if keep.contains(&p.id()) {
+                self.append(p)?;
             } else {
                 removed.push(p)?;
             }
         }
         Ok(removed)
+    }
+}
+
+// The vote of a voter leaves the proposals of these ids.
+fn drop_from(proposals: &mut IndexMap<ActionId, LiveProposal>, ids: &[ActionId], v: &Voter)
+    requires keyed { AllKeyed proposals.old.entries }
+    requires distinct { IsDistinct same_action (ids_of (values_of proposals.old.entries)) }
+    requires ordered { AllOrdered (values_of proposals.old.entries) }
+    ensures { proposals.new.entries ≡ each (dropping v.now ids.now) proposals.old.entries }
+{
+    for id in ids {
+        drop_at(proposals, id, v);
+    }
+}
+
+// The vote of a voter leaves the proposal of an id, if there are both.
+fn drop_at(proposals: &mut IndexMap<ActionId, LiveProposal>, id: &ActionId, v: &Voter)
+    requires keyed { AllKeyed proposals.old.entries }
+    requires distinct { IsDistinct same_action (ids_of (values_of proposals.old.entries)) }
+    ensures { proposals.new.entries ≡ each (changing id.now (without_vote v.now)) proposals.old.entries }
+{
+    if let Some(p) = proposals.get_mut(id) {
+        p.drop_vote(v);
     }
 }

@@ -1,6 +1,6 @@
 ghost use Rattle.std.specs.Prelude.{◌≡◌, IfOk};
 ghost use Rattle.gov_ids.specs.Orders.{credential_cmp};
-ghost use Rattle.gov_model.specs.Ratified.{IsRatified, expired_of, is_one_of, tallies_of};
+ghost use Rattle.gov_model.specs.Ratified.{IsRatified, expired_of, tallies_of};
 ghost use Rattle.gov_model.specs.Sides.{members_of};
 ghost use Rattle.maps.specs.Maps.{IsMap};
 ghost use Rattle.ratify.specs.Outcomes.{expired_by, is_over, state_by};
@@ -12,8 +12,10 @@ use drep_pulser::Counted;
 use gov_actions::{EnactState, Proposal, Tally};
 use gov_ids::ActionId;
 use listed::Listed;
+use maps::set_of;
 use snapshots::Frozen;
 use std::alloc::Global;
+use std::collections::BTreeSet;
 
 /// What the pass over a frozen epoch comes to. (RatifyState of the formal specification)
 #[derive(Drop)]
@@ -53,6 +55,18 @@ pub fn ratify(alloc: Global, f: &Frozen, c: &Counted) -> Result<Outcome, NoMemor
 fn expired(alloc: Global, f: &Frozen, ratified: &[ActionId]) -> Result<Listed<ActionId>, NoMemory>
     ensures { IfOk result (λ ids. ids ≡ expired_by f.now ratified.now) }
 {
+    let ratified = set_of(alloc, ratified)?;
+    expired_beside(alloc, f, &ratified)
+}
+
+// The same, by the set of those that are ratified.
+fn expired_beside(
+    alloc: Global,
+    f: &Frozen,
+    ratified: &BTreeSet<ActionId>,
+) -> Result<Listed<ActionId>, NoMemory>
+    ensures { IfOk result (λ ids. ids ≡ expired_by f.now ratified.now.keys) }
+{
     let mut ids = Listed::new(alloc);
     for a in f.proposals.as_slice() {
         if is_over(f.epoch, ratified, a) {
@@ -63,15 +77,8 @@ fn expired(alloc: Global, f: &Frozen, ratified: &[ActionId]) -> Result<Listed<Ac
 }
 
 // Whether a proposal is not ratified and its last epoch has passed.
-fn is_over(epoch: u64, ratified: &[ActionId], a: &Proposal) -> bool
-    ensures { result ≡ is_over epoch ratified.now a.now }
+fn is_over(epoch: u64, ratified: &BTreeSet<ActionId>, a: &Proposal) -> bool
+    ensures { result ≡ is_over epoch ratified.now.keys a.now }
 {
-    !is_one_of(ratified, a) && a.expires_after < epoch
-}
-
-// Whether a proposal is one of these.
-fn is_one_of(ids: &[ActionId], a: &Proposal) -> bool
-    ensures { result ≡ is_one_of ids.now a.now }
-{
-    ids.contains(&a.id)
+    !ratified.contains(&a.id) && a.expires_after < epoch
 }

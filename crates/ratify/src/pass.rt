@@ -43,7 +43,7 @@ impl Pass {
     {
         let mut pass = Pass::begin(alloc, &f.start)?;
         for priority in 0..TYPES {
-            pass = pass.over(f, c, priority)?;
+            pass = pass.over(alloc, f, c, priority)?;
         }
         Ok(pass)
     }
@@ -61,7 +61,7 @@ impl Pass {
     }
 
     // Those of a priority are looked at, in order of submission.
-    fn over(self, f: &Frozen, c: &Counted, priority: u8) -> Result<Pass, NoMemory>
+    fn over(self, alloc: Global, f: &Frozen, c: &Counted, priority: u8) -> Result<Pass, NoMemory>
         requires counted { CanBeCounted f.now c.now }
         requires members { IsMap credential_cmp (members_of self.state.committee) }
         ensures passed { IfOk result (LooksAt f.now c.now self (of_priority priority f.now.proposals)) }
@@ -70,14 +70,14 @@ impl Pass {
         let mut pass = self;
         for a in f.proposals.as_slice() {
             if a.action.priority() == priority {
-                pass = pass.look_at(f, c, a)?;
+                pass = pass.look_at(alloc, f, c, a)?;
             }
         }
         Ok(pass)
     }
 
     // One more is looked at.
-    fn look_at(self, f: &Frozen, c: &Counted, a: &Proposal) -> Result<Pass, NoMemory>
+    fn look_at(self, alloc: Global, f: &Frozen, c: &Counted, a: &Proposal) -> Result<Pass, NoMemory>
         requires counted { CanBeCounted f.now c.now }
         requires voters { IsMap voter_cmp a.now.votes }
         requires members { IsMap credential_cmp (members_of self.state.committee) }
@@ -89,7 +89,11 @@ impl Pass {
         let ready = self.is_next(f.epoch, &a.action, &needs, &counts);
         let verdict = verdict_of(ready, a.expires_after, f.epoch);
         let pass = self.with_tally(a, counts, needs, verdict)?;
-        if ready { pass.enact(a) } else { Ok(pass) }
+        if ready {
+            pass.enact(alloc, a)
+        } else {
+            Ok(pass)
+        }
     }
 
     // Whether the next action is ratified, by what the roles need and by their counts.
@@ -120,7 +124,7 @@ impl Pass {
     }
 
     // It is ratified and enacted.
-    fn enact(self, a: &Proposal) -> Result<Pass, NoMemory>
+    fn enact(self, alloc: Global, a: &Proposal) -> Result<Pass, NoMemory>
         requires affordable { withdrawn_by a.now.action ≤ self.state.treasury }
         requires members { IsMap credential_cmp (members_of self.state.committee) }
         ensures enacted { IfOk result (λ p. p ≡ with_enacted a.now self) }
@@ -131,7 +135,7 @@ impl Pass {
         Ok(Pass {
             ratified,
             goes_on: !a.action.delaying(),
-            state: self.state.apply(a.id, &a.action)?,
+            state: self.state.apply(alloc, a.id, &a.action)?,
             tallies: self.tallies,
         })
     }

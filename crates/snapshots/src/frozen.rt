@@ -1,5 +1,6 @@
+use crate::hot::HotList;
 use book_records::DefaultVote;
-use gov_actions::{EnactState, HotState, Proposal};
+use gov_actions::{EnactState, Proposal};
 use gov_ids::{Account, Credential, PoolId};
 use listed::Listed;
 
@@ -15,7 +16,7 @@ pub struct Frozen {
     /// The pools of mark in the order of their ids.
     pub pools: Listed<FrozenPool>,
     /// The hot keys and resignations, in the order of cold keys.
-    pub hot: Listed<(Credential, HotState)>,
+    pub hot: HotList,
     /// The proposals with their votes, in order of submission.
     pub proposals: Listed<Proposal>,
 }

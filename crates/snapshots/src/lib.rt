@@ -2,8 +2,10 @@
 #![tactic(auto)]
 
 mod frozen;
+mod hot;
 mod stakes;
 
 pub use book_records::DefaultVote;
 pub use frozen::{Frozen, FrozenPool};
+pub use hot::HotList;
 pub use stakes::Snapshots;

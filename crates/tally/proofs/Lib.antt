@@ -1,5 +1,4 @@
 pub mod Counting
-pub mod Searched
 pub mod MemberSides
 pub mod DrepSides
 pub mod PoolSides

@@ -1,9 +1,9 @@
 ghost use Rattle.std.specs.Prelude.{◌≡◌, filter_map, length};
 ghost use Rattle.gov_actions.specs.declared.tally.Role.TheVariants.{Committee as committee};
-ghost use Rattle.gov_ids.specs.Orders.{credential_cmp, voter_cmp};
+ghost use Rattle.gov_ids.specs.Orders.{voter_cmp};
 ghost use Rattle.gov_model.specs.Sides.{members_of, vote_count};
 ghost use Rattle.gov_model.specs.Snapshot.{Snapshot};
-ghost use Rattle.maps.specs.Maps.{IsMap, value_at};
+ghost use Rattle.maps.specs.Maps.{IsMap};
 ghost use Rattle.snapshots.specs.Frozen.{frozen_of};
 ghost use Rattle.tally.specs.Active.{active_key};
 
@@ -60,20 +60,8 @@ fn active_key(f: &Frozen, member: &(Credential, u64)) -> Option<Credential>
     if *term < f.epoch {
         return None;
     }
-    match hot_state(f.hot.as_slice(), cold)? {
+    match f.hot.get(cold)? {
         HotState::Hot(key) => Some(key),
         HotState::Resigned => None,
     }
-}
-
-// What a cold key has authorized.
-fn hot_state(hot: &[(Credential, HotState)], cold: &Credential) -> Option<HotState>
-    ensures { result ≡ value_at credential_cmp hot.now cold.now }
-{
-    for (key, state) in hot {
-        if key == cold {
-            return Some(*state);
-        }
-    }
-    None
 }

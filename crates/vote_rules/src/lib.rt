@@ -36,10 +36,10 @@ impl<'a> ItemRules for Votes<'a> {
         if !is_known_voter(self.d, &v.voter) {
             return Err(Rule::new(VOTER_UNKNOWN));
         }
-        if !may_vote(&v.voter, &proposal.action) {
+        if !may_vote(&v.voter, proposal.action()) {
             return Err(Rule::new(VOTER_NOT_ALLOWED));
         }
-        if proposal.expires_after < s.epoch() {
+        if proposal.expires_after() < s.epoch() {
             return Err(Rule::new(VOTING_EXPIRED));
         }
         Ok(())

@@ -1,32 +1,23 @@
-use Rattle.std.proofs.Common.{◌≡◌, ℕ, ◌+◌, ◌<◌, List, [], ◌∷◌, ◌++◌, Bool, true, false, cond, drop, filter, get_or, length, ap, sym, ◌∙◌, add-one, append_assoc}
-use Rattle.std.proofs.Math.Seq.{drop-cons}
-use Rattle.gov_ids.specs.declared.ActionId.{ActionId}
+use Rattle.std.proofs.Common.{◌≡◌, ◌&&◌, List, IfOk, filter, nat_lt, not, subst, ap, ◌∙◌}
 use Rattle.gov_actions.specs.declared.action.Proposal.{Proposal}
+use Rattle.gov_ids.specs.declared.ActionId.{ActionId}
+use Rattle.gov_ids.specs.Orders.{action_id_cmp}
+use Rattle.gov_ids.proofs.Totals.{action_id_total}
 use Rattle.gov_model.specs.Ratified.{ids_of}
-use Rattle.ratify.specs.Outcomes.{is_over}
+use Rattle.maps.proofs.Sets.{has_member-in_order}
+use Rattle.maps.specs.Maps.{in_order}
+use Rattle.ratify.specs.Outcomes.{expired_by}
+use Rattle.snapshots.specs.declared.frozen.Frozen.{Frozen}
 use Rattle.ratify.proofs.outcome.expired.Goals as goal
-use Rattle.ratify.proofs.outcome.expired.Goals.{then-is_over+in_ok-push, else-is_over}
 
-module _ (p : Proposal → Bool) (ids : List ActionId) (items : List Proposal) (i : ℕ) (a : Proposal) (h : i < length items) (is : a ≡ get_or items i a) where
-  cut : drop i items ≡ a ∷ drop (i + 1) items
-  cut = drop-cons items i a h ∙ (λ j. sym is j ∷ drop (sym (add-one i) j) items)
+-- a set of keys tells what the list of them tells
+expired_in_order : (f : Frozen) (ids : List ActionId) → expired_by f (in_order action_id_cmp ids) ≡ expired_by f ids
+expired_in_order f ids = λ i. ids_of (filter (λ (a : Proposal). not (has_member-in_order action_id_total ids a.id i) && nat_lt a.expires_after f.epoch) f.proposals)
 
-  -- with one more, if it passes
-  passed : (b : Bool) → p a ≡ b → cond b (ids ++ a.id ∷ []) ids ++ ids_of (filter p (drop (i + 1) items)) ≡ ids ++ ids_of (filter p (drop i items))
-  passed b e =
-      elim b as (λ b. p a ≡ b → cond b (ids ++ a.id ∷ []) ids ++ ids_of (filter p (drop (i + 1) items)) ≡ ids ++ ids_of (filter p (drop i items))) [
-        | true ↦ λ e. append_assoc ids (a.id ∷ []) _ ∙ sym (ap (λ (l : List Proposal). ids ++ ids_of (filter p l)) cut ∙ ap (λ b. ids ++ ids_of (cond b (a ∷ filter p (drop (i + 1) items)) (filter p (drop (i + 1) items)))) e)
-        | false ↦ λ e. sym (ap (λ (l : List Proposal). ids ++ ids_of (filter p l)) cut ∙ ap (λ b. ids ++ ids_of (cond b (a ∷ filter p (drop (i + 1) items)) (filter p (drop (i + 1) items)))) e)
-      ] e
-
-pub loop-a-preserved : goal.loop-a-preserved
-loop-a-preserved c =
-    let p : Proposal → Bool = is_over c.args.f.now.epoch c.args.ratified.now in
-    let items = c.as_slice-a-items.result.now in
-    let i = c.loop-a.a-index in
-    let more = passed p c.loop-a.ids items i c.a-item.result c.loop-a-test.true c.a-item.is in
-    let now : List ActionId → List ActionId = λ ids. ids ++ ids_of (filter p (drop (i + 1) items)) in
-    elim c.if-is_over.branch [
-      | then-is_over+in_ok-push w ↦ ap now (w.ids-is ∙ w.in_ok-push.ensures.ok) ∙ more true (sym c.is_over.ensures ∙ w.if-is_over.true) ∙ c.loop-a.invariant
-      | else-is_over w ↦ ap now w.ids-is ∙ more false (sym c.is_over.ensures ∙ w.if-is_over.false) ∙ c.loop-a.invariant
-    ]
+pub returns : goal.returns
+returns c =
+    let f = c.args.f.now in
+    let ratified = c.args.ratified.now in
+    subst (λ (l : List ActionId). IfOk c.expired_beside.result (λ ids. ids ≡ l))
+    (ap (λ (keys : List ActionId). expired_by f keys) c.in_ok-ratified.ensures ∙ expired_in_order f ratified)
+    c.expired_beside.ensures

@@ -11,7 +11,7 @@ use Rattle.gov_ids.proofs.Totals.{voter_total}
 use Rattle.gov_actions.specs.declared.action.Vote.{Vote}
 use Rattle.gov_actions.specs.declared.action.Vote.TheVariants.{Yes}
 use Rattle.maps.specs.Maps.{IsMap, value_at}
-use Rattle.tally.proofs.Searched.{found, missed}
+use Rattle.snapshots.proofs.Searched.{found, missed}
 use Rattle.tally.proofs.sides.vote_of.Goals as goal
 
 abbrev nobody : Voter × Vote

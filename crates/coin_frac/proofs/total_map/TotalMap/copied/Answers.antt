@@ -1,7 +1,7 @@
 use Rattle.std.proofs.Common.{◌≡◌, ◌+◌, ℕ, List, [], ap, subst, sym, ◌∙◌, rules}
 use Rattle.maps.specs.Maps.{IsMap, with_values}
 use Rattle.coin_frac.specs.Totals.{total_of}
-use Rattle.coin_frac.proofs.Copied.{copied_is}
+use Rattle.maps.proofs.Copied.{copied_is}
 use Rattle.coin_frac.proofs.total_map.TotalMap.copied.Given.{Over}
 use Rattle.coin_frac.proofs.total_map.TotalMap.copied.Goals as goal
 

@@ -7,4 +7,4 @@ use Rattle.proposal_store.proofs.store.ProposalStore.len.Goals as goal
 
 pub returns-clause-distinct : goal.returns-clause-distinct
 returns-clause-distinct c =
-    subst (λ (ps : List Proposal). IsDistinct same_action (ids_of ps)) c.self.view_is c.self.invariant.distinct
+    subst (λ (ps : List Proposal). IsDistinct same_action (ids_of ps)) c.self.view_is c.self.invariant.0.distinct

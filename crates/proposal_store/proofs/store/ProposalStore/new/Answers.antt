@@ -1,9 +1,12 @@
 use Rattle.std.proofs.Common.{List, sym, subst}
+use Rattle.std.specs.Map.{values_of}
 use Rattle.gov_ids.specs.declared.ActionId.{ActionId}
 use Rattle.gov_actions.specs.declared.action.Proposal.{Proposal}
 use Rattle.proposal_store.specs.Store.{IsStore}
+use Rattle.proposal_store.specs.Voted.{AllNoted}
 use Rattle.proposal_store.proofs.Entries.{IsStore-none}
 use Rattle.proposal_store.proofs.store.ProposalStore.new.Goals as goal
 
 pub invariant_of-result : goal.invariant_of-result
-invariant_of-result c = subst (λ (es : List (ActionId × Proposal)). IsStore es c.new-2.result 0) (sym c.new.ensures.empty) (IsStore-none c.new-2.result c.new-2.ensures)
+invariant_of-result c =
+    subst (λ (es : List (ActionId × Proposal)). IsStore es c.new-2.result 0 × AllNoted c.new-3.result (values_of es)) (sym c.new.ensures.empty) (IsStore-none c.new-2.result c.new-2.ensures, tt)

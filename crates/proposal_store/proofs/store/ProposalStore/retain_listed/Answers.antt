@@ -5,7 +5,7 @@ use Rattle.proposal_store.proofs.Retaining.{listed}
 use Rattle.proposal_store.proofs.store.ProposalStore.retain_listed.Goals as goal
 
 pub refill-requires-clause-distinct : goal.refill-requires-clause-distinct
-refill-requires-clause-distinct c = c.old.invariant.distinct
+refill-requires-clause-distinct c = c.old.invariant.0.distinct
 
 pub returns-clause-kept : goal.returns-clause-kept
 returns-clause-kept c =
