@@ -7,7 +7,10 @@ use listed::Listed;
 use pparams::Params;
 use std::alloc::Global;
 use std::test::Fail;
-use tx_records::{Genesis, GenesisCommittee, GenesisRule, Pots};
+use tx_records::{Genesis, GenesisCommittee, GenesisRule};
+
+/// A member at the start: cold key, last epoch of the term, hot key.
+type Member = (Credential, u64, Option<Credential>);
 
 fn key(byte: u8) -> Credential {
     Credential {
@@ -68,22 +71,35 @@ fn params() -> Result<Params, FracFault> {
     })
 }
 
-/// A genesis with two members and two outputs, of 60 and 30 lovelace, and 10 in the pots.
+/// Two members, one of whom has a hot key.
+fn members(alloc: Global, member: u8) -> Result<Listed<Member>, NoMemory> {
+    let mut members = Listed::new(alloc);
+    members.push((key(member), 9, Some(key(5))))?;
+    members.push((key(1), 8, None))?;
+    Ok(members)
+}
+
+/// Two outputs, of 60 and 30 lovelace.
+fn outputs(
+    alloc: Global,
+    output: u16,
+    network: u8,
+) -> Result<Listed<(OutRef, Address, u64)>, NoMemory> {
+    let mut outputs = Listed::new(alloc);
+    outputs.push((at(8, 0), address(0), 60))?;
+    outputs.push((at(8, output), address(network), 30))?;
+    Ok(outputs)
+}
+
+/// A genesis with these members and outputs, and 10 lovelace in the pots. It takes no memory, so that no part of it is moved where memory can run out.
 fn genesis(
     alloc: Global,
     params: Params,
     supply: u64,
-    member: u8,
-    output: u16,
-    network: u8,
-) -> Result<Genesis, NoMemory> {
-    let mut members = Listed::new(alloc);
-    members.push((key(member), 9, Some(key(5))))?;
-    members.push((key(1), 8, None))?;
-    let mut outputs = Listed::new(alloc);
-    outputs.push((at(8, 0), address(0), 60))?;
-    outputs.push((at(8, output), address(network), 30))?;
-    Ok(Genesis {
+    members: Listed<Member>,
+    outputs: Listed<(OutRef, Address, u64)>,
+) -> Genesis {
+    Genesis {
         network: 0,
         slot: 3,
         epoch_length: 2,
@@ -102,44 +118,90 @@ fn genesis(
         accounts: Listed::new(alloc),
         pools: Listed::new(alloc),
         dreps: Listed::new(alloc),
-    })
+    }
+}
+
+/// A genesis with two members and two outputs.
+fn genesis_of(
+    alloc: Global,
+    supply: u64,
+    member: u8,
+    output: u16,
+    network: u8,
+) -> Result<Genesis, Fail> {
+    let params = params()?;
+    let members = members(alloc, member)?;
+    let outputs = outputs(alloc, output, network)?;
+    Ok(genesis(alloc, params, supply, members, outputs))
+}
+
+/// The ledger of a genesis or why it gives none; nothing where it is beyond the limits.
+fn started(alloc: Global, genesis: &Genesis) -> Option<Result<LedgerState, GenesisFault>> {
+    if !genesis.is_within_limits() {
+        return None;
+    }
+    Some(LedgerState::from_genesis(alloc, genesis))
+}
+
+/// Why a genesis gives no ledger.
+fn fault_of(alloc: Global, genesis: &Genesis) -> Option<GenesisFault> {
+    match started(alloc, genesis) {
+        Some(Err(fault)) => Some(fault),
+        Some(Ok(_)) | None => None,
+    }
+}
+
+/// The pots of a ledger and its other numbers, in one list.
+fn numbers_of(ledger: &LedgerState) -> [u64; 17] {
+    let pots = ledger.pots();
+    [
+        pots.outputs,
+        pots.deposits,
+        pots.rewards,
+        pots.fees,
+        pots.donations,
+        pots.treasury,
+        pots.reserves,
+        u64::from(ledger.network()),
+        ledger.slot(),
+        ledger.supply(),
+        u64::from(ledger.epoch_length()),
+        ledger.epoch(),
+        ledger.reserves(),
+        ledger.state().treasury,
+        ledger.fees(),
+        ledger.donations(),
+        u64::from(ledger.params().e_max),
+    ]
+}
+
+/// The members of the committee with their terms, none where there is no committee.
+fn members_in(ledger: &LedgerState) -> &[(Credential, u64)] {
+    match &ledger.state().committee {
+        Some(committee) => committee.members.as_slice(),
+        None => &[],
+    }
+}
+
+/// What stands at a reference, in lovelace.
+fn lovelace_at(ledger: &LedgerState, at: &OutRef) -> Option<u64> {
+    Some(ledger.outputs().get(at)?.lovelace)
 }
 
 #[test]
 fn starts_from_a_genesis_that_breaks_no_rule(rt: HostRuntime) -> Result<(), Fail> {
-    let genesis = genesis(rt.alloc(), params()?, 100, 2, 1, 0)?;
-    assert!(rt; genesis.is_within_limits());
-    let ledger = LedgerState::from_genesis(rt.alloc(), &genesis)?;
-    let want = Pots {
-        outputs: 90,
-        deposits: 0,
-        rewards: 0,
-        fees: 0,
-        donations: 0,
-        treasury: 3,
-        reserves: 7,
+    let genesis = genesis_of(rt.alloc(), 100, 2, 1, 0)?;
+    let Some(Ok(ledger)) = started(rt.alloc(), &genesis) else {
+        panic!(rt; "no ledger")
     };
-    assert!(rt; ledger.pots() == want);
-    assert_eq!(rt;
-        (ledger.network(), ledger.slot(), ledger.supply()),
-        (0, 3, 100)
-    );
-    assert_eq!(rt; (ledger.epoch_length(), ledger.epoch()), (2, 1));
-    assert_eq!(rt; (ledger.reserves(), ledger.state().treasury), (7, 3));
-    assert_eq!(rt; (ledger.fees(), ledger.donations()), (0, 0));
-    assert_eq!(rt; ledger.params().e_max, 18);
-    let members = ledger
-        .state()
-        .committee
-        .as_ref()
-        .map(|c| c.members.as_slice());
-    assert_eq!(rt; members, Some([(key(1), 8), (key(2), 9)].as_slice()));
-    assert_eq!(rt; ledger.hot().get(&key(2)), Some(HotState::Hot(key(5))));
-    assert_eq!(rt; ledger.hot().get(&key(1)), None);
-    assert_eq!(rt;
-        ledger.outputs().get(&at(8, 1)).map(|o| o.lovelace),
-        Some(30)
-    );
+    let numbers = [90, 0, 0, 0, 0, 3, 7, 0, 3, 100, 2, 1, 7, 3, 0, 0, 18];
+    assert!(rt; numbers_of(&ledger).as_slice() == numbers.as_slice());
+    assert!(rt; members_in(&ledger) == [(key(1), 8), (key(2), 9)].as_slice());
+    let hot = [(key(2), Some(HotState::Hot(key(5)))), (key(1), None)];
+    for (cold, want) in hot {
+        assert!(rt; ledger.hot().get(&cold) == want);
+    }
+    assert!(rt; lovelace_at(&ledger, &at(8, 1)) == Some(30));
     assert!(rt; ledger.outputs().used(&TxId([8; 32])));
     Ok(())
 }
@@ -155,10 +217,8 @@ fn tells_the_first_rule_that_a_genesis_breaks(rt: HostRuntime) -> Result<(), Fai
         (45_000_000_000_000_000, 2, 1, 0, GenesisRule::SumWrong),
     ];
     for (supply, member, output, network, rule) in rows {
-        let genesis = genesis(rt.alloc(), params()?, supply, member, output, network)?;
-        assert!(rt; genesis.is_within_limits());
-        let fault = LedgerState::from_genesis(rt.alloc(), &genesis).err();
-        assert_eq!(rt; fault, Some(GenesisFault::Broken(rule)));
+        let genesis = genesis_of(rt.alloc(), supply, member, output, network)?;
+        assert!(rt; fault_of(rt.alloc(), &genesis) == Some(GenesisFault::Broken(rule)));
     }
     Ok(())
 }
