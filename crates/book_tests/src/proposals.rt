@@ -87,7 +87,10 @@ fn keeps_votes_and_what_is_listed(rt: HostRuntime) -> Result<(), Fail> {
     let mut store = voted_on(&rt, rt.alloc())?;
     let removed = store.retain_listed([id(3), id(7), id(2)].as_slice())?;
     assert!(rt; store.len() == 2 && store.deposits() == 20);
-    let votes = removed.first().map(|p| (p.id, p.votes.len()));
-    assert!(rt; votes == Some((id(1), 2)));
+    let Some(first) = removed.first() else {
+        return Err(Fail::from("nothing is removed"));
+    };
+    let first = first.copied(rt.alloc())?;
+    assert!(rt; first.id == id(1) && first.votes.len() == 2);
     Ok(())
 }

@@ -14,7 +14,7 @@ use crate::stop::Result;
 use gov_actions::{EnactState, HotState, Proposal};
 use gov_ids::{Account, Credential, PoolId};
 use listed::Listed;
-use snapshots::{DefaultVote, Frozen, FrozenPool};
+use snapshots::{DefaultVote, Frozen, FrozenPool, HotList};
 use std::alloc::Global;
 
 // A cold key, and the byte of its hot key or 0 where it resigned.
@@ -83,7 +83,7 @@ fn of_parts(
         start,
         dreps: Listed::from_vec(dreps),
         pools: Listed::from_vec(pools),
-        hot: Listed::from_vec(hot),
+        hot: HotList::from_vec(hot),
         proposals,
     }
 }

@@ -119,7 +119,7 @@ fn with_committee(
         tx: TxId([0; 32]),
         index: 0,
     };
-    Ok(bare.apply(id, &committee(alloc, members, threshold))?)
+    Ok(bare.apply(alloc, id, &committee(alloc, members, threshold))?)
 }
 
 fn last_ids(n: &mut Numbers) -> LastIds {

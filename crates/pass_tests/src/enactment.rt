@@ -199,7 +199,7 @@ fn start(rt: &impl Abort, alloc: Global) -> Result<EnactState, Fail>
     let half = Unit::new(1, 2)?;
     let one = Ratio::new(1, 1)?;
     let members = committee(alloc, &[], &[(key(2), 20), (key(1), 10)], half)?;
-    let state = bare(params(half, one)).apply(id(6), &members)?;
+    let state = bare(params(half, one)).apply(alloc, id(6), &members)?;
     assert!(rt; state.treasury == 100);
     Ok(state)
 }
@@ -269,7 +269,7 @@ fn each_action_changes_what_it_names(rt: HostRuntime) -> Result<(), Fail> {
     ];
     for (kind, wanted, members, ids) in rows {
         let action = action(rt.alloc(), kind)?;
-        let after = start(&rt, rt.alloc())?.apply(id(7), &action)?;
+        let after = start(&rt, rt.alloc())?.apply(rt.alloc(), id(7), &action)?;
         assert_eq!(rt; held(&after), wanted, "at {kind}");
         assert_eq!(rt; committee_of(&after), members, "at {kind}");
         assert_eq!(rt; last(&after), ids, "at {kind}");
