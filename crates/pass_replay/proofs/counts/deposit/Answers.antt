@@ -17,5 +17,5 @@ pub put-requires : goal.put-requires
 put-requires c =
     let old = c.args.deposits.now in
     let changed : total_of (with_value credential_ord.cmp-value.it c.args.to c.args.amount old) + amount (λ v. v) (value_at credential_ord.cmp-value.it old c.args.to) ≡ total_of old + c.args.amount =
-      sum_by-insert_entry (λ v. v) total old c.args.to c.args.amount c.total.ensures.in_order in
+    sum_by-insert_entry (λ v. v) total old c.args.to c.args.amount c.total.ensures.in_order in
     omega (arith, changed, c.total.ensures.sum)
