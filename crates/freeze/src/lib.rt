@@ -1,0 +1,12 @@
+//! What is frozen when an epoch begins, made of the books of the ledger.
+#![tactic(auto)]
+
+mod deposits;
+mod laws;
+mod pools;
+mod proposals;
+
+pub use deposits::{deposits_by_account, deposits_by_pool};
+pub use laws::pools_are_frozen;
+pub use pools::frozen_pools;
+pub use proposals::copied_proposals;

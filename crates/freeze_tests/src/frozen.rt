@@ -1,0 +1,96 @@
+//! Three proposals, whose deposits go back to two accounts, and a pool of mark to which one of these delegates.
+ghost use Rattle.std.specs.Prelude.{◌≡◌, []};
+
+use accounts::{AccountBook, Entry, Registered};
+use cert_pool::PoolBook;
+use freeze::{copied_proposals, deposits_by_account, deposits_by_pool, frozen_pools};
+use gov_actions::{Action, Proposal};
+use gov_ids::{Account, ActionId, CredKind, Credential, PoolId, TxId};
+use listed::Listed;
+use proposal_store::ProposalStore;
+use snapshots::DefaultVote;
+use std::alloc::Global;
+use std::process::Abort;
+use std::test::Fail;
+
+const POOL: PoolId = PoolId([50; 28]);
+
+fn key(byte: u8) -> Credential {
+    Credential {
+        hash: [byte; 28],
+        kind: CredKind::Key,
+    }
+}
+
+/// One that asks for nothing, whose deposit goes back to the account of a key.
+fn info(alloc: Global, byte: u8, deposit: u64, account: u8) -> Proposal
+    ensures deposit { result.deposit ≡ deposit }
+    ensures votes { result.votes ≡ [] }
+{
+    Proposal {
+        id: ActionId {
+            tx: TxId([byte; 32]),
+            index: 0,
+        },
+        action: Action::Info,
+        deposit,
+        account: Account {
+            network: 1,
+            cred: key(account),
+        },
+        expires_after: 6,
+        votes: Listed::new(alloc),
+    }
+}
+
+/// Adds one to a store that holds little and does not have it.
+fn add(
+    rt: &impl Abort,
+    alloc: Global,
+    store: &mut ProposalStore,
+    proposal: (u8, u64, u8),
+) -> Result<(), Fail> {
+    let (byte, deposit, account) = proposal;
+    let p = info(alloc, byte, deposit, account);
+    assert!(rt; store.get(&p.id).is_none());
+    assert!(rt; store.deposits() < 1000);
+    assert!(rt; p.deposit < 1000);
+    store.add(p)?;
+    Ok(())
+}
+
+/// A registered account that delegates to this pool, or to none.
+fn registered(pool: Option<PoolId>) -> Entry {
+    Entry {
+        stake: 0,
+        registered: Some(Registered {
+            deposit: 2,
+            rewards: 0,
+            pool,
+            drep: None,
+        }),
+    }
+}
+
+#[test]
+fn freezes_proposals_and_pools(rt: HostRuntime) -> Result<(), Fail> {
+    let alloc = rt.alloc();
+    let mut store = ProposalStore::new(alloc);
+    for proposal in [(1, 10, 7), (2, 5, 8), (3, 7, 7)] {
+        add(&rt, alloc, &mut store, proposal)?;
+    }
+    let mut accounts = AccountBook::new(alloc);
+    accounts.put(key(7), registered(Some(POOL)))?;
+    accounts.put(key(8), registered(None))?;
+    assert!(rt; copied_proposals(alloc, &store)?.len() == 3);
+    let by_account = deposits_by_account(alloc, &store)?;
+    assert!(rt; (by_account.get(&key(7)), by_account.get(&key(8))) == (17, 5));
+    let by_pool = deposits_by_pool(alloc, &store, &accounts)?;
+    assert!(rt; by_pool.total() < 1000);
+    let pools = PoolBook::new(alloc);
+    let frozen = frozen_pools(alloc, &[(POOL, 100)], &pools, &accounts, &by_pool)?;
+    let first = frozen.get(0).copied().ok_or("no pool")?;
+    assert!(rt; (first.pool, first.stake) == (POOL, 117));
+    assert!(rt; first.account.is_none() && first.default_vote == DefaultVote::No);
+    Ok(())
+}
