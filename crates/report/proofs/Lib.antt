@@ -1,2 +1,4 @@
 pub mod Joined
+pub mod Puts
+pub mod Roles
 pub mod RulesFound

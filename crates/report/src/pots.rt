@@ -5,7 +5,8 @@ ghost use Rattle.text_model.specs.Words.{Text, line_of, spaced};
 ghost use Rattle.report.specs.Amounts.{amount_words};
 ghost use Rattle.report.specs.PotsWords.{pots_word_text};
 
-use crate::words::{begin, end, push_amounts, push_word};
+use crate::lines::Printed;
+use crate::words::{end, push_amounts, push_digits, push_word};
 use coin_frac::NoMemory;
 use tx_records::Pots;
 
@@ -68,6 +69,20 @@ fn push_pots(line: &mut Vec<u8>, word: &str, pots: &Pots) -> Result<(), NoMemory
     Ok(())
 }
 
+/// Appends the line of the pots. After want of memory the buffer may hold anything. (Own)
+pub fn push_pots_line(
+    out: &mut Vec<u8>,
+    line: u64,
+    word: PotsWord,
+    pots: &Pots,
+) -> Result<(), NoMemory>
+    ensures { OnOk result (out.new.items ≡ out.old.items ++ line_of line (pots_words (pots_word_text word) pots.now)) }
+{
+    push_digits(out, line)?;
+    push_pots(out, word.text(), pots)?;
+    end(out)
+}
+
 /// The line of the pots, in place of what the buffer held. After want of memory the buffer may hold anything. (Own)
 pub fn pots_line(
     line: &mut Vec<u8>,
@@ -77,7 +92,17 @@ pub fn pots_line(
 ) -> Result<(), NoMemory>
     ensures { OnOk result (line.new.items ≡ line_of number (pots_words (pots_word_text word) pots.now)) }
 {
-    begin(line, number)?;
-    push_pots(line, word.text(), pots)?;
-    end(line)
+    line.clear();
+    push_pots_line(line, number, word, pots)
+}
+
+impl Printed for (PotsWord, Pots) {
+    ghost use Rattle.text_model.specs.Replies.{pots_words};
+    ghost use Rattle.report.specs.PotsWords.{pots_word_text};
+
+    ghost words = { λ p. pots_words (pots_word_text p.0) p.1 };
+
+    fn push_line(&self, out: &mut Vec<u8>, line: u64) -> Result<(), NoMemory> {
+        push_pots_line(out, line, self.0, &self.1)
+    }
 }

@@ -1,0 +1,26 @@
+use Rattle.std.proofs.Common.{◌∷◌, [], ◌++◌, map, codes}
+use Rattle.text_model.specs.EpochLines.{epoch_words, stake_words, tally_words, paid_words, removed_words, retired_words}
+use Rattle.text_model.specs.Replies.{pots_words}
+use Rattle.report.proofs.Puts.{put_first, put_second, put_third}
+use Rattle.report.proofs.boundaries.put_epoch.Goals as goal
+
+pub returns-in_err-put_enacted : goal.returns-in_err-put_enacted
+returns-in_err-put_enacted g c =
+    put_first (epoch_words c.args.report.now ∷ [] ++ map stake_words c.args.report.now.stakes ++ map tally_words c.args.report.now.tallies ++ map paid_words c.args.report.now.paid ++ map removed_words c.args.report.now.removed)
+    (map retired_words c.args.report.now.retired)
+    (pots_words (codes "pots") c.args.pots.now ∷ [])
+    c.in_err-put_enacted.ensures c.from_residual.ensures.1
+
+pub returns-in_err-put_listed : goal.returns-in_err-put_listed
+returns-in_err-put_listed g c =
+    put_second (epoch_words c.args.report.now ∷ [] ++ map stake_words c.args.report.now.stakes ++ map tally_words c.args.report.now.tallies ++ map paid_words c.args.report.now.paid ++ map removed_words c.args.report.now.removed)
+    (map retired_words c.args.report.now.retired)
+    (pots_words (codes "pots") c.args.pots.now ∷ [])
+    c.in_ok-put_enacted.ensures c.in_err-put_listed.ensures c.from_residual-in_err-put_listed.ensures.1
+
+pub returns : goal.returns
+returns g c =
+    put_third (epoch_words c.args.report.now ∷ [] ++ map stake_words c.args.report.now.stakes ++ map tally_words c.args.report.now.tallies ++ map paid_words c.args.report.now.paid ++ map removed_words c.args.report.now.removed)
+    (map retired_words c.args.report.now.retired)
+    (pots_words (codes "pots") c.args.pots.now ∷ [])
+    c.in_ok-put_enacted.ensures c.in_ok-put_listed.ensures c.put_one.ensures
