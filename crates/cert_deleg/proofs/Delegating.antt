@@ -12,11 +12,11 @@ use Rattle.gov_ids.specs.Orders.{credential_cmp}
 use Rattle.book_records.specs.declared.Registered.{Registered}
 use Rattle.ledger_model.specs.Changes.{delegating, emptied}
 use Rattle.ledger_model.specs.Ledger.{Ledger, account_at}
-use Rattle.ledger_state.specs.Drafts.{Drafted, deposit_in, given_back, paid_by, with_account}
+use Rattle.live_ledger.specs.Drafts.{Drafted, deposit_in, given_back, paid_by, with_account}
 use Rattle.tx_records.specs.declared.cert.Cert.TheVariants.{Delegate}
 use Rattle.cert_deleg.specs.Emptied.{emptied_at}
-use Rattle.ledger_state.specs.Moved.{IsCertified}
-use Rattle.ledger_state.proofs.Replacing.{with_value-changed_at}
+use Rattle.live_ledger.specs.Moved.{IsCertified}
+use Rattle.live_ledger.proofs.Replacing.{with_value-changed_at}
 
 -- the first that is there, in std's word
 pub first_there : {A : Type 0} (a b : Option A) → option_or a b ≡ or_else a b

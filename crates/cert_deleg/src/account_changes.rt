@@ -1,12 +1,12 @@
 ghost use Rattle.std.specs.Prelude.{◌≡◌, ◌<◌, ◌^◌, OnOk, OnErr};
-ghost use Rattle.ledger_state.specs.Moved.{IsCertified};
+ghost use Rattle.live_ledger.specs.Moved.{IsCertified};
 ghost use Rattle.ledger_model.specs.Changes.{new_account};
 ghost use Rattle.tx_records.specs.declared.cert.Cert.TheVariants.{Delegate};
 
 use book_records::Registered;
 use coin_frac::NoMemory;
 use gov_ids::{Credential, Drep, PoolId};
-use ledger_state::Draft;
+use live_ledger::Draft;
 
 /// What is stored for a new account: the deposit that is due, and no balance.
 pub fn new_account(d: &Draft, pool: Option<PoolId>, drep: Option<Drep>) -> Registered

@@ -5,7 +5,7 @@ ghost use Rattle.ledger_model.specs.Checks.{answer_of};
 ghost use Rattle.tx_records.specs.declared.cert.Cert.TheVariants.{AccountReg, AccountUnreg, Delegate};
 
 use gov_ids::{Credential, Drep, PoolId};
-use ledger_state::Draft;
+use live_ledger::Draft;
 use tx_records::Rule;
 use tx_records::rules::{
     ACCOUNT_REGISTERED, ACCOUNT_UNKNOWN, BALANCE_NOT_ZERO, DEPOSIT_WRONG, DREP_UNKNOWN,

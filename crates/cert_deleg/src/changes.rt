@@ -1,6 +1,6 @@
 ghost use Rattle.std.specs.Prelude.{◌≡◌, ◌<◌, ◌^◌, true, None, OnOk, OnErr};
 ghost use Rattle.cert_deleg.specs.Kinds.{is_account_or_pool_cert};
-ghost use Rattle.ledger_state.specs.Moved.{IsCertified};
+ghost use Rattle.live_ledger.specs.Moved.{IsCertified};
 ghost use Rattle.ledger_model.specs.CertRules.{cert_checks};
 ghost use Rattle.ledger_model.specs.Checks.{first_among};
 
@@ -8,7 +8,7 @@ use crate::account_changes::{delegate, new_account};
 use crate::pool_changes::{register, retire};
 use book_records::PoolTerms;
 use coin_frac::NoMemory;
-use ledger_state::Draft;
+use live_ledger::Draft;
 use tx_records::Cert;
 
 /// What a certificate of an account or a pool changes, if it breaks no rule.

@@ -3,7 +3,7 @@
 
 ghost use Rattle.std.specs.Prelude.{◌≡◌, ◌+◌, ◌≤◌, ◌^◌, true, OnOk, length, map};
 ghost use Rattle.cert_deleg.specs.Kinds.{is_account_or_pool_cert};
-ghost use Rattle.ledger_state.specs.Moved.{HasMoved};
+ghost use Rattle.live_ledger.specs.Moved.{HasMoved};
 ghost use Rattle.ledger_model.specs.CertRules.{cert_checks, withdrawal_checks};
 ghost use Rattle.ledger_model.specs.Changes.{changed_by, withdrawn};
 ghost use Rattle.ledger_model.specs.Checks.{at_place, first_among, per_place};
@@ -24,7 +24,7 @@ use crate::changes::change;
 use crate::rules::check_cert;
 use crate::withdrawals::{check_withdrawals, empty_accounts};
 pub use kinds::is_account_or_pool_cert;
-use ledger_state::Draft;
+use live_ledger::Draft;
 use rule_checks::{as_fault, at_place};
 use tx_records::{Cert, Tx, TxFault};
 

@@ -1,12 +1,12 @@
 ghost use Rattle.std.specs.Prelude.{◌≡◌, ◌<◌, ◌^◌, true, OnOk, OnErr};
-ghost use Rattle.ledger_state.specs.Moved.{IsCertified};
+ghost use Rattle.live_ledger.specs.Moved.{IsCertified};
 ghost use Rattle.ledger_model.specs.Ledger.{is_pool};
 ghost use Rattle.tx_records.specs.declared.cert.Cert.TheVariants.{PoolReg, PoolRetire};
 
 use book_records::PoolTerms;
 use coin_frac::NoMemory;
 use gov_ids::PoolId;
-use ledger_state::Draft;
+use live_ledger::Draft;
 
 /// A pool is registered and pays the deposit that is due, or it has these terms from the next boundary on, pays nothing and does not retire.
 pub fn register(d: &mut Draft, pool: PoolId, terms: PoolTerms) -> Result<(), NoMemory>

@@ -5,7 +5,7 @@ ghost use Rattle.tx_records.specs.declared.cert.Cert.TheVariants.{PoolReg, PoolR
 
 use book_records::PoolTerms;
 use gov_ids::PoolId;
-use ledger_state::Draft;
+use live_ledger::Draft;
 use tx_records::Rule;
 use tx_records::rules::{
     POOL_COST_TOO_LOW, POOL_UNKNOWN, POOL_WRONG_NETWORK, RETIREMENT_EPOCH_WRONG,

@@ -6,7 +6,7 @@ ghost use Rattle.ledger_model.specs.Checks.{answer_of};
 use crate::account_rules::{check_delegation, check_end, check_registration};
 use crate::pool_rules::{check_retirement, check_terms};
 use book_records::PoolTerms;
-use ledger_state::Draft;
+use live_ledger::Draft;
 use tx_records::{Cert, Rule};
 
 /// The first rule that a certificate of an account or a pool breaks, if there is one; its place is not told yet.

@@ -7,7 +7,7 @@ ghost use Rattle.tx_records.specs.TxLimits.{is_within_limits};
 use book_records::Registered;
 use coin_frac::NoMemory;
 use gov_ids::{Account, CredKind, Credential};
-use ledger_state::{Draft, LedgerState};
+use live_ledger::{Draft, LiveLedger};
 use rule_checks::{ItemRules, check_each};
 use tx_records::rules::{
     WITHDRAWAL_NO_ACCOUNT, WITHDRAWAL_NOT_DELEGATED, WITHDRAWAL_NOT_WHOLE, WITHDRAWAL_WRONG_NETWORK,
@@ -17,7 +17,7 @@ use tx_records::{Rule, Tx};
 /// The rules on each withdrawal.
 #[derive(Drop)]
 struct Withdrawals<'a> {
-    s: &'a LedgerState,
+    s: &'a LiveLedger,
 }
 
 impl<'a> ItemRules for Withdrawals<'a> {
@@ -46,7 +46,7 @@ impl<'a> ItemRules for Withdrawals<'a> {
 }
 
 /// The rules on each withdrawal, by the ledger before the transaction.
-pub fn check_withdrawals(s: &LedgerState, tx: &Tx) -> Result<(), Rule>
+pub fn check_withdrawals(s: &LiveLedger, tx: &Tx) -> Result<(), Rule>
     requires { is_within_limits tx.now ≡ true }
     ensures { result ≡ answer_of (per_place (withdrawal_checks s.now.ledger) tx.now.withdrawals) }
 {

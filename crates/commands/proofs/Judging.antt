@@ -3,7 +3,7 @@ use Rattle.std.proofs.Common.{◌≡◌, [], ◌∷◌, Option, Some, None, Ok, 
 use Rattle.ledger_model.specs.Broken.{first_broken}
 use Rattle.ledger_model.specs.Ledger.{Ledger}
 use Rattle.ledger_model.specs.Transaction.{accepted_as, tx_step_by}
-use Rattle.ledger_state.specs.Standing.{Standing}
+use Rattle.live_ledger.specs.Standing.{Standing}
 use Rattle.run_model.specs.Step.{step_by, world_after_accepted}
 use Rattle.run_model.specs.World.{World}
 use Rattle.text_model.specs.Replies.{reply_words}

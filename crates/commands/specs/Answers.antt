@@ -4,7 +4,7 @@ use Rattle.coin_frac.specs.declared.NoMemory.{NoMemory}
 use Rattle.ledger_model.specs.Ledger.{Ledger}
 use Rattle.ledger_model.specs.Supply.{pots_of}
 use Rattle.ledger_model.specs.Transaction.{tx_step}
-use Rattle.ledger_state.specs.Standing.{Standing}
+use Rattle.live_ledger.specs.Standing.{Standing}
 use Rattle.report.specs.declared.pots.PotsWord.TheVariants as words
 use Rattle.run_model.specs.Genesis.{ledger_of_genesis}
 use Rattle.text_model.specs.Runs.{line_rule}

@@ -4,8 +4,8 @@ use Rattle.byte_lines.specs.declared.lines.LineFault.{LineFault}
 use Rattle.byte_lines.specs.declared.lines.LineFault.TheVariants as line_faults
 use Rattle.byte_lines.specs.declared.sink.SinkFault.{SinkFault}
 use Rattle.byte_lines.specs.declared.sink.SinkFault.TheVariants as sink_faults
-use Rattle.ledger_state.specs.declared.fault.GenesisFault.{GenesisFault}
-use Rattle.ledger_state.specs.declared.fault.GenesisFault.TheVariants as genesis_faults
+use Rattle.live_ledger.specs.declared.fault.GenesisFault.{GenesisFault}
+use Rattle.live_ledger.specs.declared.fault.GenesisFault.TheVariants as genesis_faults
 use Rattle.commands.specs.declared.fault.AnswerFault.{AnswerFault}
 use Rattle.commands.specs.declared.fault.AnswerFault.TheVariants as answer_faults
 use Rattle.commands.specs.declared.fault.ReplayFault.{ReplayFault}

@@ -2,7 +2,7 @@
 use Rattle.std.specs.Prelude.{◌≡◌, ℕ, List, [], ◌++◌, Option, Some, None}
 use Rattle.std.specs.Io.KnownBytes.{append_known}
 use Rattle.byte_lines.specs.Reader.{Reader}
-use Rattle.ledger_state.specs.Standing.{Standing}
+use Rattle.live_ledger.specs.Standing.{Standing}
 use Rattle.run_model.specs.World.{World}
 use Rattle.text_model.specs.Words.{Text}
 use Rattle.tx_records.specs.declared.record.Reading.{Reading}

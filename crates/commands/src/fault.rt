@@ -1,7 +1,7 @@
 use crate::status::{GenesisCause, Status};
 use byte_lines::{LineFault, SinkFault};
 use coin_frac::NoMemory;
-use ledger_state::GenesisFault;
+use live_ledger::GenesisFault;
 
 /// Why what was read has no answer.
 #[derive(Clone, Copy)]

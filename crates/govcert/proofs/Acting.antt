@@ -15,9 +15,9 @@ use Rattle.tx_records.specs.declared.cert.Cert.TheVariants.{DrepUpdate}
 use Rattle.tx_records.specs.declared.tx.VoteRecord.{VoteRecord}
 use Rattle.ledger_model.specs.Changes.{having_acted}
 use Rattle.ledger_model.specs.Ledger.{Ledger}
-use Rattle.ledger_state.proofs.Replacing.{with_value-changed_at}
-use Rattle.ledger_state.specs.Drafts.{Drafted, drep_deposit_in, given_back, paid_by, with_drep}
-use Rattle.ledger_state.specs.Moved.{IsCertified}
+use Rattle.live_ledger.proofs.Replacing.{with_value-changed_at}
+use Rattle.live_ledger.specs.Drafts.{Drafted, drep_deposit_in, given_back, paid_by, with_drep}
+use Rattle.live_ledger.specs.Moved.{IsCertified}
 use Rattle.govcert.specs.Acted.{acted_all, acted_as}
 
 module _ (l : Ledger) where

@@ -1,5 +1,5 @@
 ghost use Rattle.std.specs.Prelude.{◌≡◌, ◌+◌, ◌<◌, ◌≤◌, ◌^◌, true, None, OnOk};
-ghost use Rattle.ledger_state.specs.Moved.{IsCertified};
+ghost use Rattle.live_ledger.specs.Moved.{IsCertified};
 ghost use Rattle.govcert.specs.Kinds.{is_governance_cert};
 ghost use Rattle.ledger_model.specs.CertRules.{cert_checks};
 ghost use Rattle.ledger_model.specs.Checks.{first_among};
@@ -7,7 +7,7 @@ ghost use Rattle.ledger_model.specs.Checks.{first_among};
 use crate::drep_changes::{act, new_drep};
 use coin_frac::NoMemory;
 use gov_actions::HotState;
-use ledger_state::Draft;
+use live_ledger::Draft;
 use tx_records::Cert;
 
 /// What a certificate of a DRep or of a cold key changes, if it breaks no rule.

@@ -3,7 +3,7 @@ ghost use Rattle.ledger_model.specs.Changes.{dormant_added};
 ghost use Rattle.maps.specs.Words.{is_empty};
 
 use coin_frac::NoMemory;
-use ledger_state::Draft;
+use live_ledger::Draft;
 use tx_records::Tx;
 
 /// The dormant epochs are added where the transaction proposes.

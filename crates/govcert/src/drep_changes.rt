@@ -1,13 +1,13 @@
 ghost use Rattle.std.specs.Prelude.{◌≡◌, ◌+◌, ◌<◌, ◌≤◌, ◌^◌, OnOk};
-ghost use Rattle.ledger_state.specs.Moved.{IsCertified};
+ghost use Rattle.live_ledger.specs.Moved.{IsCertified};
 ghost use Rattle.ledger_model.specs.Changes.{fresh_expiry, having_acted, new_drep};
-ghost use Rattle.ledger_state.specs.Drafts.{IsTimely};
+ghost use Rattle.live_ledger.specs.Drafts.{IsTimely};
 ghost use Rattle.tx_records.specs.declared.cert.Cert.TheVariants.{DrepUpdate};
 
 use book_records::DrepState;
 use coin_frac::NoMemory;
 use gov_ids::Credential;
-use ledger_state::Draft;
+use live_ledger::Draft;
 
 /// The expiry of a DRep that acts now, as an epoch: the dormant epochs will be added to it, so it begins without them.
 fn fresh_expiry(d: &Draft) -> u64

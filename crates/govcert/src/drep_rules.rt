@@ -4,7 +4,7 @@ ghost use Rattle.ledger_model.specs.Checks.{answer_of};
 ghost use Rattle.tx_records.specs.declared.cert.Cert.TheVariants.{DrepReg, DrepUnreg, DrepUpdate};
 
 use gov_ids::Credential;
-use ledger_state::Draft;
+use live_ledger::Draft;
 use tx_records::Rule;
 use tx_records::rules::{DEPOSIT_WRONG, DREP_REGISTERED, DREP_UNKNOWN, REFUND_WRONG};
 

@@ -4,7 +4,7 @@ ghost use Rattle.ledger_model.specs.Checks.{answer_of};
 
 use gov_actions::HotState;
 use gov_ids::Credential;
-use ledger_state::{Draft, LedgerState};
+use live_ledger::{Draft, LiveLedger};
 use tx_records::Rule;
 use tx_records::rules::{COLD_KEY_RESIGNED, COLD_KEY_UNKNOWN};
 
@@ -29,7 +29,7 @@ fn is_resigned(s: Option<HotState>) -> bool
 }
 
 /// Whether a credential is a member of the committee, or a live proposal adds it. It walks neither.
-fn is_cold_key(s: &LedgerState, cold: &Credential) -> bool
+fn is_cold_key(s: &LiveLedger, cold: &Credential) -> bool
     ensures { result ≡ is_cold_key s.now.ledger cold.now }
 {
     s.is_member(cold) || s.is_proposed(cold)

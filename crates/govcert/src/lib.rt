@@ -2,7 +2,7 @@
 #![tactic(auto)]
 
 ghost use Rattle.std.specs.Prelude.{◌≡◌, ◌+◌, ◌≤◌, ◌^◌, true, OnOk, map};
-ghost use Rattle.ledger_state.specs.Moved.{HasMoved};
+ghost use Rattle.live_ledger.specs.Moved.{HasMoved};
 ghost use Rattle.govcert.specs.Kinds.{is_governance_cert};
 ghost use Rattle.ledger_model.specs.CertRules.{cert_checks};
 ghost use Rattle.ledger_model.specs.Changes.{changed_by, refreshed};
@@ -26,7 +26,7 @@ use crate::rules::check_cert;
 use crate::voters::refresh_voters;
 use coin_frac::NoMemory;
 pub use kinds::is_governance_cert;
-use ledger_state::Draft;
+use live_ledger::Draft;
 use rule_checks::{as_fault, at_place};
 use tx_records::{Cert, Tx, TxFault};
 

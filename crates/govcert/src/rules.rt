@@ -5,7 +5,7 @@ ghost use Rattle.ledger_model.specs.Checks.{answer_of};
 
 use crate::drep_rules::{check_end, check_registration, check_update};
 use crate::hot_rules::check_cold_key;
-use ledger_state::Draft;
+use live_ledger::Draft;
 use tx_records::{Cert, Rule};
 
 /// The first rule that a certificate of a DRep or of a cold key breaks, if there is one; its place is not told yet.

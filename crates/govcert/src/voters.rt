@@ -4,7 +4,7 @@ ghost use Rattle.govcert.specs.Acted.{acted_all, acted_as};
 use crate::drep_changes::act;
 use coin_frac::NoMemory;
 use gov_ids::Voter;
-use ledger_state::Draft;
+use live_ledger::Draft;
 use tx_records::VoteRecord;
 
 /// Each registered DRep that casts one of these votes acts, vote by vote.

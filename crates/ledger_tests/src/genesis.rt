@@ -2,7 +2,7 @@
 use coin_frac::{FracFault, NoMemory, Ratio, Unit};
 use gov_actions::HotState;
 use gov_ids::{Address, CredKind, Credential, OutRef, TxId};
-use ledger_state::{GenesisFault, LedgerState};
+use live_ledger::{GenesisFault, LiveLedger};
 use listed::Listed;
 use pparams::Params;
 use std::alloc::Global;
@@ -136,11 +136,11 @@ fn genesis_of(
 }
 
 /// The ledger of a genesis or why it gives none; nothing where it is beyond the limits.
-fn started(alloc: Global, genesis: &Genesis) -> Option<Result<LedgerState, GenesisFault>> {
+fn started(alloc: Global, genesis: &Genesis) -> Option<Result<LiveLedger, GenesisFault>> {
     if !genesis.is_within_limits() {
         return None;
     }
-    Some(LedgerState::from_genesis(alloc, genesis))
+    Some(LiveLedger::from_genesis(alloc, genesis))
 }
 
 /// Why a genesis gives no ledger.
@@ -152,7 +152,7 @@ fn fault_of(alloc: Global, genesis: &Genesis) -> Option<GenesisFault> {
 }
 
 /// The pots of a ledger and its other numbers, in one list.
-fn numbers_of(ledger: &LedgerState) -> [u64; 17] {
+fn numbers_of(ledger: &LiveLedger) -> [u64; 17] {
     let pots = ledger.pots();
     [
         pots.outputs,
@@ -176,7 +176,7 @@ fn numbers_of(ledger: &LedgerState) -> [u64; 17] {
 }
 
 /// The members of the committee with their terms, none where there is no committee.
-fn members_in(ledger: &LedgerState) -> &[(Credential, u64)] {
+fn members_in(ledger: &LiveLedger) -> &[(Credential, u64)] {
     match &ledger.state().committee {
         Some(committee) => committee.members.as_slice(),
         None => &[],
@@ -184,7 +184,7 @@ fn members_in(ledger: &LedgerState) -> &[(Credential, u64)] {
 }
 
 /// What stands at a reference, in lovelace.
-fn lovelace_at(ledger: &LedgerState, at: &OutRef) -> Option<u64> {
+fn lovelace_at(ledger: &LiveLedger, at: &OutRef) -> Option<u64> {
     Some(ledger.outputs().get(at)?.lovelace)
 }
 

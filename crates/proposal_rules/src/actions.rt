@@ -6,7 +6,7 @@ use crate::committee::check_members;
 use crate::parameters::check_update;
 use crate::withdrawals::check_targets;
 use gov_actions::Action;
-use ledger_state::Draft;
+use live_ledger::Draft;
 use tx_records::Rule;
 
 /// The first of the rules of its type that an action breaks, if there is one.

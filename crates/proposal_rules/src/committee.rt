@@ -7,13 +7,13 @@ ghost use Rattle.maps.specs.Words.{among};
 
 use credential_list::CredentialList;
 use gov_ids::Credential;
-use ledger_state::LedgerState;
+use live_ledger::LiveLedger;
 use tx_records::Rule;
 use tx_records::rules::{CONFLICTING_UPDATE, TERM_TOO_SMALL};
 
 /// The rules on a change of the committee.
 pub fn check_members(
-    s: &LedgerState,
+    s: &LiveLedger,
     remove: &CredentialList,
     add: &[(Credential, u64)],
 ) -> Result<(), Rule>

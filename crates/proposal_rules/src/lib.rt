@@ -14,7 +14,7 @@ mod proposal;
 mod withdrawals;
 
 use crate::proposal::Proposals;
-use ledger_state::Draft;
+use live_ledger::Draft;
 use rule_checks::check_each;
 use tx_records::{Rule, Tx};
 

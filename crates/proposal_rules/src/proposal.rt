@@ -1,5 +1,5 @@
 use crate::actions::check_action;
-use ledger_state::Draft;
+use live_ledger::Draft;
 use lineage::{follows_version, may_follow};
 use rule_checks::ItemRules;
 use tx_records::rules::{

@@ -6,7 +6,7 @@ ghost use Rattle.ledger_model.specs.ProposalRules.{target_checks};
 
 use crate::policy::is_other_policy;
 use gov_ids::Account;
-use ledger_state::Draft;
+use live_ledger::Draft;
 use tx_records::Rule;
 use tx_records::rules::{POLICY_WRONG, TARGET_UNKNOWN, TARGET_WRONG_NETWORK, ZERO_WITHDRAWAL};
 

@@ -15,7 +15,7 @@ use Rattle.ledger_model.specs.ProposalRules.{proposal_checks, vote_checks}
 use Rattle.ledger_model.specs.Transaction.{accepted_as, ledger_after_tx, tx_step, tx_step_by}
 use Rattle.ledger_model.specs.UtxoRules.{unless_failed, utxo_checks}
 use Rattle.ledger_model.proofs.CheckLaws.{answer-append, first_among-append}
-use Rattle.ledger_state.specs.Standing.{Standing, on_ledger}
+use Rattle.live_ledger.specs.Standing.{Standing, on_ledger}
 use Rattle.rule_checks.specs.Answered.{IsAnswered, as_fault}
 use Rattle.rule_checks.proofs.Groups.{before}
 use Rattle.tx_rule.specs.Drafted.{drafted_checks}

@@ -1,5 +1,5 @@
 ghost use Rattle.std.specs.Prelude.{◌≡◌, ◌+◌, ◌≤◌, ◌^◌, true, map, OnOk};
-ghost use Rattle.ledger_state.specs.Moved.{HasMoved};
+ghost use Rattle.live_ledger.specs.Moved.{HasMoved};
 ghost use Rattle.ledger_model.specs.CertRules.{cert_checks};
 ghost use Rattle.ledger_model.specs.Changes.{changed_by};
 ghost use Rattle.ledger_model.specs.Checks.{at_place, first_among, per_place};
@@ -9,7 +9,7 @@ ghost use Rattle.rule_checks.specs.Answered.{IsAnswered};
 ghost use Rattle.tx_records.specs.TxLimits.{is_within_limits};
 
 use cert_deleg::is_account_or_pool_cert;
-use ledger_state::Draft;
+use live_ledger::Draft;
 use tx_records::{Cert, Tx, TxFault};
 
 /// Each certificate of a transaction acts on the draft, from left to right, or the first that breaks a rule is refused with its place.

@@ -5,7 +5,7 @@ ghost use Rattle.ledger_model.specs.Flows.{flows_of_certs, hand, sink, source, s
 ghost use Rattle.tx_records.specs.TxLimits.{is_within_limits};
 ghost use Rattle.tx_rule.specs.Drafted.{drafted_checks};
 
-use ledger_state::Draft;
+use live_ledger::Draft;
 use tx_records::{Rule, Tx};
 use utxo_rules::balance;
 

@@ -2,11 +2,11 @@ ghost use Rattle.std.specs.Prelude.{◌≡◌, ◌≤◌, ◌*◌, length, sum_b
 ghost use Rattle.ledger_model.specs.UtxoRules.{lovelace_at};
 
 use gov_ids::{Account, OutRef};
-use ledger_state::LedgerState;
+use live_ledger::LiveLedger;
 use tx_records::{ProposalRecord, TxOutput};
 
 /// What the unspent outputs at these references hold, in lovelace; a reference that has none counts as 0.
-pub fn lovelace_spent(s: &LedgerState, refs: &[OutRef]) -> u128
+pub fn lovelace_spent(s: &LiveLedger, refs: &[OutRef]) -> u128
     ensures sum { result ≡ sum_by (lovelace_at s.now.ledger) refs.now }
     ensures fits { result ≤ length refs.now * u64.MAX }
 {

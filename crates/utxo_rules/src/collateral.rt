@@ -5,7 +5,7 @@ ghost use Rattle.tx_records.specs.TxLimits.{is_within_limits};
 
 use crate::amounts::lovelace_spent;
 use gov_ids::{CredKind, OutRef};
-use ledger_state::LedgerState;
+use live_ledger::LiveLedger;
 use rule_checks::{ItemRules, check_each};
 use tx_records::rules::{
     COLLATERAL_MISSING, COLLATERAL_NOT_KEY, COLLATERAL_TOO_SMALL, NO_COLLATERAL,
@@ -21,7 +21,7 @@ fn has_scripts(tx: &Tx) -> bool
 }
 
 /// The rules on the list of collateral.
-pub fn check_collateral_list(s: &LedgerState, tx: &Tx) -> Result<(), Rule>
+pub fn check_collateral_list(s: &LiveLedger, tx: &Tx) -> Result<(), Rule>
     ensures { result ≡ answer_of (collateral_list_checks s.now.ledger tx.now) }
 {
     let most = s.params().max_collateral_inputs;
@@ -37,7 +37,7 @@ pub fn check_collateral_list(s: &LedgerState, tx: &Tx) -> Result<(), Rule>
 /// The rules on each collateral input up to the first repeated one, which breaks one of them.
 #[derive(Drop)]
 struct Collateral<'a> {
-    s: &'a LedgerState,
+    s: &'a LiveLedger,
     tx: &'a Tx,
     repeated: Option<usize>,
 }
@@ -64,7 +64,7 @@ impl<'a> ItemRules for Collateral<'a> {
 }
 
 /// The rules on each collateral input.
-pub fn check_collateral(s: &LedgerState, tx: &Tx) -> Result<(), Rule>
+pub fn check_collateral(s: &LiveLedger, tx: &Tx) -> Result<(), Rule>
     requires { is_within_limits tx.now ≡ true }
     ensures { result ≡ answer_of (per_place (collateral_checks s.now.ledger tx.now) tx.now.collateral) }
 {
@@ -73,7 +73,7 @@ pub fn check_collateral(s: &LedgerState, tx: &Tx) -> Result<(), Rule>
 }
 
 /// The rule on what the collateral holds. The return is taken off, and the rest must cover its part of the fee.
-pub fn check_collateral_sum(s: &LedgerState, tx: &Tx) -> Result<(), Rule>
+pub fn check_collateral_sum(s: &LiveLedger, tx: &Tx) -> Result<(), Rule>
     requires { is_within_limits tx.now ≡ true }
     ensures { result ≡ answer_of (collateral_sum_checks s.now.ledger tx.now) }
 {

@@ -4,13 +4,13 @@ ghost use Rattle.ledger_model.specs.UtxoRules.{id_checks, input_checks};
 ghost use Rattle.tx_records.specs.TxLimits.{is_within_limits};
 
 use gov_ids::OutRef;
-use ledger_state::LedgerState;
+use live_ledger::LiveLedger;
 use rule_checks::{ItemRules, check_each};
 use tx_records::rules::{INPUT_MISSING, INPUT_REPEATED, NO_INPUTS, NOT_WITNESSED, TX_ID_USED};
 use tx_records::{Rule, Tx};
 
 /// The rules on the id, the witnesses and the presence of inputs.
-pub fn check_id(s: &LedgerState, tx: &Tx) -> Result<(), Rule>
+pub fn check_id(s: &LiveLedger, tx: &Tx) -> Result<(), Rule>
     ensures { result ≡ answer_of (id_checks s.now.ledger tx.now) }
 {
     if s.outputs().used(&tx.id) {
@@ -28,7 +28,7 @@ pub fn check_id(s: &LedgerState, tx: &Tx) -> Result<(), Rule>
 /// The rules on each input up to the first repeated one, which breaks one of them.
 #[derive(Drop)]
 struct Inputs<'a> {
-    s: &'a LedgerState,
+    s: &'a LiveLedger,
     repeated: Option<usize>,
 }
 
@@ -51,7 +51,7 @@ impl<'a> ItemRules for Inputs<'a> {
 }
 
 /// The rules on each input.
-pub fn check_inputs(s: &LedgerState, tx: &Tx) -> Result<(), Rule>
+pub fn check_inputs(s: &LiveLedger, tx: &Tx) -> Result<(), Rule>
     requires { is_within_limits tx.now ≡ true }
     ensures { result ≡ answer_of (per_place (input_checks s.now.ledger tx.now) tx.now.inputs) }
 {

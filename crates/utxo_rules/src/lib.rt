@@ -19,12 +19,12 @@ use crate::collateral::{check_collateral, check_collateral_list, check_collatera
 use crate::inputs::{check_id, check_inputs};
 use crate::limits::{check_fee, check_treasury};
 use crate::outputs::check_outputs;
-use ledger_state::{Draft, LedgerState};
+use live_ledger::{Draft, LiveLedger};
 use tx_records::rules::NOT_BALANCED;
 use tx_records::{Rule, Tx};
 
 /// The first of the rules on id, inputs, size, time, fee, outputs, collateral and treasury value that the transaction breaks, if there is one. (UTXO and UTXOW of the formal specification)
-pub fn check(s: &LedgerState, tx: &Tx) -> Result<(), Rule>
+pub fn check(s: &LiveLedger, tx: &Tx) -> Result<(), Rule>
     requires { is_within_limits tx.now ≡ true }
     ensures { result ≡ answer_of (utxo_checks s.now.ledger tx.now) }
 {

@@ -2,12 +2,12 @@ ghost use Rattle.std.specs.Prelude.{◌≡◌, true};
 ghost use Rattle.ledger_model.specs.Checks.{answer_of};
 ghost use Rattle.ledger_model.specs.UtxoRules.{fee_checks, is_outside, least_fee, treasury_checks, unless_failed};
 
-use ledger_state::LedgerState;
+use live_ledger::LiveLedger;
 use tx_records::rules::{FEE_TOO_SMALL, OUTSIDE_VALIDITY, TREASURY_VALUE_WRONG, TX_TOO_LARGE};
 use tx_records::{Rule, Scripts, Tx};
 
 /// The rules on size, time and fee.
-pub fn check_fee(s: &LedgerState, tx: &Tx) -> Result<(), Rule>
+pub fn check_fee(s: &LiveLedger, tx: &Tx) -> Result<(), Rule>
     ensures { result ≡ answer_of (fee_checks s.now.ledger tx.now) }
 {
     let most = s.params().max_tx_size;
@@ -25,7 +25,7 @@ pub fn check_fee(s: &LedgerState, tx: &Tx) -> Result<(), Rule>
 }
 
 /// Whether the transaction may not stand at the last slot.
-fn is_outside(s: &LedgerState, tx: &Tx) -> bool
+fn is_outside(s: &LiveLedger, tx: &Tx) -> bool
     ensures { result ≡ is_outside s.now.ledger tx.now }
 {
     let slot = s.slot();
@@ -33,7 +33,7 @@ fn is_outside(s: &LedgerState, tx: &Tx) -> bool
 }
 
 /// The least fee, in lovelace.
-fn least_fee(s: &LedgerState, tx: &Tx) -> u128
+fn least_fee(s: &LiveLedger, tx: &Tx) -> u128
     ensures { result ≡ least_fee s.now.ledger tx.now }
 {
     let params = s.params();
@@ -43,7 +43,7 @@ fn least_fee(s: &LedgerState, tx: &Tx) -> u128
 }
 
 /// The rule on the treasury value, which a transaction whose scripts failed need not keep.
-pub fn check_treasury(s: &LedgerState, tx: &Tx) -> Result<(), Rule>
+pub fn check_treasury(s: &LiveLedger, tx: &Tx) -> Result<(), Rule>
     ensures { result ≡ answer_of (unless_failed tx.now.scripts (treasury_checks s.now.ledger tx.now)) }
 {
     let treasury = s.state().treasury;

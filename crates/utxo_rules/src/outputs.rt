@@ -3,7 +3,7 @@ ghost use Rattle.ledger_model.specs.Checks.{answer_of, per_place};
 ghost use Rattle.ledger_model.specs.UtxoRules.{least_lovelace, output_checks};
 ghost use Rattle.tx_records.specs.TxLimits.{is_within_limits};
 
-use ledger_state::LedgerState;
+use live_ledger::LiveLedger;
 use rule_checks::{ItemRules, at_place, check_each};
 use tx_records::rules::{OUTPUT_TOO_SMALL, OUTPUT_WRONG_NETWORK};
 use tx_records::{Rule, Tx, TxOutput};
@@ -14,7 +14,7 @@ const OVERHEAD: u128 = 160;
 /// The rules on each output.
 #[derive(Drop)]
 struct Outputs<'a> {
-    s: &'a LedgerState,
+    s: &'a LiveLedger,
     tx: &'a Tx,
 }
 
@@ -38,7 +38,7 @@ impl<'a> ItemRules for Outputs<'a> {
 }
 
 /// The rules on each output and on the collateral return, whose place is after the last output.
-pub fn check_outputs(s: &LedgerState, tx: &Tx) -> Result<(), Rule>
+pub fn check_outputs(s: &LiveLedger, tx: &Tx) -> Result<(), Rule>
     requires { is_within_limits tx.now ≡ true }
     ensures { result ≡ answer_of (per_place
         (output_checks s.now.ledger tx.now) (tx.now.outputs ++ option_to_list tx.now.collateral_return)) }
@@ -55,7 +55,7 @@ pub fn check_outputs(s: &LedgerState, tx: &Tx) -> Result<(), Rule>
 }
 
 /// The least that an output may hold, in lovelace.
-fn least_lovelace(s: &LedgerState, output: &TxOutput) -> u128
+fn least_lovelace(s: &LiveLedger, output: &TxOutput) -> u128
     ensures { result ≡ least_lovelace s.now.ledger output.now }
 {
     (OVERHEAD + u128::from(output.bytes)) * u128::from(s.params().coins_per_utxo_byte)

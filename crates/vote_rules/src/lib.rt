@@ -10,7 +10,7 @@ mod voter;
 
 use crate::voter::is_known_voter;
 use gov_actions::may_vote;
-use ledger_state::Draft;
+use live_ledger::Draft;
 use rule_checks::{ItemRules, check_each};
 use tx_records::rules::{ACTION_UNKNOWN, VOTER_NOT_ALLOWED, VOTER_UNKNOWN, VOTING_EXPIRED};
 use tx_records::{Rule, Tx, VoteRecord};

@@ -2,7 +2,7 @@ ghost use Rattle.std.specs.Prelude.{◌≡◌};
 ghost use Rattle.ledger_model.specs.ProposalRules.{is_known_voter};
 
 use gov_ids::Voter;
-use ledger_state::Draft;
+use live_ledger::Draft;
 
 /// Whether a voter may vote at all: it is a hot key of some cold key, a registered DRep or a registered pool. (CIP-1694, Votes)
 pub fn is_known_voter(d: &Draft, voter: &Voter) -> bool

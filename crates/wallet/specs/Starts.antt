@@ -2,7 +2,7 @@
 use Rattle.std.specs.Prelude.{◌≡◌, ℕ, List, Ok, None}
 use Rattle.tx_records.specs.declared.genesis.Genesis.{Genesis}
 use Rattle.tx_records.specs.declared.record.Record.TheVariants as records
-use Rattle.ledger_state.specs.Standing.{Standing}
+use Rattle.live_ledger.specs.Standing.{Standing}
 use Rattle.run_model.specs.Freeze.{entries_of}
 use Rattle.run_model.specs.Genesis.{genesis_fault, ledger_of_genesis}
 use Rattle.record_read.specs.Lines.{record_of_line}

@@ -6,7 +6,7 @@ use Rattle.ledger_model.specs.Changes.{refreshed, withdrawn}
 use Rattle.ledger_model.specs.Checks.{answer_of, first_among}
 use Rattle.ledger_model.specs.Draft.{draft_after}
 use Rattle.ledger_model.specs.Ledger.{Ledger}
-use Rattle.ledger_state.specs.Drafts.{Drafted}
+use Rattle.live_ledger.specs.Drafts.{Drafted}
 use Rattle.rule_checks.specs.Answered.{IsAnswered, as_fault}
 use Rattle.tx_rule.specs.Drafted.{drafted_checks}
 use Rattle.tx_rule.proofs.Certified.{checks_from, faulted}

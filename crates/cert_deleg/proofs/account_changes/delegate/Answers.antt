@@ -1,7 +1,7 @@
 use Rattle.std.proofs.Common.{Some, sym, subst, ◌∙◌}
-use Rattle.ledger_state.specs.Drafts.{Drafted, with_account}
+use Rattle.live_ledger.specs.Drafts.{Drafted, with_account}
 use Rattle.tx_records.specs.declared.cert.Cert.TheVariants.{Delegate}
-use Rattle.ledger_state.specs.Moved.{IsCertified}
+use Rattle.live_ledger.specs.Moved.{IsCertified}
 use Rattle.cert_deleg.proofs.Delegating.{delegated, first_there, not_delegated}
 use Rattle.cert_deleg.proofs.account_changes.delegate.Goals as goal
 

@@ -1,5 +1,5 @@
 use Rattle.std.proofs.Common.{ap, sym, ◌∙◌}
-use Rattle.ledger_state.specs.Drafts.{Drafted}
+use Rattle.live_ledger.specs.Drafts.{Drafted}
 use Rattle.maps.proofs.Placed.{changed_at_absent}
 use Rattle.gov_ids.specs.Orders.{credential_cmp}
 use Rattle.ledger_model.specs.Changes.{emptied}

@@ -1,6 +1,6 @@
 use Rattle.std.proofs.Common.{[], ◌∷◌, codes, ap, ◌∙◌, rules}
 use Rattle.ledger_model.specs.Supply.{pots_of}
-use Rattle.ledger_state.specs.Standing.{Standing}
+use Rattle.live_ledger.specs.Standing.{Standing}
 use Rattle.text_model.specs.Replies.{pots_words}
 use Rattle.tx_records.specs.declared.report.Pots.{Pots}
 use Rattle.commands.proofs.answer.begin.Goals as goal

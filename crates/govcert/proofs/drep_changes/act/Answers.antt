@@ -1,6 +1,6 @@
 use Rattle.std.proofs.Common.{Some, sym, subst, ◌∙◌}
-use Rattle.ledger_state.specs.Drafts.{Drafted, with_drep}
-use Rattle.ledger_state.specs.Moved.{IsCertified}
+use Rattle.live_ledger.specs.Drafts.{Drafted, with_drep}
+use Rattle.live_ledger.specs.Moved.{IsCertified}
 use Rattle.tx_records.specs.declared.cert.Cert.TheVariants.{DrepUpdate}
 use Rattle.govcert.proofs.Acting.{acts, acts_not}
 use Rattle.govcert.proofs.drep_changes.act.Goals as goal

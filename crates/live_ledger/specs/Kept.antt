@@ -1,0 +1,55 @@
+-- What the program's ledger keeps true, and the ledger that its parts are. (Own)
+use Rattle.std.specs.Prelude.{◌≡◌, ◌≤◌, ◌^◌, true}
+use Rattle.std.specs.List.{AllByRecursion}
+use Rattle.ledger_model.specs.Ledger.{Ledger, params_of}
+use Rattle.ledger_model.specs.Sound.{IsSound}
+use Rattle.ledger_model.specs.Supply.{supply_of}
+use Rattle.run_model.specs.Laws.{IsWithinDormantBound}
+use Rattle.tx_records.specs.declared.limits.TheConstants.{SUPPLY_LIMIT}
+use Rattle.gov_actions.specs.declared.action.Proposal.{Proposal}
+use Rattle.gov_ids.specs.Orders.{credential_cmp, txid_cmp}
+use Rattle.gov_model.specs.Sides.{members_of}
+use Rattle.maps.specs.Maps.{IsMap, has_member}
+use Rattle.view_map.specs.View.{frozen_of}
+use Rattle.proposal_store.specs.Store.{AllOrdered}
+use Rattle.stake_book.specs.Stakes.{registrations}
+use Rattle.live_ledger.specs.Standing.{Standing}
+use Rattle.live_ledger.specs.declared.state.LiveLedger.TheInside.{Inside}
+
+-- its maps are maps, its pots hold the supply, which is within its limit, its epoch, its expiries and its activity fit, each proposal has the id of a used transaction and the votes of each voter once, and the members of the committee stand in order
+pub record IsKept (l : Ledger) : Type 0 where
+  pub sound : IsSound l
+  pub balanced : supply_of l ≡ l.supply
+  pub within : l.supply ≤ SUPPLY_LIMIT
+  pub early : l.epoch ≤ 2 ^ 62
+  pub timely : IsWithinDormantBound l
+  pub active : (params_of l).drep_activity ≤ 2 ^ 32
+  pub proposed : AllByRecursion (λ (p : Proposal). has_member txid_cmp l.used p.id.tx ≡ true) l.proposals
+  pub voted : AllOrdered l.proposals
+  pub seated : IsMap credential_cmp (members_of l.state.committee)
+
+-- the ledger that these parts are
+abbrev pub ledger_view : Inside → Ledger
+ledger_view a = record {
+  network = a.network;
+  epoch_length = a.epoch_length;
+  supply = a.supply;
+  slot = a.slot;
+  epoch = a.epoch;
+  dormant = a.dreps.dormant;
+  reserves = a.reserves;
+  fees = a.fees;
+  donations = a.donations;
+  state = a.state;
+  outputs = a.stake.outputs.outputs;
+  used = a.stake.outputs.used;
+  accounts = registrations a.stake.accounts.live;
+  pools = a.pools;
+  dreps = a.dreps.dreps;
+  hot = a.hot;
+  proposals = a.proposals;
+}
+
+-- and what was frozen beside it
+abbrev pub standing_view : Inside → Standing
+standing_view a = record { ledger = ledger_view a; frozen = frozen_of credential_cmp a.stake.accounts }

@@ -1,0 +1,337 @@
+ghost use Rattle.std.specs.Prelude.{◌≡◌, ◌+◌, ◌<◌, ◌≤◌, ◌^◌, true, Some, None, is_some, if◌then◌else◌, OnOk, OnErr};
+ghost use Rattle.std.specs.Option.{ForSome, option_copied, option_or};
+ghost use Rattle.gov_model.specs.Hot.{is_named};
+ghost use Rattle.gov_ids.specs.Orders.{credential_cmp, pool_cmp};
+ghost use Rattle.ledger_model.specs.Ledger.{account_at, is_pool};
+ghost use Rattle.live_ledger.specs.Drafts.{IsDraftOf, IsTimely, deposit_in, draft_at, drep_deposit_in, given_back, laid_over, paid_by};
+ghost use Rattle.live_ledger.specs.Drafts.{with_account, with_drep, with_hot, with_pool, with_pool_registered};
+ghost use Rattle.live_ledger.specs.Drafts.{with_pool_retiring, with_refresh};
+ghost use Rattle.maps.specs.Maps.{IsMap, value_at};
+ghost use Rattle.run_model.specs.Laws.{IsWithinDormantBound};
+
+use crate::account_changes::AccountChanges;
+use crate::changes::Changes;
+use crate::drep_changes::DrepChanges;
+use crate::hot_changes::HotChanges;
+use crate::state::LiveLedger;
+use book_records::{DrepState, Pool, PoolTerms, Registered};
+use cert_pool::registered;
+use coin_frac::NoMemory;
+use gov_actions::HotState;
+use gov_ids::{Credential, PoolId};
+use std::alloc::Global;
+use std::collections::BTreeMap;
+use std::marker::Model;
+
+/// A ledger with the changes of a transaction so far, beside what its certificates gave back and paid. It borrows the ledger. (CERTS of the formal specification)
+#[derive(Drop)]
+pub struct Draft<'a> {
+    start: &'a LiveLedger,
+    accounts: AccountChanges,
+    pools: BTreeMap<PoolId, Pool>,
+    dreps: DrepChanges,
+    hot: HotChanges,
+    refunds: u128,
+    deposits: u128,
+    changes: u64,
+}
+
+impl<'a> Model for Draft<'a> {
+    ghost use Rattle.std.specs.Coded.{codes};
+    ghost use Rattle.live_ledger.specs.ChangedParts.{IsDrafted, changed_of};
+    ghost use Rattle.live_ledger.specs.Drafts.{Drafted, laid_over};
+
+    ghost Value = { Drafted };
+
+    ghost coded = { Prim.hlevel codes };
+
+    ghost view = { λ a. record {
+      start = a.start.now.ledger;
+      ledger = laid_over (changed_of a.accounts a.pools.entries a.dreps a.hot.entries) a.start.now.ledger;
+      refunds = a.refunds;
+      deposits = a.deposits;
+      changes = a.changes;
+    } };
+
+    ghost invariant = { λ a. IsDrafted a.start.now.ledger (changed_of a.accounts a.pools.entries a.dreps a.hot.entries)
+        a.hot a.refunds a.deposits a.accounts.changes a.changes };
+}
+
+/// The deposit of a registration, in lovelace.
+fn deposit_in(account: Option<Registered>) -> Option<u64>
+    ensures { result ≡ deposit_in account }
+{
+    Some(account?.deposit)
+}
+
+/// The deposit of a DRep, in lovelace.
+fn drep_deposit_in(drep: Option<DrepState>) -> Option<u64>
+    ensures { result ≡ drep_deposit_in drep }
+{
+    Some(drep?.deposit)
+}
+
+/// What an entry that comes pays, which is its deposit where there was none before, in lovelace.
+fn paid_by(before: Option<u64>, after: Option<u64>) -> u64
+    ensures { result ≡ paid_by before after }
+{
+    match (before, after) {
+        (None, Some(deposit)) => deposit,
+        _ => 0,
+    }
+}
+
+/// What an entry that leaves gives back, which is the deposit that was stored, in lovelace.
+fn given_back(before: Option<u64>, after: Option<u64>) -> u64
+    ensures { result ≡ given_back before after }
+{
+    match (before, after) {
+        (Some(deposit), None) => deposit,
+        _ => 0,
+    }
+}
+
+/// The pool that was changed, or else the one before.
+fn latest(changed: Option<&Pool>, before: Option<Pool>) -> Option<Pool>
+    ensures { result ≡ option_or (option_copied changed.entry) before }
+{
+    match changed {
+        Some(pool) => Some(*pool),
+        None => before,
+    }
+}
+
+/// What the registration of a pool pays: its deposit where it was not registered, in lovelace.
+fn paid_for(known: &Option<Pool>, deposit: u64) -> u64
+    ensures { result ≡ (if is_some known.now then 0 else deposit) }
+{
+    if known.is_some() { 0 } else { deposit }
+}
+
+impl<'a> Draft<'a> {
+    /// A draft in which nothing is changed yet. It takes no memory. (Own)
+    pub fn new(alloc: Global, s: &'a LiveLedger) -> Draft<'a>
+        ensures { result ≡ draft_at s.now.ledger }
+    {
+        Draft {
+            start: s,
+            accounts: AccountChanges::new(alloc),
+            pools: BTreeMap::new(alloc),
+            dreps: DrepChanges::new(alloc, s.dreps().dormant() == 0),
+            hot: HotChanges::new(alloc),
+            refunds: 0,
+            deposits: 0,
+            changes: 0,
+        }
+    }
+
+    /// The ledger before the transaction. (Own)
+    pub fn start(&self) -> &LiveLedger
+        ensures start { result.now.ledger ≡ self.now.start }
+        ensures rest { IsDraftOf self.now.start self.now.ledger }
+    {
+        self.start
+    }
+
+    /// The registration of a credential, none where it is not registered. (DState of the formal specification)
+    pub fn account(&self, c: &Credential) -> Option<Registered>
+        ensures value { result ≡ account_at self.now.ledger c.now }
+        ensures map { IsMap credential_cmp self.now.ledger.accounts }
+        ensures start_map { IsMap credential_cmp self.now.start.accounts }
+    {
+        self.accounts.latest(c, self.start.stake().account(c))
+    }
+
+    /// A registered pool, none where it is not registered. (PState of the formal specification)
+    pub fn pool(&self, p: &PoolId) -> Option<Pool>
+        ensures value { result ≡ value_at pool_cmp self.now.ledger.pools p.now }
+        ensures map { IsMap pool_cmp self.now.ledger.pools }
+        ensures start_map { IsMap pool_cmp self.now.start.pools }
+    {
+        let before = self.start.pool(p);
+        latest(self.pools.get(p), before)
+    }
+
+    /// A registered DRep, none where it is not registered. (GState of the formal specification)
+    pub fn drep(&self, c: &Credential) -> Option<DrepState>
+        ensures value { result ≡ value_at credential_cmp self.now.ledger.dreps c.now }
+        ensures map { IsMap credential_cmp self.now.ledger.dreps }
+        ensures bound { IsWithinDormantBound self.now.ledger }
+    {
+        self.dreps.latest(c, self.start.dreps(), self.start.epoch())
+    }
+
+    /// How many epochs ended without a proposal since a transaction proposed last. (Own)
+    pub fn dormant(&self) -> u64
+        ensures value { result ≡ self.now.ledger.dormant }
+        ensures within { self.now.ledger.dormant ≤ self.now.ledger.epoch }
+        ensures early { self.now.ledger.epoch ≤ 2 ^ 62 }
+    {
+        self.dreps.dormant(self.start.dreps())
+    }
+
+    /// What a cold key authorized, none where it did nothing. (GState of the formal specification)
+    pub fn hot(&self, cold: &Credential) -> Option<HotState>
+        ensures value { result ≡ value_at credential_cmp self.now.ledger.hot cold.now }
+        ensures map { IsMap credential_cmp self.now.ledger.hot }
+    {
+        self.hot.latest(cold, self.start.hot())
+    }
+
+    /// Whether a cold key has this hot key: it may vote for the committee. (GOV of the formal specification)
+    pub fn names_hot(&self, hot: &Credential) -> bool
+        ensures { result ≡ is_named self.now.ledger.hot hot.now }
+    {
+        self.hot.names(hot, self.start.hot())
+    }
+
+    /// What the certificates so far gave back, and what they paid, in lovelace. (DELEG, POOL and GOVCERT of the formal specification)
+    pub fn moved(&self) -> (u128, u128)
+        ensures refunds { result.0 ≡ self.now.refunds }
+        ensures deposits { result.1 ≡ self.now.deposits }
+        ensures fits { (self.now.refunds < 2 ^ 96) × (self.now.deposits < 2 ^ 96) }
+    {
+        (self.refunds, self.deposits)
+    }
+
+    /// Registers an account with a credential, changes its registration or ends it. An account that comes adds its deposit to what was paid, one that leaves adds its stored deposit to what was given back, and one that changes adds nothing. Want of memory changes nothing. (DELEG of the formal specification)
+    pub fn set_account(&mut self, c: Credential, to: Option<Registered>) -> Result<(), NoMemory>
+        requires few { self.old.changes < 2 ^ 32 }
+        ensures ok { OnOk result (self.new ≡ with_account c to self.old) }
+        ensures err { OnErr result (self.new ≡ self.old) }
+    {
+        let before = deposit_in(self.account(&c));
+        let after = deposit_in(to);
+        self.accounts.set(c, to)?;
+        self.refunds += u128::from(given_back(before, after));
+        self.deposits += u128::from(paid_by(before, after));
+        self.changes += 1;
+        Ok(())
+    }
+
+    /// Registers a pool with its terms and its deposit, in lovelace. A first registration adds the deposit to what was paid; a later one sets the future terms, cancels the retirement and pays nothing. Want of memory changes nothing. (POOL of the formal specification)
+    pub fn register_pool(
+        &mut self,
+        p: PoolId,
+        terms: PoolTerms,
+        deposit: u64,
+    ) -> Result<(), NoMemory>
+        requires few { self.old.changes < 2 ^ 32 }
+        ensures ok { OnOk result (self.new ≡ with_pool_registered p terms deposit self.old) }
+        ensures err { OnErr result (self.new ≡ self.old) }
+    {
+        let known = self.pool(&p);
+        let paid = paid_for(&known, deposit);
+        self.put_pool(p, registered(known, terms, deposit), paid)?;
+        Ok(())
+    }
+
+    /// A registered pool retires with the epoch that is named: that epoch begins without it. Want of memory changes nothing. (POOL of the formal specification)
+    pub fn retire_pool(&mut self, p: PoolId, epoch: u64) -> Result<(), NoMemory>
+        requires registered { is_pool self.old.ledger p ≡ true }
+        requires few { self.old.changes < 2 ^ 32 }
+        ensures ok { OnOk result (self.new ≡ with_pool_retiring p epoch self.old) }
+        ensures err { OnErr result (self.new ≡ self.old) }
+    {
+        let Some(mut pool) = self.pool(&p) else {
+            unreachable!()
+        };
+        pool.retires = Some(epoch);
+        self.put_pool(p, pool, 0)?;
+        Ok(())
+    }
+
+    /// The pool in place of what the id had, for which so much was paid, in lovelace.
+    fn put_pool(&mut self, p: PoolId, pool: Pool, paid: u64) -> Result<(), NoMemory>
+        requires few { self.old.changes < 2 ^ 32 }
+        requires in_order { IsMap pool_cmp self.old.start.pools }
+        ensures ok { OnOk result (self.new ≡ with_pool p pool paid self.old) }
+        ensures err { OnErr result (self.new ≡ self.old) }
+    {
+        let terms: PoolTerms = pool.terms;
+        self.pools.insert(p, Pool { terms, ..pool })?;
+        self.deposits += u128::from(paid);
+        self.changes += 1;
+        Ok(())
+    }
+
+    /// Registers a DRep with a credential, changes what is stored of it or ends it. One that comes adds its deposit to what was paid, one that leaves adds its stored deposit to what was given back, and one that changes adds nothing. One that leaves ends the delegations to it, also those that were made in this draft; one that is made later stands. After want of memory the caller drops the draft. (GOVCERT of the formal specification; that delegations end at once is own)
+    pub fn set_drep(&mut self, c: Credential, to: Option<DrepState>) -> Result<(), NoMemory>
+        requires few { self.old.changes < 2 ^ 32 }
+        requires timely { ForSome to (IsTimely self.old.ledger) }
+        ensures ok { OnOk result (self.new ≡ with_drep c to self.old) }
+        ensures start { self.new.start ≡ self.old.start }
+        ensures few_more { self.new.changes ≤ self.old.changes + 1 }
+    {
+        match to {
+            Some(s) => self.put_drep(c, s),
+            None => self.remove_drep(c),
+        }
+    }
+
+    /// The DRep in place of what the credential had.
+    fn put_drep(&mut self, c: Credential, s: DrepState) -> Result<(), NoMemory>
+        requires few { self.old.changes < 2 ^ 32 }
+        requires timely { IsTimely self.old.ledger s }
+        ensures ok { OnOk result (self.new ≡ with_drep c (Some s) self.old) }
+        ensures err { OnErr result (self.new ≡ self.old) }
+    {
+        let before = drep_deposit_in(self.drep(&c));
+        let after = Some(s.deposit);
+        self.dreps.set(c, Some(s))?;
+        self.refunds += u128::from(given_back(before, after));
+        self.deposits += u128::from(paid_by(before, after));
+        self.changes += 1;
+        Ok(())
+    }
+
+    /// No DRep any more, and no delegation to it.
+    fn remove_drep(&mut self, c: Credential) -> Result<(), NoMemory>
+        requires few { self.old.changes < 2 ^ 32 }
+        ensures ok { OnOk result (self.new ≡ with_drep c None self.old) }
+        ensures start { self.new.start ≡ self.old.start }
+        ensures few_more { self.new.changes ≤ self.old.changes + 1 }
+    {
+        let before = drep_deposit_in(self.drep(&c));
+        self.dreps.set(c, None)?;
+        self.accounts.leave(c)?;
+        self.refunds += u128::from(given_back(before, None));
+        self.deposits += u128::from(paid_by(before, None));
+        self.changes += 1;
+        Ok(())
+    }
+
+    /// A hot key or a resignation in place of what the cold key had. Want of memory changes nothing. (GOVCERT of the formal specification)
+    pub fn set_hot(&mut self, cold: Credential, s: HotState) -> Result<(), NoMemory>
+        requires few { self.old.changes < 2 ^ 32 }
+        ensures ok { OnOk result (self.new ≡ with_hot cold s self.old) }
+        ensures err { OnErr result (self.new ≡ self.old) }
+    {
+        self.hot.set(cold, s, self.start.hot())?;
+        self.changes += 1;
+        Ok(())
+    }
+
+    /// The dormant epochs are added to the expiry of each DRep that with them has not expired, and none are left. It walks the DReps that the draft changed, and none where no epoch is dormant. (Own)
+    pub fn refresh(&mut self) -> Result<(), NoMemory>
+        requires few { self.old.changes < 2 ^ 32 }
+        ensures ok { OnOk result (self.new ≡ with_refresh self.old) }
+        ensures err { OnErr result (self.new ≡ self.old) }
+    {
+        self.dreps.refresh(self.start.dreps(), self.start.epoch());
+        self.changes += 1;
+        Ok(())
+    }
+
+    /// The changes, which laid over the ledger before the transaction give the draft. (Own)
+    pub fn into_changes(self) -> Changes
+        ensures { laid_over result self.entry.start ≡ self.entry.ledger }
+    {
+        Changes {
+            accounts: self.accounts,
+            pools: self.pools,
+            dreps: self.dreps,
+            hot: self.hot,
+        }
+    }
+}

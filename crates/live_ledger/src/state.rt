@@ -1,0 +1,237 @@
+ghost use Rattle.std.specs.Prelude.{◌≡◌};
+ghost use Rattle.gov_ids.specs.Orders.{credential_cmp, pool_cmp};
+ghost use Rattle.gov_model.specs.Hot.{is_member};
+ghost use Rattle.ledger_model.specs.Ledger.{params_of};
+ghost use Rattle.ledger_model.specs.Supply.{pots_of};
+ghost use Rattle.live_ledger.specs.Added.{is_proposed};
+ghost use Rattle.live_ledger.specs.Kept.{IsKept};
+ghost use Rattle.maps.specs.Maps.{IsMap, value_at};
+ghost use Rattle.stake_book.specs.Stakes.{registrations};
+ghost use Rattle.view_map.specs.View.{frozen_of};
+
+mod commit;
+mod genesis;
+
+use crate::live_proposals::LiveProposals;
+use book_records::{DrepState, Pool};
+use cert_pool::PoolBook;
+use committee_book::{HotBook, is_member};
+use drep_book::DrepBook;
+use gov_actions::EnactState;
+use gov_ids::{Credential, PoolId};
+use listed::Boxed;
+use pparams::Params;
+use proposal_store::ProposalStore;
+use stake_book::StakeBook;
+use std::alloc::Global;
+use std::marker::Model;
+use tx_records::Pots;
+use utxo_set::UtxoSet;
+
+/// The ledger after some records. Its pots hold the supply, its maps are maps, and its expiries are within the dormant bound. (LState of the formal specification)
+#[derive(Drop)]
+pub struct LiveLedger {
+    alloc: Global,
+    network: u8,
+    epoch_length: u32,
+    supply: u64,
+    slot: u64,
+    epoch: u64,
+    reserves: u64,
+    fees: u64,
+    donations: u64,
+    state: Boxed<EnactState>,
+    stake: StakeBook,
+    pools: PoolBook,
+    dreps: DrepBook,
+    hot: HotBook,
+    proposals: LiveProposals,
+}
+
+impl Model for LiveLedger {
+    ghost use Rattle.std.specs.Coded.{codes};
+    ghost use Rattle.live_ledger.specs.Standing.{Standing};
+
+    ghost Value = { Standing };
+
+    ghost coded = { Prim.hlevel codes };
+
+    ghost use Rattle.live_ledger.specs.Kept.{IsKept, ledger_view, standing_view};
+
+    ghost view = { standing_view };
+
+    ghost invariant = { λ a. IsKept (ledger_view a) };
+}
+
+impl LiveLedger {
+    /// The network: 0 for the test networks, 1 for mainnet. (Own)
+    pub fn network(&self) -> u8
+        ensures { result ≡ self.now.ledger.network }
+    {
+        self.network
+    }
+
+    /// Slots in an epoch. (Own)
+    pub fn epoch_length(&self) -> u32
+        ensures { result ≡ self.now.ledger.epoch_length }
+    {
+        self.epoch_length
+    }
+
+    /// The supply, in lovelace. (Own)
+    pub fn supply(&self) -> u64
+        ensures { result ≡ self.now.ledger.supply }
+    {
+        self.supply
+    }
+
+    /// The last slot. (Own)
+    pub fn slot(&self) -> u64
+        ensures { result ≡ self.now.ledger.slot }
+    {
+        self.slot
+    }
+
+    /// The epoch of the last slot. (NewEpochState of the formal specification)
+    pub fn epoch(&self) -> u64
+        ensures { result ≡ self.now.ledger.epoch }
+    {
+        self.epoch
+    }
+
+    /// The reserves, in lovelace. (Acnt of the formal specification)
+    pub fn reserves(&self) -> u64
+        ensures { result ≡ self.now.ledger.reserves }
+    {
+        self.reserves
+    }
+
+    /// The fee pot, in lovelace. (UTxOState of the formal specification)
+    pub fn fees(&self) -> u64
+        ensures { result ≡ self.now.ledger.fees }
+    {
+        self.fees
+    }
+
+    /// The donation pot, in lovelace. (UTxOState of the formal specification)
+    pub fn donations(&self) -> u64
+        ensures { result ≡ self.now.ledger.donations }
+    {
+        self.donations
+    }
+
+    /// Parameters, version, committee, constitution, last enacted ids and the treasury in lovelace. (EnactState of the formal specification)
+    pub fn state(&self) -> &EnactState
+        ensures { result.now ≡ self.now.ledger.state }
+    {
+        self.state.get()
+    }
+
+    /// The protocol parameters. (PParams of the formal specification)
+    pub fn params(&self) -> &Params
+        ensures { result.now ≡ params_of self.now.ledger }
+    {
+        &self.state.get().params
+    }
+
+    /// The unspent outputs and the used transaction ids. (UTxOState of the formal specification; that used ids are kept is own)
+    pub fn outputs(&self) -> &UtxoSet
+        ensures outputs { result.now.outputs ≡ self.now.ledger.outputs }
+        ensures used { result.now.used ≡ self.now.ledger.used }
+    {
+        self.stake.outputs()
+    }
+
+    /// The same beside the accounts with their stakes, and the entries of the last freeze. (UTxOState and DState of the formal specification)
+    pub fn stake(&self) -> &StakeBook
+        ensures outputs { result.now.outputs.outputs ≡ self.now.ledger.outputs }
+        ensures used { result.now.outputs.used ≡ self.now.ledger.used }
+        ensures accounts { registrations result.now.accounts.live ≡ self.now.ledger.accounts }
+        ensures frozen { frozen_of credential_cmp result.now.accounts ≡ self.now.frozen }
+    {
+        &self.stake
+    }
+
+    /// The hot keys and resignations of cold keys. (GState of the formal specification)
+    pub fn hot(&self) -> &HotBook
+        ensures { result.now ≡ self.now.ledger.hot }
+    {
+        &self.hot
+    }
+
+    /// Whether a cold key is a member of the committee, none being one where there is no committee. It is found by halves. (CIP-1694, The constitutional committee)
+    pub fn is_member(&self, cold: &Credential) -> bool
+        ensures { result ≡ is_member self.now.ledger.state.committee cold.now }
+    {
+        is_member(self.state.get().committee.as_ref(), cold)
+    }
+
+    /// The registered pools with their terms and retirements. (PState of the formal specification)
+    pub fn pools(&self) -> &PoolBook
+        ensures { result.now ≡ self.now.ledger.pools }
+    {
+        &self.pools
+    }
+
+    /// A registered pool, none where it is not registered. (PState of the formal specification)
+    pub fn pool(&self, p: &PoolId) -> Option<Pool>
+        ensures value { result ≡ value_at pool_cmp self.now.ledger.pools p.now }
+        ensures in_order { IsMap pool_cmp self.now.ledger.pools }
+    {
+        self.pools.get(p)
+    }
+
+    /// The live proposals with their votes, in order of submission. (GovState of the formal specification)
+    pub fn proposals(&self) -> &ProposalStore
+        ensures { result.now ≡ self.now.ledger.proposals }
+    {
+        self.proposals.store()
+    }
+
+    /// Whether a live proposal adds a cold key to the committee. It walks none of them. (GOVCERT of the formal specification)
+    pub fn is_proposed(&self, cold: &Credential) -> bool
+        ensures { result ≡ is_proposed cold.now self.now.ledger.proposals }
+    {
+        self.proposals.adds(cold)
+    }
+
+    /// The registered DReps and the dormant count. (GState of the formal specification; how the count acts is own)
+    pub fn dreps(&self) -> &DrepBook
+        ensures dreps { result.now.dreps ≡ self.now.ledger.dreps }
+        ensures dormant { result.now.dormant ≡ self.now.ledger.dormant }
+        ensures kept { IsKept self.now.ledger }
+    {
+        &self.dreps
+    }
+
+    /// A registered DRep, none where it is not registered. (GState of the formal specification)
+    pub fn drep(&self, c: &Credential) -> Option<DrepState>
+        ensures value { result ≡ value_at credential_cmp self.now.ledger.dreps c.now }
+        ensures in_order { IsMap credential_cmp self.now.ledger.dreps }
+    {
+        self.dreps.get(c)
+    }
+
+    /// The seven pots, in lovelace. They hold the supply, so the deposits are what the others leave of it. (The preservation of value of the formal specification)
+    pub fn pots(&self) -> Pots
+        ensures { result ≡ pots_of self.now.ledger }
+    {
+        let outputs = self.outputs().total();
+        let rewards = self.stake.balances();
+        let others = outputs
+            + rewards
+            + self.fees
+            + self.donations
+            + self.state().treasury
+            + self.reserves;
+        Pots {
+            outputs,
+            deposits: self.supply - others,
+            rewards,
+            fees: self.fees,
+            donations: self.donations,
+            treasury: self.state().treasury,
+            reserves: self.reserves,
+        }
+    }
+}

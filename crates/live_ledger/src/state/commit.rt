@@ -1,0 +1,128 @@
+ghost use Rattle.std.specs.Prelude.{◌≡◌, ◌+◌, ◌<◌, ◌≤◌, ◌^◌, ◌++◌, false, true, IfOk, None, length, map, sum_by};
+ghost use Rattle.std.specs.List.{AllByRecursion};
+ghost use Rattle.std.specs.Map.{keys_of};
+ghost use Rattle.book_records.specs.Outputs.{lovelace_in};
+ghost use Rattle.gov_ids.specs.Orders.{outref_cmp};
+ghost use Rattle.gov_model.specs.Proposals.{deposits_of};
+ghost use Rattle.ledger_model.specs.Broken.{is_allowed};
+ghost use Rattle.ledger_model.specs.Draft.{last_draft};
+ghost use Rattle.ledger_model.specs.Transaction.{ledger_after_tx, made_outputs, made_proposals, with_votes};
+ghost use Rattle.ledger_model.specs.UtxoRules.{is_failed, returned};
+ghost use Rattle.live_ledger.specs.Books.{IsMade};
+ghost use Rattle.live_ledger.specs.Drafts.{draft_of, laid_over};
+ghost use Rattle.live_ledger.specs.Proposed.{IsUnknown};
+ghost use Rattle.live_ledger.specs.Standing.{on_ledger};
+ghost use Rattle.maps.specs.Maps.{IsMap, value_at, without_keys};
+ghost use Rattle.stake_book.specs.Stakes.{accounts_of, balances_in};
+ghost use Rattle.tx_records.specs.TxLimits.{is_within_limits};
+ghost use Rattle.tx_records.specs.declared.limits.TheConstants.{SUPPLY_LIMIT};
+ghost use Rattle.tx_records.specs.declared.tx.ProposalRecord.{ProposalRecord};
+ghost use Rattle.tx_records.specs.declared.tx.TxOutput.{TxOutput};
+
+use super::LiveLedger;
+use crate::books::{with_tx_collateral, with_tx_outputs};
+use crate::changes::{Books, Changes};
+use crate::live_proposals::LiveProposals;
+use crate::proposals::with_tx_proposals;
+use coin_frac::NoMemory;
+use stake_book::StakeBook;
+use std::alloc::Global;
+use tx_records::{Scripts, Tx};
+
+impl LiveLedger {
+    /// The ledger after an allowed transaction, whose changes these are. What was frozen stays. After want of memory there is no ledger. (UTXO and LEDGER of the formal specification)
+    pub fn commit(self, changes: Changes, tx: &Tx) -> Result<LiveLedger, NoMemory>
+        requires within { is_within_limits tx.now ≡ true }
+        requires allowed { is_allowed self.ledger tx.now ≡ true }
+        requires drafted { laid_over changes self.ledger ≡ draft_of self.ledger tx.now }
+        ensures { IfOk result (λ s. s ≡ on_ledger (λ l. ledger_after_tx l tx.now) self) }
+    {
+        match tx.scripts {
+            Scripts::Absent | Scripts::Passed => self.passed(changes, tx),
+            Scripts::Failed => self.failed(tx),
+        }
+    }
+
+    /// The ledger after an allowed transaction whose scripts did not fail: it is changed, its inputs are spent, its outputs are made, its votes and then its proposals join the others, and its fee and donation their pots.
+    fn passed(self, changes: Changes, tx: &Tx) -> Result<LiveLedger, NoMemory>
+        requires within { is_within_limits tx.now ≡ true }
+        requires allowed { is_allowed self.ledger tx.now ≡ true }
+        requires passed { is_failed tx.now.scripts ≡ false }
+        requires drafted { laid_over changes self.ledger ≡ last_draft self.ledger tx.now }
+        ensures { IfOk result (λ s. s ≡ on_ledger (λ l. ledger_after_tx l tx.now) self) }
+    {
+        let last = self.epoch + u64::from(self.params().gov_action_lifetime);
+        let books = Books {
+            stake: self.stake,
+            pools: self.pools,
+            dreps: self.dreps,
+            hot: self.hot,
+            proposals: self.proposals,
+        };
+        let books = changes.laid_over(self.alloc, self.epoch, books)?;
+        let (stake, proposals) = with_tx(self.alloc, last, books.stake, books.proposals, tx)?;
+        Ok(LiveLedger {
+            fees: self.fees + tx.fee,
+            donations: self.donations + tx.donation,
+            stake,
+            pools: books.pools,
+            dreps: books.dreps,
+            hot: books.hot,
+            proposals,
+            ..self
+        })
+    }
+
+    /// The ledger after an allowed transaction whose scripts failed: its collateral is spent, and what the return leaves of it joins the fees.
+    fn failed(self, tx: &Tx) -> Result<LiveLedger, NoMemory>
+        requires within { is_within_limits tx.now ≡ true }
+        requires allowed { is_allowed self.ledger tx.now ≡ true }
+        requires failed { is_failed tx.now.scripts ≡ true }
+        ensures { IfOk result (λ s. s ≡ on_ledger (λ l. ledger_after_tx l tx.now) self) }
+    {
+        let (stake, collateral) = with_tx_collateral(self.stake, tx)?;
+        Ok(LiveLedger {
+            fees: self.fees + (collateral - returned(tx)),
+            stake,
+            ..self
+        })
+    }
+}
+
+/// The outputs and the proposals after an allowed transaction, over which its changes are laid.
+fn with_tx(
+    alloc: Global,
+    last: u64,
+    stake: StakeBook,
+    proposals: LiveProposals,
+    tx: &Tx,
+) -> Result<(StakeBook, LiveProposals), NoMemory>
+    requires in_order { IsMap outref_cmp stake.outputs.outputs }
+    requires few_outputs { length tx.now.outputs ≤ 65535 }
+    requires absent { AllByRecursion
+        (λ r. value_at outref_cmp (without_keys outref_cmp tx.now.inputs stake.outputs.outputs) r ≡ None)
+        (keys_of (made_outputs tx.now)) }
+    requires room { lovelace_in (without_keys outref_cmp tx.now.inputs stake.outputs.outputs)
+        + balances_in (accounts_of stake) + sum_by (λ (o : TxOutput). o.lovelace) tx.now.outputs ≤ SUPPLY_LIMIT }
+    requires few_proposals { length tx.now.proposals ≤ 65536 }
+    requires unknown { IsUnknown tx.now.id (map (with_votes tx.now) proposals) }
+    requires deposits { deposits_of (map (with_votes tx.now) proposals)
+        + sum_by (λ (p : ProposalRecord). p.deposit) tx.now.proposals < 2 ^ 64 }
+    ensures made { IfOk result (λ after. IsMade stake after.0 tx.now.inputs (made_outputs tx.now) tx.now.id) }
+    ensures proposed { IfOk result (λ after.
+        after.1 ≡ map (with_votes tx.now) proposals ++ made_proposals last tx.now) }
+{
+    let stake = with_tx_outputs(stake, tx)?;
+    let proposals = with_tx_proposals(alloc, proposals, last, tx)?;
+    Ok((stake, proposals))
+}
+
+/// What the collateral return of a transaction gives back, 0 where it has none, in lovelace.
+fn returned(tx: &Tx) -> u64
+    ensures { result ≡ returned tx.now }
+{
+    match &tx.collateral_return {
+        Some(output) => output.lovelace,
+        None => 0,
+    }
+}
