@@ -1,5 +1,5 @@
 -- What the first of some payments does, and what the others then do.
-use Rattle.std.proofs.Common.{◌≡◌, ℕ, ◌+◌, ◌≤◌, List, [], ◌∷◌, Bool, true, false, cond, not, filter, is_some, Option, Some, None, option_map, sum_by, ap, sym, refl, ◌∙◌, arith}
+use Rattle.std.proofs.Common.{◌≡◌, ℕ, ◌+◌, List, [], ◌∷◌, Bool, true, false, cond, filter, is_some, Option, Some, None, option_map, sum_by, ap, refl, ◌∙◌, arith}
 use Rattle.std.proofs.lemmas.List.Sums.{sum_by-cons}
 use Rattle.gov_ids.specs.declared.Credential.{Credential}
 use Rattle.gov_ids.specs.Orders.{credential_cmp}

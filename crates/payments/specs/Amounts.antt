@@ -1,5 +1,6 @@
 -- What payments come to, over the accounts of a ledger: the words of run_model's boundary, which reads no more of it. (EPOCH of the formal specification)
-use Rattle.std.specs.Prelude.{ℕ, ◌+◌, not, List, filter, sum_by}
+use Rattle.std.specs.Prelude.{ℕ, ◌+◌, not, List, Option, Some, None, filter, sum_by, if◌then◌else◌}
+use Rattle.gov_ids.specs.declared.Account.{Account}
 use Rattle.gov_ids.specs.declared.Credential.{Credential}
 use Rattle.gov_ids.specs.Orders.{credential_cmp}
 use Rattle.book_records.specs.declared.Registered.{Registered}
@@ -21,3 +22,7 @@ unclaimed_of accounts ps = sum_by (λ p. p.1) (filter (λ p. not (has_key creden
 -- the sum of all amounts
 abbrev pub all_amounts : List (Credential × ℕ) → ℕ
 all_amounts ps = sum_by (λ p. p.1) ps
+
+-- where a payment goes, none for the treasury: run_model's `goes_to`
+abbrev pub goes_by : List (Credential × Registered) → Account → Option Account
+goes_by accounts a = if has_key credential_cmp accounts a.cred then Some a else None

@@ -9,8 +9,11 @@ ghost use Rattle.stake_book.specs.Paid.{with_payment};
 ghost use Rattle.stake_book.specs.Stakes.{AreKept, HasRoom, accounts_of};
 ghost use Rattle.view_map.specs.View.{frozen_of};
 
+mod paid;
+
 use coin_frac::NoMemory;
 use gov_ids::Credential;
+pub use paid::{goes_to, paid_out};
 use stake_book::StakeBook;
 
 /// Pays to each registered account its amounts, and gives what was paid, in lovelace. An account that is not registered has nothing. (EPOCH of the formal specification)

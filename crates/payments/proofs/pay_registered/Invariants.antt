@@ -1,4 +1,4 @@
-use Rattle.std.proofs.Common.{◌≡◌, ◌+◌, ◌≤◌, drop}
+use Rattle.std.proofs.Common.{◌≡◌, ◌+◌, drop}
 use Rattle.gov_ids.specs.Orders.{credential_cmp}
 use Rattle.view_map.specs.View.{frozen_of}
 use Rattle.stake_book.specs.Stakes.{HasRoom, accounts_of}
