@@ -13,4 +13,4 @@ pub mod DraftChanging
 pub mod HotNames
 pub mod HotChanging
 pub mod Numbers
-pub mod Adding
+pub mod Slots

@@ -10,4 +10,3 @@ pub mod ChangedHot
 pub mod ChangedParts
 pub mod Numbered
 pub mod Proposed
-pub mod Added

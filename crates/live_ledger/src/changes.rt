@@ -11,13 +11,13 @@ ghost use Rattle.stake_book.specs.Stakes.{HasRoom, accounts_of, without_dreps};
 use crate::account_changes::AccountChanges;
 use crate::drep_changes::DrepChanges;
 use crate::hot_changes::HotChanges;
-use crate::live_proposals::LiveProposals;
 use book_records::Pool;
 use cert_pool::PoolBook;
 use coin_frac::NoMemory;
 use committee_book::HotBook;
 use drep_book::DrepBook;
 use gov_ids::PoolId;
+use proposal_store::ProposalStore;
 use stake_book::StakeBook;
 use std::alloc::Global;
 use std::collections::BTreeMap;
@@ -84,7 +84,7 @@ pub(crate) struct Books {
     pub pools: PoolBook,
     pub dreps: DrepBook,
     pub hot: HotBook,
-    pub proposals: LiveProposals,
+    pub proposals: ProposalStore,
 }
 
 /// The books of an epoch with what changed of each. (They are passed one by one, and few are left where memory can run out: a proof follows the end of each value that is held there)
@@ -93,7 +93,7 @@ fn over_parts(
     epoch: u64,
     accounts: AccountChanges,
     stake: StakeBook,
-    proposals: LiveProposals,
+    proposals: ProposalStore,
     changed_pools: BTreeMap<PoolId, Pool>,
     pools: PoolBook,
     changed_dreps: DrepChanges,
@@ -136,8 +136,8 @@ fn with_accounts(
     alloc: Global,
     accounts: AccountChanges,
     stake: StakeBook,
-    proposals: LiveProposals,
-) -> Result<(StakeBook, LiveProposals), NoMemory>
+    proposals: ProposalStore,
+) -> Result<(StakeBook, ProposalStore), NoMemory>
     requires stake { IsMap credential_cmp (accounts_of stake) × HasRoom 0 stake }
     requires lower { NoneRises accounts.accounts (without_dreps accounts.left (accounts_of stake)) }
     ensures accounts { IfOk result (λ after. accounts_of after.0 ≡

@@ -8,7 +8,6 @@ mod draft;
 mod drep_changes;
 mod fault;
 mod hot_changes;
-mod live_proposals;
 mod proposals;
 mod state;
 

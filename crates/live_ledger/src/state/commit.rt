@@ -22,9 +22,9 @@ ghost use Rattle.tx_records.specs.declared.tx.TxOutput.{TxOutput};
 use super::LiveLedger;
 use crate::books::{with_tx_collateral, with_tx_outputs};
 use crate::changes::{Books, Changes};
-use crate::live_proposals::LiveProposals;
 use crate::proposals::with_tx_proposals;
 use coin_frac::NoMemory;
+use proposal_store::ProposalStore;
 use stake_book::StakeBook;
 use std::alloc::Global;
 use tx_records::{Scripts, Tx};
@@ -94,9 +94,9 @@ fn with_tx(
     alloc: Global,
     last: u64,
     stake: StakeBook,
-    proposals: LiveProposals,
+    proposals: ProposalStore,
     tx: &Tx,
-) -> Result<(StakeBook, LiveProposals), NoMemory>
+) -> Result<(StakeBook, ProposalStore), NoMemory>
     requires in_order { IsMap outref_cmp stake.outputs.outputs }
     requires few_outputs { length tx.now.outputs ≤ 65535 }
     requires absent { AllByRecursion
