@@ -2,7 +2,8 @@ use Rattle.std.proofs.Common.{◌≡◌, true, ap, sym, ◌∙◌}
 use Rattle.ledger_model.specs.Broken.{is_allowed}
 use Rattle.ledger_model.specs.Ledger.{Ledger}
 use Rattle.ledger_model.specs.Transaction.{ledger_after_tx}
-use Rattle.live_ledger.specs.Drafts.{draft_of, laid_over}
+use Rattle.draft_changes.specs.Changed.{laid_over}
+use Rattle.live_ledger.specs.Drafts.{draft_of}
 use Rattle.run_model.specs.World.{World, on_ledger}
 use Rattle.ledger_state.specs.contracts.state.LedgerState.{the_view}
 use Rattle.ledger_state.proofs.Steps.{tx_sound}
