@@ -1,0 +1,14 @@
+-- What the steps of a boundary are asked to begin with. (Own)
+use Rattle.std.specs.Prelude.{ℕ}
+use Rattle.drep_pulser.specs.Count.{Ended}
+use Rattle.gov_model.specs.Snapshot.{Snapshot}
+use Rattle.ledger_books.specs.declared.Books.{Books}
+use Rattle.ledger_books.specs.Parts.{world_of_books}
+use Rattle.run_model.specs.SoundWorld.{IsSoundWorld}
+use Rattle.snapshots.specs.declared.frozen.Frozen.{Frozen}
+use Rattle.tally.specs.Counted.{AreOf}
+
+-- beside so many counted entries of a snapshot the books are a sound World, and the frozen epoch and the ended count are of that snapshot
+pub record AreSoundBooks (b : Books) (counted : ℕ) (s : Snapshot) (f : Frozen) (c : Ended) : Type 0 where
+  pub sound : IsSoundWorld (world_of_books b counted s)
+  pub frozen : AreOf s f c

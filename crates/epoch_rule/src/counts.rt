@@ -1,0 +1,46 @@
+ghost use Rattle.std.specs.Prelude.{◌≡◌, ◌<◌};
+ghost use Rattle.drep_pulser.specs.Facts.{ForSnapshotOf, IsCountIn, IsCountedOf};
+ghost use Rattle.drep_pulser.specs.Pulsers.{GoesOnIn, IsPulserOf, total_of_pulser};
+ghost use Rattle.gov_ids.specs.Orders.{credential_cmp};
+ghost use Rattle.gov_model.specs.Snapshot.{Snapshot};
+ghost use Rattle.view_map.specs.View.{frozen_of};
+
+use accounts::AccountBook;
+use coin_frac::Steps;
+use drep_pulser::{Counted, Counting, Pulser};
+use std::marker::Brand;
+use std::sync::ledger::{Blank, Ledger};
+
+/// The count with all entries visited that are left. It takes no memory. (The DRep pulser of cardano-ledger)
+pub(crate) fn finished(pulser: Pulser, book: &AccountBook) -> Counted
+    requires goes_on { GoesOnIn (frozen_of credential_cmp book.now) pulser }
+    ensures { (f : Snapshot) → f.entries ≡ frozen_of credential_cmp book.now → IsPulserOf f pulser →
+        IsCountedOf f result }
+{
+    match pulser {
+        Pulser::Counting(counting) => visited::<Brand>(Blank::new(1), counting, book),
+        Pulser::Counted(counted) => counted,
+    }
+}
+
+// The same of a count that goes on; its visits are steps.
+fn visited<L: Ledger>(blank: Blank, counting: Counting, book: &AccountBook) -> Counted
+    requires name { blank.name ≡ L.name }
+    requires parts { blank.parts ≡ L.parts }
+    requires some { 0 < L.parts }
+    requires counts { IsCountIn (frozen_of credential_cmp book.now) counting }
+    ensures { ForSnapshotOf (frozen_of credential_cmp book.now) counting (λ f. IsCountedOf f result) }
+{
+    let mut steps = Steps::<L>::open(blank);
+    counting.finish(book, &mut steps)
+}
+
+/// How many entries there are to count. (Own)
+pub(crate) fn entries_of(pulser: &Pulser) -> u64
+    ensures { result ≡ total_of_pulser pulser.now }
+{
+    match pulser {
+        Pulser::Counting(counting) => counting.total(),
+        Pulser::Counted(counted) => counted.total(),
+    }
+}
