@@ -29,10 +29,11 @@ use Rattle.commands.specs.declared.status.GenesisCause.{GenesisCause}
 use Rattle.commands.specs.declared.status.GenesisCause.TheVariants as causes
 use Rattle.commands.specs.declared.status.Status.{Status}
 use Rattle.commands.specs.declared.status.Status.TheVariants as statuses
-use Rattle.commands.specs.Endings.{BrokenOff, HasCome, IsDecided, IsFront, IsMissingOnly, IsPartOfText, IsReplayed}
-use Rattle.commands.specs.Heard.{AreAll, Begin, HasHeard, HearsNext, StandFirst}
+use Rattle.commands.specs.Endings.{BrokenOff, IsDecided, IsFront, IsMissingOnly, IsPartOfText, IsReplayed}
+use Rattle.record_stream.specs.Come.{HasCome}
+use Rattle.record_stream.specs.Heard.{AreAll, Begin, HasHeard, HearsNext, StandFirst}
 use Rattle.commands.specs.Outcomes.{outcome_text}
-use Rattle.commands.specs.Records.{records_of}
+use Rattle.record_stream.specs.Records.{records_of}
 use Rattle.commands.specs.Runs.{answer_lines, genesis_cause, genesis_lines, reading_fault, start_fault, text_by_cause, text_from, text_of_records, text_so_far, world_left}
 use Rattle.commands.specs.Statuses.{fault_of_answer, fault_of_line, fault_of_sink, status_of_fault}
 use Rattle.commands.specs.Turns.{Leaves, Stands, Writes}

@@ -6,7 +6,7 @@ use Rattle.live_ledger.specs.Standing.{Standing}
 use Rattle.run_model.specs.World.{World}
 use Rattle.text_model.specs.Words.{Text}
 use Rattle.tx_records.specs.declared.record.Reading.{Reading}
-use Rattle.commands.specs.Heard.{HasHeard}
+use Rattle.record_stream.specs.Heard.{HasHeard}
 use Rattle.commands.specs.Runs.{text_from, text_of_records}
 
 -- these records leave the ledger w, and their text is what was written, whatever comes next

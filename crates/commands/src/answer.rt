@@ -1,6 +1,6 @@
 ghost use Rattle.std.specs.Prelude.{◌≡◌, true};
 ghost use Rattle.commands.specs.Answers.{Answers, Begins, BeginsWith, Judges};
-ghost use Rattle.commands.specs.Records.{is_within};
+ghost use Rattle.record_stream.specs.Records.{is_within};
 ghost use Rattle.tx_records.specs.GenesisLimits as genesis_limits;
 ghost use Rattle.tx_records.specs.RecordLimits.{is_within_limits};
 ghost use Rattle.tx_records.specs.TxLimits as tx_limits;

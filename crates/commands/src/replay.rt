@@ -5,10 +5,10 @@ ghost use Rattle.commands.specs.Statuses.{status_by};
 
 use crate::answer::answer;
 use crate::fault::ReplayFault;
-use crate::reading::next_record;
 use crate::status::GenesisCause;
 use byte_lines::{Lines, Sink, Source};
 use live_ledger::LiveLedger;
+use record_stream::next_record;
 use std::alloc::Global;
 use tx_records::limits::{LINE_LIMIT, STREAM_LIMIT};
 

@@ -3,10 +3,10 @@ use Rattle.std.proofs.lemmas.List.{append-nil}
 use Rattle.byte_lines.specs.declared.lines.Line.{Line}
 use Rattle.byte_lines.specs.declared.lines.LineFault.TheVariants as faults
 use Rattle.tx_records.specs.declared.record.Reading.{Reading}
-use Rattle.commands.specs.Heard.{HasHeard}
-use Rattle.commands.specs.Records.{reading_of_line}
-use Rattle.commands.proofs.Heard.{Hears, hears, stand_before, whole_says}
-use Rattle.commands.proofs.reading.next_line.Goals as goal
+use Rattle.record_stream.specs.Heard.{HasHeard}
+use Rattle.record_stream.specs.Records.{reading_of_line}
+use Rattle.record_stream.proofs.Heard.{Hears, hears, stand_before, whole_says}
+use Rattle.record_stream.proofs.reading.next_line.Goals as goal
 
 pub returns-in_err-next-clause-heard : goal.returns-in_err-next-clause-heard
 returns-in_err-next-clause-heard g c = λ bytes records heard.

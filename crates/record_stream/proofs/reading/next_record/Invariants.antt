@@ -1,7 +1,7 @@
 use Rattle.std.proofs.Common.{◌≡◌, ◌≤◌, ℕ, List}
 use Rattle.tx_records.specs.declared.record.Reading.{Reading}
-use Rattle.commands.specs.Heard.{HasHeard, turns_left}
-use Rattle.commands.proofs.reading.next_record.Given as goal
+use Rattle.record_stream.specs.Heard.{HasHeard, turns_left}
+use Rattle.record_stream.proofs.reading.next_record.Given as goal
 
 -- blank lines give no record
 abbrev pub invariant-loop-reading : goal.invariant-loop-reading

@@ -1,7 +1,7 @@
 use Rattle.std.proofs.Common.{◌≡◌, Ok, Err, subst, rules}
-use Rattle.commands.specs.declared.reading.Found.{Found}
-use Rattle.commands.specs.Heard.{HearsLine}
-use Rattle.commands.proofs.reading.next_record.Goals as goal
+use Rattle.record_stream.specs.declared.reading.Found.{Found}
+use Rattle.record_stream.specs.Heard.{HearsLine}
+use Rattle.record_stream.proofs.reading.next_record.Goals as goal
 
 pub returns-in_err-next_line-clause-heard : goal.returns-in_err-next_line-clause-heard
 returns-in_err-next_line-clause-heard g c = λ bytes records heard.

@@ -1,7 +1,7 @@
 ghost use Rattle.std.specs.Prelude.{◌≡◌, ◌≢◌, ℕ, ◌<◌, List, IfSome, IfOk, Err, Some, true};
 ghost use Rattle.byte_lines.specs.Faults.{CountsFaults};
-ghost use Rattle.commands.specs.Heard.{HasHeard, HearsLine, HearsNext, IsFoundWithin, turns_left};
-ghost use Rattle.commands.specs.Records.{is_blank, is_blank_byte, is_within, reading_of_line};
+ghost use Rattle.record_stream.specs.Heard.{HasHeard, HearsLine, HearsNext, IsFoundWithin, turns_left};
+ghost use Rattle.record_stream.specs.Records.{is_blank, is_blank_byte, is_within, reading_of_line};
 ghost use Rattle.tx_records.specs.declared.record.Reading.{Reading};
 
 use byte_lines::{Line, LineFault, Lines, Source, whole_lines};

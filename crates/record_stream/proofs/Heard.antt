@@ -14,10 +14,10 @@ use Rattle.byte_lines.specs.declared.lines.LineFault.{LineFault}
 use Rattle.byte_lines.specs.declared.lines.LineFault.TheVariants as faults
 use Rattle.tx_records.specs.declared.record.Reading.{Reading}
 use Rattle.tx_records.specs.declared.record.Reading.TheVariants as readings
-use Rattle.commands.specs.Endings.{HasCome}
-use Rattle.commands.specs.Heard.{AreAll, AreWhole, Begin, HasHeard, HearsNext, HearsRecord, StandFirst}
+use Rattle.record_stream.specs.Come.{HasCome}
+use Rattle.record_stream.specs.Heard.{AreAll, AreWhole, Begin, HasHeard, HearsNext, HearsRecord, StandFirst}
 use Rattle.tx_records.specs.declared.limits.TheConstants.{STREAM_LIMIT}
-use Rattle.commands.specs.Records.{reading_of_line, record_of, records_from, records_of}
+use Rattle.record_stream.specs.Records.{reading_of_line, record_of, records_from, records_of}
 
 -- what is found first stands before others
 cons_option-append : (o : Option (ℕ × Reading)) (rs xs ys : List (ℕ × Reading)) → rs ≡ xs ++ ys → cons_option o rs ≡ cons_option o xs ++ ys

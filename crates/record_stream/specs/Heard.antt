@@ -6,11 +6,11 @@ use Rattle.byte_lines.specs.Reader.{Reader, heeded}
 use Rattle.byte_lines.specs.declared.lines.LineFault.{LineFault}
 use Rattle.byte_lines.specs.declared.lines.LineFault.TheVariants as faults
 use Rattle.tx_records.specs.declared.record.Reading.{Reading}
-use Rattle.commands.specs.declared.reading.Found.{Found}
-use Rattle.commands.specs.declared.reading.Found.TheVariants as found
-use Rattle.commands.specs.Endings.{HasCome, ReadTo}
+use Rattle.record_stream.specs.declared.reading.Found.{Found}
+use Rattle.record_stream.specs.declared.reading.Found.TheVariants as found
+use Rattle.record_stream.specs.Come.{HasCome, ReadTo}
 use Rattle.tx_records.specs.declared.limits.TheConstants.{LINE_LIMIT, STREAM_LIMIT}
-use Rattle.commands.specs.Records.{records_from, records_of, is_within}
+use Rattle.record_stream.specs.Records.{records_from, records_of, is_within}
 
 -- of a source that held these bytes the reader gave the lines that say these records
 pub record HasHeard (bytes : List ℕ) (r : Reader) (left : Option (List ℕ)) (records : List (ℕ × Reading)) : Type 0 where
