@@ -1,19 +1,10 @@
--- No transaction raises the balance of an account, and changes that raise none leave room.
-use Rattle.std.proofs.Common.{◌≡◌, ℕ, ◌≤◌, List, [], ◌∷◌, Bool, true, false, cond, fold, take, Option, Some, None, option_map, unwrap_or, refl, ap, sym, subst, ◌∙◌, arith}
-use Rattle.std.specs.declared.cmp.Ordering.{Ordering}
+-- No transaction raises the balance of an account.
+use Rattle.std.proofs.Common.{◌≡◌, ℕ, ◌≤◌, List, [], ◌∷◌, Bool, true, false, cond, fold, take, Option, Some, None, option_map, refl, ap, sym, subst, ◌∙◌, arith}
 use Rattle.std.specs.Ordering.{eq_by_cmp}
-use Rattle.std.specs.Cmp.{IsTotalOrder}
-use Rattle.std.specs.List.Sorted.{IsStrictlySortedBy}
-use Rattle.std.specs.Map.{keys_of, values_of}
-use Rattle.std.proofs.lemmas.Cmp.{eq_by_cmp_equiv}
-use Rattle.std.proofs.lemmas.List.Sums.{sum_by-cons}
-use Rattle.std.proofs.lemmas.Map.Entries.{sum_by-remove_entry}
-use Rattle.maps.specs.Maps.{IsMap, changed_where, value_at, without_key, sum_values}
+use Rattle.maps.specs.Maps.{IsMap, changed_where, value_at}
 use Rattle.maps.specs.Words.{amount, is_empty}
 use Rattle.maps.proofs.Kept.{IsMap-changed_where, IsMap-with_value, IsMap-without_key}
-use Rattle.maps.proofs.Lookups.{none_below, value_at-changed_at, value_at-changed_where, value_at-with_value, value_at-without_key}
-use Rattle.maps.proofs.Same.{value_at_first}
-use Rattle.maps.proofs.Ties.{all_tied, is_equal}
+use Rattle.maps.proofs.Lookups.{value_at-changed_at, value_at-changed_where, value_at-with_value, value_at-without_key}
 use Rattle.gov_ids.specs.declared.Credential.{Credential}
 use Rattle.gov_ids.specs.Orders.{credential_cmp}
 use Rattle.gov_ids.proofs.Exacts.{credential_exact}
@@ -23,49 +14,11 @@ use Rattle.tx_records.specs.declared.cert.Cert.{Cert}
 use Rattle.tx_records.specs.declared.cert.Cert.TheVariants.{AccountReg, AccountUnreg, Delegate, PoolReg, PoolRetire, DrepReg, DrepUnreg, DrepUpdate, HotAuth, HotResign}
 use Rattle.tx_records.specs.declared.tx.Tx.{Tx}
 use Rattle.ledger_model.specs.Ledger.{Ledger}
-use Rattle.stake_book.specs.Stakes.{balances_in, delegates_to_dreps, without_dreps}
-use Rattle.live_ledger.specs.Books.{NoneRises, balance_in}
-use Rattle.live_ledger.specs.Drafts.{with_registration, with_registrations}
-use Rattle.live_ledger.proofs.Laid.{IsMap-with_option, value_at-with_option, value_at-with_options}
+use Rattle.stake_book.specs.Stakes.{delegates_to_dreps, without_dreps}
+use Rattle.draft_changes.specs.Balances.{balance_in}
 use Rattle.ledger_model.specs.CertRules.{rewards_at}
 use Rattle.ledger_model.specs.Changes.{changed_by, delegates_to_drep, delegating, dormant_added, emptied, is_withdrawn, new_account, refreshed, voters_refreshed, withdrawn, without_drep}
 use Rattle.ledger_model.specs.Draft.{draft_after, draft_with, is_refused}
-
--- ---- maps of which each value is at most that of another at its key
-
-module _ {K X : Type 0} {cmp : K → K → Ordering} (o : IsTotalOrder cmp) (f : X → ℕ) where
-  -- what stands at a key
-  abbrev at : List (K × X) → K → ℕ
-  at es q = amount f (value_at cmp es q)
-
-  -- behind the first entry, and without its key
-  behind : (e : K × X) (es fs : List (K × X)) → IsMap cmp (e ∷ es) → IsMap cmp fs → ((q : K) → at (e ∷ es) q ≤ at fs q) → (q : K) → at es q ≤ at (without_key cmp e.0 fs) q
-  unfolding IsStrictlySortedBy
-  behind e es fs g h le q =
-      let there : at (without_key cmp e.0 fs) q ≡ amount f (cond (eq_by_cmp cmp e.0 q) None (value_at cmp fs q)) = ap (λ (x : Option X). amount f x) (value_at-without_key o e.0 fs q h) in
-      elim (eq_by_cmp cmp e.0 q) as (λ b. eq_by_cmp cmp e.0 q ≡ b → at (without_key cmp e.0 fs) q ≡ amount f (cond b None (value_at cmp fs q)) → at es q ≤ at (without_key cmp e.0 fs) q) [
-        | true ↦ λ t there.
-            let none : value_at cmp es q ≡ None = none_below cmp q es (all_tied o q e.0 (keys_of es) (is_equal _ ((eq_by_cmp_equiv o).symm q e.0 ∙ t)) g.0) in
-            omega (arith, ap (λ (x : Option X). amount f x) none)
-        | false ↦ λ t there.
-            let here : at (e ∷ es) q ≡ at es q = ap (λ b. amount f (cond b (Some e.1) (value_at cmp es q))) ((eq_by_cmp_equiv o).symm q e.0 ∙ t) in
-            omega (arith, here, there, le q)
-      ] refl there
-
-  -- have at most its sum
-  pub sum-lower : (es fs : List (K × X)) → IsMap cmp es → IsMap cmp fs → ((q : K) → at es q ≤ at fs q) → sum_values f es ≤ sum_values f fs
-  unfolding IsStrictlySortedBy
-  sum-lower [] fs g h le = omega arith
-  sum-lower (e ∷ es) fs g h le =
-      let first : at (e ∷ es) e.0 ≡ f e.1 = ap (λ (x : Option X). amount f x) (value_at_first o e es) in
-      omega (
-        arith,
-        sum-lower es (without_key cmp e.0 fs) g.1 (IsMap-without_key cmp e.0 fs h) (behind e es fs g h le),
-        sum_by-cons f e.1 (values_of es),
-        sum_by-remove_entry f (eq_by_cmp cmp e.0) fs,
-        first,
-        le e.0,
-      )
 
 -- ---- what a transaction does to balances
 
@@ -200,45 +153,3 @@ draft_lowers l tx k m =
     let b : IsLowered d (refreshed tx d) = refresh_lowers tx d a.map in
     let c : IsLowered (refreshed tx d) (draft_after l tx k) = certs_lower l (take k tx.certs) (refreshed tx d) b.map in
     lowered_twice l d (draft_after l tx k) a (lowered_twice d (refreshed tx d) (draft_after l tx k) b c)
-
--- ---- changes that are laid over one after another
-
-module _ (e : Credential × Option Registered) (changes : List (Credential × Option Registered)) (accounts : List (Credential × Registered))
-    (g : IsMap credential_cmp (e ∷ changes)) (h : IsMap credential_cmp accounts) (low : NoneRises (e ∷ changes) accounts) where
-  -- with the first change
-  abbrev next : List (Credential × Registered)
-  next = with_registration e.0 e.1 accounts
-
-  next_at : (q : Credential) → value_at credential_cmp next q ≡ cond (eq_by_cmp credential_cmp e.0 q) e.1 (value_at credential_cmp accounts q)
-  next_at q = value_at-with_option credential_total e.0 e.1 accounts q h
-
-  pub next_map : IsMap credential_cmp next
-  next_map = IsMap-with_option credential_total e.0 e.1 accounts h
-
-  -- no later change touches its key
-  settled : (q : Credential) → eq_by_cmp credential_cmp e.0 q ≡ true → value_at credential_cmp (with_registrations changes next) q ≡ value_at credential_cmp next q
-  unfolding IsStrictlySortedBy
-  settled q t =
-      let tie : eq_by_cmp credential_cmp q e.0 ≡ true = (eq_by_cmp_equiv credential_total).symm q e.0 ∙ t in
-      let none : value_at credential_cmp changes q ≡ None = none_below credential_cmp q changes (all_tied credential_total q e.0 (keys_of changes) (is_equal _ tie) g.0) in
-      value_at-with_options credential_total changes next q g.1 next_map ∙ ap (λ (x : Option (Option Registered)). unwrap_or x (value_at credential_cmp next q)) none
-
-  -- nor does the first raise a balance, nor the others after it
-  both_lower : (q : Credential) → (balance_in next q ≤ balance_in accounts q) × (balance_in (with_registrations changes next) q ≤ balance_in next q)
-  both_lower q =
-      elim (eq_by_cmp credential_cmp e.0 q) as (λ b. eq_by_cmp credential_cmp e.0 q ≡ b → value_at credential_cmp next q ≡ cond b e.1 (value_at credential_cmp accounts q)
-      → (balance_in next q ≤ balance_in accounts q) × (balance_in (with_registrations changes next) q ≤ balance_in next q)) [
-        | true ↦ λ t here.
-            let last : balance_in (with_registrations changes next) q ≡ balance_in next q = ap balance (settled q t) in
-            (omega (arith, last, low q), omega (arith, last))
-        | false ↦ λ t here.
-            let same : balance_in next q ≡ balance_in accounts q = ap balance here in
-            (omega (arith, same), omega (arith, same, low q))
-      ] refl (next_at q)
-
-  pub next_lower : NoneRises changes next
-  next_lower q = (both_lower q).1
-
-  -- so the balances together are at most what they were
-  pub next_sum : balances_in next ≤ balances_in accounts
-  next_sum = sum-lower credential_total (λ (r : Registered). r.rewards) next accounts next_map h (λ q. (both_lower q).0)

@@ -1,29 +1,18 @@
 -- The live proposals without the votes of DReps that left: what stays of them, and those of one DRep more.
-use Rattle.std.proofs.Common.{◌≡◌, ℕ, ◌+◌, ◌<◌, List, length, get_or, drop, [], ◌∷◌, ◌++◌, Bool, true, false, not, ◌||◌, cond, filter, map, Option, Some, None, refl, ap, sym, subst, ◌∙◌, arith}
+use Rattle.std.proofs.Common.{◌≡◌, ℕ, ◌+◌, List, [], ◌∷◌, ◌++◌, filter, map, refl, arith}
 use Rattle.std.specs.List.Sorted.{IsStrictlySortedBy}
-use Rattle.std.specs.Ordering.{eq_by_cmp}
-use Rattle.std.proofs.lemmas.Cmp.{eq_by_cmp_equiv}
-use Rattle.std.proofs.lemmas.List.{at_drop_more}
 use Rattle.std.proofs.lemmas.List.Sums.{sum_by-cons}
-use Rattle.std.proofs.lemmas.Map.Entries.{option_filter}
 use Rattle.gov_ids.specs.declared.Credential.{Credential}
 use Rattle.gov_ids.specs.declared.TxId.{TxId}
-use Rattle.gov_ids.specs.declared.Voter.{Voter}
 use Rattle.gov_ids.specs.declared.Voter.TheVariants as voter
 use Rattle.gov_ids.specs.Orders.{credential_cmp, voter_cmp}
 use Rattle.gov_ids.specs.Same.{same_action}
-use Rattle.gov_ids.proofs.Exacts.{voter_exact}
 use Rattle.gov_ids.proofs.Totals.{credential_total, voter_total}
 use Rattle.gov_actions.specs.declared.action.Proposal.{Proposal}
-use Rattle.gov_actions.specs.declared.action.Vote.{Vote}
 use Rattle.gov_model.specs.Proposals.{deposits_of, without_vote}
-use Rattle.maps.proofs.Kept.{IsMap-entries_where, IsMap-with_values, IsMap-without_key}
-use Rattle.maps.proofs.Lookups.{value_at-entries_where, value_at-without_key}
-use Rattle.maps.proofs.Retained.{entries_where_all}
-use Rattle.maps.proofs.Same.{map_from_value_at}
+use Rattle.maps.proofs.Kept.{IsMap-entries_where, IsMap-with_values}
 use Rattle.maps.proofs.Sets.{has_member-with_key}
-use Rattle.maps.specs.Maps.{IsMap, entries_where, has_member, value_at, with_key, without_key}
-use Rattle.ledger_model.specs.Ledger.{Ledger}
+use Rattle.maps.specs.Maps.{with_key}
 use Rattle.proposal_store.specs.Store.{AllOrdered}
 use Rattle.tx_records.specs.declared.tx.ProposalRecord.{ProposalRecord}
 use Rattle.tx_records.specs.declared.tx.VoteRecord.{VoteRecord}

@@ -41,8 +41,8 @@ use Rattle.proposal_store.specs.Store.{AllOrdered}
 use Rattle.run_model.specs.Laws.{IsWithinDormantBound}
 use Rattle.stake_book.specs.Stakes.{balances_in, without_dreps}
 use Rattle.tx_records.specs.declared.limits.TheConstants.{OUTPUT_LIMIT, SUPPLY_LIMIT, TX_LIST_LIMIT}
-use Rattle.live_ledger.specs.Books.{NoneRises}
-use Rattle.live_ledger.specs.Drafts.{Changed, laid_over, with_registrations}
+use Rattle.draft_changes.specs.Balances.{NoneRises}
+use Rattle.draft_changes.specs.Changed.{Changed, laid_over, with_registrations}
 use Rattle.proposal_store.specs.Leaving.{without_votes_of}
 use Rattle.live_ledger.specs.Kept.{IsKept}
 use Rattle.live_ledger.specs.Proposed.{IsUnknown}

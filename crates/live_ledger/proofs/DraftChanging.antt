@@ -1,7 +1,6 @@
 -- What each change of a draft makes of the ledger that it stands for.
-use Rattle.std.proofs.Common.{◌≡◌, ℕ, ◌+◌, ◌<◌, ◌^◌, List, [], ◌∷◌, Bool, true, false, cond, Option, Some, None, option_map, unwrap_or, refl, ap, sym, ◌∙◌, arith}
+use Rattle.std.proofs.Common.{◌≡◌, ℕ, ◌+◌, ◌<◌, ◌^◌, List, [], Bool, true, false, cond, Option, Some, None, option_map, unwrap_or, refl, ap, sym, ◌∙◌, arith}
 use Rattle.std.specs.Option.{ForSome}
-use Rattle.std.specs.Prelude.{if◌then◌else◌}
 use Rattle.maps.proofs.Kept.{IsMap-changed_where, IsMap-each_value}
 use Rattle.maps.proofs.Lookups.{value_at-changed_where, value_at-each_value}
 use Rattle.maps.proofs.Same.{map_from_value_at}
@@ -23,17 +22,20 @@ use Rattle.ledger_model.specs.Ledger.{Ledger, account_at}
 use Rattle.dormant_laws.proofs.Dormant.{all_from_found}
 use Rattle.run_model.specs.Laws.{IsWithinDormantBound}
 use Rattle.stake_book.specs.Stakes.{delegates_to_dreps, without_dreps}
-use Rattle.live_ledger.specs.ChangedAccounts.{ChangedAccounts, ended, with_leaving}
-use Rattle.live_ledger.specs.ChangedAccounts as changed_accounts
-use Rattle.live_ledger.specs.ChangedDreps.{AllAddable, ChangedDreps, awakened, with_refresh}
-use Rattle.live_ledger.specs.ChangedDreps as changed_dreps
-use Rattle.live_ledger.specs.ChangedParts.{changed_of}
-use Rattle.live_ledger.specs.Drafts.{dormant_by, dreps_by, having_drep, laid_over, with_dreps, with_registration, with_registrations}
+use Rattle.draft_changes.specs.ChangedAccounts.{ChangedAccounts, ended, with_leaving}
+use Rattle.draft_changes.specs.ChangedAccounts as changed_accounts
+use Rattle.draft_changes.specs.ChangedDreps.{AllAddable, ChangedDreps, awakened, with_refresh}
+use Rattle.draft_changes.specs.ChangedDreps as changed_dreps
+use Rattle.draft_changes.specs.ChangedParts.{changed_of}
+use Rattle.draft_changes.specs.Changed.{dormant_by, dreps_by, laid_over, with_dreps, with_registration, with_registrations}
+use Rattle.live_ledger.specs.Drafts.{having_drep}
 use Rattle.live_ledger.specs.Kept.{IsKept}
-use Rattle.live_ledger.proofs.AccountChanging.{ended_more}
+use Rattle.draft_changes.proofs.AccountChanging.{ended_more}
+use Rattle.draft_changes.proofs.Awaking.{dreps_by_map}
+use Rattle.draft_changes.proofs.Ending.{no_delegation_ended}
 use Rattle.live_ledger.proofs.Cleared.{cleared_after, cleared_none}
 use Rattle.live_ledger.proofs.Timely.{nothing_added}
-use Rattle.live_ledger.proofs.Laid.{IsMap-with_options, value_at-with_options, with_options-with_value, with_values-with_value}
+use Rattle.draft_changes.proofs.Laid.{IsMap-with_options, value_at-with_options, with_options-with_value, with_values-with_value}
 
 -- a change of each value changes the one that stands
 either_changed : {X : Type 0} (g : X → X) (o : Option (Option X)) (before after : Option X) → after ≡ option_map g before
@@ -108,10 +110,6 @@ dreps_added epoch n changes dreps g h =
 -- these changes of DReps, with the dormant epochs added, if they are not yet
 abbrev refreshed_by : Bool → ℕ → ℕ → List (Credential × Option DrepState) → ChangedDreps
 refreshed_by b epoch n dreps = with_refresh epoch n (record { dreps = dreps; refreshed = b })
-
-dreps_by_map : (refreshed : Bool) (epoch n : ℕ) (dreps : List (Credential × DrepState)) → IsMap credential_cmp dreps → IsMap credential_cmp (dreps_by refreshed epoch n dreps)
-dreps_by_map true epoch n dreps h = IsMap-changed_where credential_cmp (λ c d. is_kept_active epoch n d) (extended n) dreps h
-dreps_by_map false epoch n dreps h = h
 
 module _ (start : Ledger) (kept : IsKept start) (a : ChangedAccounts) (pools : List (PoolId × Pool)) (d : ChangedDreps) (hot : List (Credential × HotState)) where
   abbrev pub now : Ledger
@@ -189,20 +187,7 @@ module _ (start : Ledger) (kept : IsKept start) (a : ChangedAccounts) (pools : L
       value_at-with_options credential_total d.dreps dreps_before q m dreps_before_map ∙ ap (λ (o : Option (Option DrepState)). unwrap_or o (value_at credential_cmp dreps_before q)) (here ∙ ap Some is) in
       omega (arith, b.expiries q s standing, kept.early))
 
--- the DRep of a credential in a book with changes
-pub drep_now : (changes : List (Credential × Option DrepState)) (refreshed : Bool) (epoch n : ℕ) (dreps : List (Credential × DrepState)) (q : Credential) → IsMap credential_cmp changes → IsMap credential_cmp dreps
-    → value_at credential_cmp (with_dreps changes (dreps_by refreshed epoch n dreps)) q
-    ≡ unwrap_or (value_at credential_cmp changes q) (if refreshed then option_map (awakened epoch n) (value_at credential_cmp dreps q) else value_at credential_cmp dreps q)
-drep_now changes true epoch n dreps q g h =
-    value_at-with_options credential_total changes (with_dormant_added epoch n dreps) q g (dreps_by_map true epoch n dreps h)
-    ∙ ap (λ (o : Option DrepState). unwrap_or (value_at credential_cmp changes q) o) (value_at-changed_where credential_total credential_exact (λ c d. is_kept_active epoch n d) (extended n) dreps q)
-drep_now changes false epoch n dreps q g h = value_at-with_options credential_total changes dreps q g h
-
 -- ---- nothing is changed
-
-pub no_delegation_ended : (accounts : List (Credential × Registered)) → without_dreps [] accounts ≡ accounts
-no_delegation_ended [] = refl
-no_delegation_ended (a ∷ accounts) = ap (λ (es : List (Credential × Registered)). a ∷ es) (no_delegation_ended accounts)
 
 awake : (refreshed : Bool) (n : ℕ) → (refreshed ≡ true → n ≡ 0) → dormant_by refreshed n ≡ n
 awake true n h = sym (h refl)

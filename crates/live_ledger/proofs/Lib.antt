@@ -1,5 +1,4 @@
 pub mod Puts
-pub mod Laid
 pub mod Replacing
 pub mod Starting
 pub mod Balances
@@ -7,10 +6,6 @@ pub mod Proposing
 pub mod Cleared
 pub mod Committing
 pub mod Parts
-pub mod AccountChanging
 pub mod Timely
 pub mod DraftChanging
-pub mod HotNames
-pub mod HotChanging
-pub mod Numbers
-pub mod Adding
+pub mod Slots

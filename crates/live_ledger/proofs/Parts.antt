@@ -19,9 +19,10 @@ use Rattle.drep_book.specs.Dreps.{Dreps}
 use Rattle.stake_book.specs.Stakes.{Stakes, accounts_of, with_used, without_dreps}
 use Rattle.utxo_set.specs.Utxos.{Utxos}
 use Rattle.view_map.specs.View.{frozen_of}
-use Rattle.live_ledger.specs.Books.{IsMade, KeepsAccounts, KeepsOutputs}
-use Rattle.live_ledger.specs.ChangedDreps as changed_dreps
-use Rattle.live_ledger.specs.Drafts.{Changed, with_registrations}
+use Rattle.draft_changes.specs.Balances.{KeepsOutputs}
+use Rattle.live_ledger.specs.Books.{IsMade, KeepsAccounts}
+use Rattle.draft_changes.specs.ChangedDreps as changed_dreps
+use Rattle.draft_changes.specs.Changed.{Changed, with_registrations}
 use Rattle.proposal_store.specs.Leaving.{without_votes_of}
 use Rattle.live_ledger.proofs.Committing.{IsFailing, after_changes}
 

@@ -17,7 +17,7 @@ use Rattle.ledger_model.specs.Changes.{dormant_added}
 use Rattle.ledger_model.specs.Ledger.{Ledger}
 use Rattle.dormant_laws.proofs.Dormant.{all_from_found}
 use Rattle.run_model.specs.Laws.{IsWithinDormantBound}
-use Rattle.live_ledger.specs.ChangedDreps.{awakened}
+use Rattle.draft_changes.specs.ChangedDreps.{awakened}
 use Rattle.live_ledger.specs.Drafts.{IsTimely, having_drep}
 
 -- what stands at a key after a change passes where both do

@@ -1,19 +1,14 @@
--- A draft of a transaction as contracts see it, what changes it, and what changes make of a ledger. (CERTS of the formal specification; that changes are laid over a ledger is own)
-use Rattle.std.specs.Prelude.{◌≡◌, ℕ, ◌+◌, ◌≤◌, ◌^◌, Bool, true, false, not, List, Option, Some, None, fold, map, option_map, if◌then◌else◌}
-use Rattle.maps.specs.Maps.{entries_where, has_member, value_at, with_value, with_values}
-use Rattle.maps.specs.Replaced.{with_option}
+-- A draft of a transaction as contracts see it, and what changes it. (CERTS of the formal specification)
+use Rattle.std.specs.Prelude.{◌≡◌, ℕ, ◌+◌, ◌≤◌, ◌^◌, Option, Some, None, option_map, if◌then◌else◌}
+use Rattle.maps.specs.Maps.{value_at, with_value}
 use Rattle.gov_ids.specs.declared.Credential.{Credential}
 use Rattle.gov_ids.specs.declared.PoolId.{PoolId}
-use Rattle.gov_ids.specs.declared.Voter.{Voter}
-use Rattle.gov_ids.specs.declared.Voter.TheVariants as voter
 use Rattle.gov_ids.specs.Orders.{credential_cmp, pool_cmp}
 use Rattle.book_records.specs.declared.DrepState.{DrepState}
 use Rattle.book_records.specs.declared.Registered.{Registered}
 use Rattle.book_records.specs.declared.pool.Pool.{Pool}
 use Rattle.book_records.specs.declared.pool.PoolTerms.{PoolTerms}
-use Rattle.book_records.specs.Dormancy.{with_dormant_added}
 use Rattle.book_records.specs.Pools.{with_registration as with_pool_registration, with_retirement}
-use Rattle.gov_actions.specs.declared.action.Proposal.{Proposal}
 use Rattle.gov_actions.specs.declared.state.HotState.{HotState}
 use Rattle.tx_records.specs.declared.tx.Scripts.{Scripts}
 use Rattle.tx_records.specs.declared.tx.Scripts.TheVariants.{Failed}
@@ -21,8 +16,7 @@ use Rattle.tx_records.specs.declared.tx.Tx.{Tx}
 use Rattle.ledger_model.specs.Ledger.{Ledger, account_at, is_pool}
 use Rattle.ledger_model.specs.Changes.{dormant_added, drep_left}
 use Rattle.ledger_model.specs.Draft.{last_draft}
-use Rattle.proposal_store.specs.Leaving.{without_votes_of}
-use Rattle.stake_book.specs.Stakes.{without_dreps}
+use Rattle.draft_changes.specs.Changed.{with_registration}
 
 -- the ledger before the transaction, the one that its changes so far make of it, what its certificates gave back and paid so far, and how many changes were made
 pub record Drafted : Type 0 where
@@ -31,52 +25,6 @@ pub record Drafted : Type 0 where
   pub refunds : ℕ
   pub deposits : ℕ
   pub changes : ℕ
-
--- what a draft changed
-pub record Changed : Type 0 where
-  -- the registrations, none where an account left
-  pub accounts : List (Credential × Option Registered)
-  -- the DReps that left: their votes left, and the delegations to them that are not among these registrations ended
-  pub left : List Credential
-  pub pools : List (PoolId × Pool)
-  -- the DReps, none where one left, and whether the dormant epochs were added to those before
-  pub dreps : List (Credential × Option DrepState)
-  pub refreshed : Bool
-  -- the hot entries
-  pub hot : List (Credential × HotState)
-
--- the registrations with that one for c, or without one
-abbrev pub with_registration : Credential → Option Registered → List (Credential × Registered) → List (Credential × Registered)
-with_registration c to accounts = with_option credential_cmp c to accounts
-
--- the registrations with each of these changes
-abbrev pub with_registrations : List (Credential × Option Registered) → List (Credential × Registered) → List (Credential × Registered)
-with_registrations changes accounts = fold (λ es p. with_registration p.0 p.1 es) accounts changes
-
--- the DReps with each of these changes
-abbrev pub with_dreps : List (Credential × Option DrepState) → List (Credential × DrepState) → List (Credential × DrepState)
-with_dreps changes dreps = fold (λ es p. with_option credential_cmp p.0 p.1 es) dreps changes
-
--- by whether they were added to the DReps, the dormant epochs that are left
-abbrev pub dormant_by : Bool → ℕ → ℕ
-dormant_by true dormant = 0
-dormant_by false dormant = dormant
-
--- and the DReps
-abbrev pub dreps_by : Bool → ℕ → ℕ → List (Credential × DrepState) → List (Credential × DrepState)
-dreps_by true epoch dormant dreps = with_dormant_added epoch dormant dreps
-dreps_by false epoch dormant dreps = dreps
-
--- a ledger with these changes
-abbrev pub laid_over : Changed → Ledger → Ledger
-laid_over changes l = record l {
-  dormant = dormant_by changes.refreshed l.dormant;
-  accounts = with_registrations changes.accounts (without_dreps changes.left l.accounts);
-  pools = with_values pool_cmp changes.pools l.pools;
-  dreps = with_dreps changes.dreps (dreps_by changes.refreshed l.epoch l.dormant l.dreps);
-  hot = with_values credential_cmp changes.hot l.hot;
-  proposals = map (without_votes_of changes.left) l.proposals;
-}
 
 -- a draft in which nothing is changed yet
 abbrev pub draft_at : Ledger → Drafted

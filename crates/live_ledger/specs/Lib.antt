@@ -4,10 +4,5 @@ pub mod Starts
 pub mod Drafts
 pub mod Moved
 pub mod Books
-pub mod ChangedAccounts
-pub mod ChangedDreps
-pub mod ChangedHot
-pub mod ChangedParts
-pub mod Numbered
+pub mod DraftParts
 pub mod Proposed
-pub mod Added

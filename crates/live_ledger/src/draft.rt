@@ -3,20 +3,18 @@ ghost use Rattle.std.specs.Option.{ForSome, option_copied, option_or};
 ghost use Rattle.gov_model.specs.Hot.{is_named};
 ghost use Rattle.gov_ids.specs.Orders.{credential_cmp, pool_cmp};
 ghost use Rattle.ledger_model.specs.Ledger.{account_at, is_pool};
-ghost use Rattle.live_ledger.specs.Drafts.{IsDraftOf, IsTimely, deposit_in, draft_at, drep_deposit_in, given_back, laid_over, paid_by};
+ghost use Rattle.draft_changes.specs.Changed.{laid_over};
+ghost use Rattle.live_ledger.specs.Drafts.{IsDraftOf, IsTimely, deposit_in, draft_at, drep_deposit_in, given_back, paid_by};
 ghost use Rattle.live_ledger.specs.Drafts.{with_account, with_drep, with_hot, with_pool, with_pool_registered};
 ghost use Rattle.live_ledger.specs.Drafts.{with_pool_retiring, with_refresh};
 ghost use Rattle.maps.specs.Maps.{IsMap, value_at};
 ghost use Rattle.run_model.specs.Laws.{IsWithinDormantBound};
 
-use crate::account_changes::AccountChanges;
-use crate::changes::Changes;
-use crate::drep_changes::DrepChanges;
-use crate::hot_changes::HotChanges;
 use crate::state::LiveLedger;
 use book_records::{DrepState, Pool, PoolTerms, Registered};
 use cert_pool::registered;
 use coin_frac::NoMemory;
+use draft_changes::{AccountChanges, Changes, DrepChanges, HotChanges};
 use gov_actions::HotState;
 use gov_ids::{Credential, PoolId};
 use std::alloc::Global;
@@ -38,8 +36,10 @@ pub struct Draft<'a> {
 
 impl<'a> Model for Draft<'a> {
     ghost use Rattle.std.specs.Coded.{codes};
-    ghost use Rattle.live_ledger.specs.ChangedParts.{IsDrafted, changed_of};
-    ghost use Rattle.live_ledger.specs.Drafts.{Drafted, laid_over};
+    ghost use Rattle.draft_changes.specs.ChangedParts.{changed_of};
+    ghost use Rattle.live_ledger.specs.DraftParts.{IsDrafted};
+    ghost use Rattle.draft_changes.specs.Changed.{laid_over};
+    ghost use Rattle.live_ledger.specs.Drafts.{Drafted};
 
     ghost Value = { Drafted };
 
@@ -327,11 +327,6 @@ impl<'a> Draft<'a> {
     pub fn into_changes(self) -> Changes
         ensures { laid_over result self.entry.start ≡ self.entry.ledger }
     {
-        Changes {
-            accounts: self.accounts,
-            pools: self.pools,
-            dreps: self.dreps,
-            hot: self.hot,
-        }
+        Changes::of_parts(self.accounts, self.pools, self.dreps, self.hot)
     }
 }

@@ -4,21 +4,21 @@ ghost use Rattle.ledger_model.specs.Transaction.{made_proposal, made_proposals, 
 ghost use Rattle.live_ledger.specs.Proposed.{IsUnknown};
 ghost use Rattle.tx_records.specs.declared.tx.ProposalRecord.{ProposalRecord};
 
-use crate::live_proposals::LiveProposals;
 use coin_frac::NoMemory;
 use gov_actions::Proposal;
 use gov_ids::ActionId;
 use listed::Listed;
+use proposal_store::ProposalStore;
 use std::alloc::Global;
 use tx_records::{ProposalRecord, Tx};
 
 /// The live proposals with the votes and then with the proposals of a transaction; `last` is the last epoch in which these may be voted on. (GOV of the formal specification)
 pub fn with_tx_proposals(
     alloc: Global,
-    store: LiveProposals,
+    store: ProposalStore,
     last: u64,
     tx: &Tx,
-) -> Result<LiveProposals, NoMemory>
+) -> Result<ProposalStore, NoMemory>
     requires few { length tx.now.proposals ≤ 65536 }
     requires unknown { IsUnknown tx.now.id (map (with_votes tx.now) store) }
     requires room { deposits_of (map (with_votes tx.now) store)
@@ -31,7 +31,7 @@ pub fn with_tx_proposals(
 }
 
 /// The live proposals with the votes of a transaction, a later one of a voter in place of an earlier one. (GOV of the formal specification)
-fn with_votes(store: LiveProposals, tx: &Tx) -> Result<LiveProposals, NoMemory>
+fn with_votes(store: ProposalStore, tx: &Tx) -> Result<ProposalStore, NoMemory>
     ensures { IfOk result (λ after. after ≡ map (with_votes tx.now) store) }
 {
     let mut store = store;
@@ -44,10 +44,10 @@ fn with_votes(store: LiveProposals, tx: &Tx) -> Result<LiveProposals, NoMemory>
 /// With the proposals of a transaction, as id#0, id#1 and so on, with no votes; `last` is the last epoch in which they may be voted on. (GOV of the formal specification)
 fn with_proposals(
     alloc: Global,
-    store: LiveProposals,
+    store: ProposalStore,
     last: u64,
     tx: &Tx,
-) -> Result<LiveProposals, NoMemory>
+) -> Result<ProposalStore, NoMemory>
     requires few { length tx.now.proposals ≤ 65536 }
     requires unknown { IsUnknown tx.now.id store }
     requires room { deposits_of store + sum_by (λ (p : ProposalRecord). p.deposit) tx.now.proposals < 2 ^ 64 }
@@ -59,7 +59,7 @@ fn with_proposals(
             tx: tx.id,
             index: index as u16,
         };
-        store = store.add(made(alloc, id, last, proposal)?)?;
+        store.add(made(alloc, id, last, proposal)?)?;
     }
     Ok(store)
 }

@@ -3,16 +3,16 @@ ghost use Rattle.gov_ids.specs.Orders.{credential_cmp, pool_cmp};
 ghost use Rattle.gov_model.specs.Hot.{is_member};
 ghost use Rattle.ledger_model.specs.Ledger.{params_of};
 ghost use Rattle.ledger_model.specs.Supply.{pots_of};
-ghost use Rattle.live_ledger.specs.Added.{is_proposed};
 ghost use Rattle.live_ledger.specs.Kept.{IsKept};
 ghost use Rattle.maps.specs.Maps.{IsMap, value_at};
+ghost use Rattle.proposal_store.specs.Added.{is_proposed};
 ghost use Rattle.stake_book.specs.Stakes.{registrations};
 ghost use Rattle.view_map.specs.View.{frozen_of};
 
 mod commit;
 mod genesis;
+mod parts;
 
-use crate::live_proposals::LiveProposals;
 use book_records::{DrepState, Pool};
 use cert_pool::PoolBook;
 use committee_book::{HotBook, is_member};
@@ -45,7 +45,7 @@ pub struct LiveLedger {
     pools: PoolBook,
     dreps: DrepBook,
     hot: HotBook,
-    proposals: LiveProposals,
+    proposals: ProposalStore,
 }
 
 impl Model for LiveLedger {
@@ -185,7 +185,7 @@ impl LiveLedger {
     pub fn proposals(&self) -> &ProposalStore
         ensures { result.now ≡ self.now.ledger.proposals }
     {
-        self.proposals.store()
+        &self.proposals
     }
 
     /// Whether a live proposal adds a cold key to the committee. It walks none of them. (GOVCERT of the formal specification)

@@ -1,11 +1,10 @@
 -- A change of votes leaves what the store keeps.
-use Rattle.std.proofs.Common.{◌≡◌, ℕ, true, false, cond, not, List, [], ◌∷◌, ◌++◌, map, filter, Option, Some, None, Result, Ok, Err, OnOk, OnErr, refl, ap, sym, subst, ◌∙◌, arith}
+use Rattle.std.proofs.Common.{◌≡◌, ℕ, true, false, cond, List, [], ◌∷◌, map, filter, Option, Some, None, Result, Ok, Err, OnOk, OnErr, refl, ap, sym, subst, ◌∙◌, arith}
 use Rattle.std.specs.List.{AllByRecursion, IsDistinct}
 use Rattle.std.specs.Map.{values_of, lookup, set_value}
 use Rattle.std.proofs.lemmas.List.Sums.{sum_by-cons}
 use Rattle.std.proofs.lemmas.Cmp.{eq_by_cmp_equiv}
 use Rattle.gov_ids.specs.declared.ActionId.{ActionId}
-use Rattle.gov_ids.specs.declared.Credential.{Credential}
 use Rattle.gov_ids.specs.declared.Voter.{Voter}
 use Rattle.gov_ids.specs.contracts.ActionIdPartialEq.TheImpl as action_eq
 use Rattle.gov_ids.specs.Orders.{voter_cmp}
@@ -18,12 +17,13 @@ use Rattle.gov_actions.specs.declared.action.Purpose.{Purpose}
 use Rattle.gov_actions.specs.declared.action.Vote.{Vote}
 use Rattle.gov_model.specs.Ratified.{ids_of}
 use Rattle.gov_model.specs.Proposals.{proposal_of, is_child, children_of, deposits_of, with_vote, without_vote, with_change}
-use Rattle.maps.proofs.Kept.{IsMap-entries_where, IsMap-with_value, IsMap-without_key}
+use Rattle.maps.proofs.Kept.{IsMap-with_value, IsMap-without_key}
 use Rattle.maps.specs.Maps.{IsMap}
 use Rattle.proposal_store.specs.declared.families.Parent.{Parent}
-use Rattle.proposal_store.specs.Leaving.{is_drep_among, without_votes_of}
+use Rattle.proposal_store.specs.Added.{is_proposed}
 use Rattle.proposal_store.specs.Changes.{each, changing}
 use Rattle.proposal_store.specs.Store.{AllKeyed, AllOrdered, IsStore}
+use Rattle.proposal_store.proofs.Adding.{Marks, kept_by}
 
 -- only votes are changed, and they stay in order
 pub record ChangesVotes (g : Proposal → Proposal) : Type 0 where
@@ -74,13 +74,14 @@ module _ (g : Proposal → Proposal) (c : ChangesVotes g) where
         | false ↦ later
       ]
 
-  pub IsStore-voted : (es : List (ActionId × Proposal)) (index : List (Parent × List ActionId)) (sum : ℕ) → IsStore es index sum → IsStore (each g es) index sum
-  IsStore-voted es index sum h =
+  pub IsStore-voted : (es : List (ActionId × Proposal)) (index : List (Parent × List ActionId)) (marks : Marks) (sum : ℕ) → IsStore es index marks sum → IsStore (each g es) index marks sum
+  IsStore-voted es index marks sum h =
       let values : values_of (each g es) ≡ map g (values_of es) = values_each g es in
       record {
         keyed = keyed_each es h.keyed;
         distinct = subst (λ (ids : List ActionId). IsDistinct same_action ids) (sym (ap (λ (ps : List Proposal). ids_of ps) values ∙ ids_each (values_of es))) h.distinct;
         children = λ q. h.children q ∙ sym (ap (λ (ps : List Proposal). children_of q.purpose q.previous ps) values ∙ children_each q.purpose q.previous (values_of es));
+        added = λ q. h.added q ∙ sym (ap (λ (ps : List Proposal). is_proposed q ps) values ∙ kept_by g c.actions q (values_of es));
         deposits = h.deposits ∙ sym (ap (λ (ps : List Proposal). deposits_of ps) values ∙ deposits_each (values_of es));
         ordered = subst (λ (ps : List Proposal). AllOrdered ps) (sym values) (ordered_each (values_of es) h.ordered);
       }

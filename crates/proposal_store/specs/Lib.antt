@@ -3,3 +3,4 @@ pub mod Store
 pub mod Leaving
 pub mod Voted
 pub mod Changes
+pub mod Added

@@ -1,6 +1,7 @@
 //! The live proposals, in order of submission.
 #![tactic(auto)]
 
+mod added;
 mod families;
 mod live;
 mod store;

@@ -8,10 +8,12 @@ ghost use Rattle.gov_ids.specs.Same.{same_action};
 ghost use Rattle.gov_model.specs.Ratified.{ids_of};
 ghost use Rattle.gov_model.specs.Proposals.{proposal_of, children_of, deposits_of, those_of, others_than, with_vote, without_vote, with_change};
 ghost use Rattle.maps.specs.Maps.{IsMap};
+ghost use Rattle.proposal_store.specs.Added.{is_proposed};
 ghost use Rattle.proposal_store.specs.Leaving.{without_votes_of};
 ghost use Rattle.proposal_store.specs.Changes.{each, changing, dropping};
 ghost use Rattle.proposal_store.specs.Store.{AllKeyed, AllOrdered, is_in, is_out};
 
+use crate::added::{AddedKeys, new_members};
 use crate::families::{Families, Parent};
 use crate::live::LiveProposal;
 use crate::voted::VotedOn;
@@ -32,6 +34,7 @@ pub struct ProposalStore {
     proposals: IndexMap<ActionId, LiveProposal>,
     families: Families,
     voted: VotedOn,
+    added: AddedKeys,
     deposits: u64,
 }
 
@@ -46,7 +49,7 @@ impl Model for ProposalStore {
 
     ghost view = { λ a. values_of a.proposals.entries };
 
-    ghost invariant = { λ a. IsStore a.proposals.entries a.families a.deposits
+    ghost invariant = { λ a. IsStore a.proposals.entries a.families a.added a.deposits
         × AllNoted a.voted (values_of a.proposals.entries) };
 }
 
@@ -60,6 +63,7 @@ impl ProposalStore {
             proposals: IndexMap::new(alloc),
             families: Families::new(alloc),
             voted: VotedOn::new(alloc),
+            added: AddedKeys::new(alloc),
             deposits: 0,
         }
     }
@@ -99,6 +103,13 @@ impl ProposalStore {
         ensures { result.now ≡ children_of purpose previous self.now }
     {
         self.families.get(&Parent { purpose, previous })
+    }
+
+    /// Whether one of the proposals adds a cold key to the committee. It walks none of them. (GOVCERT of the formal specification)
+    pub fn adds(&self, cold: &Credential) -> bool
+        ensures { result ≡ is_proposed cold.now self.now }
+    {
+        self.added.has(cold)
     }
 
     /// One more proposal, at the end. Want of memory changes nothing. (GOV of the formal specification)
@@ -177,8 +188,11 @@ impl ProposalStore {
         ensures err { OnErr result (self.new ≡ self.old) }
     {
         self.proposals.reserve(1)?;
+        let add = new_members(p.action());
+        self.added.make_places(add)?;
         p.note_votes(&mut self.voted)?;
         self.families.note(&p)?;
+        self.added.mark(add);
         self.deposits += p.deposit();
         self.proposals.insert(p.id(), p)?;
         Ok(())

@@ -4,7 +4,8 @@ use Rattle.tx_records.specs.declared.reply.TxFault.{TxFault}
 use Rattle.tx_records.specs.declared.tx.Tx.{Tx}
 use Rattle.ledger_model.specs.Ledger.{Ledger}
 use Rattle.ledger_model.specs.Broken.{first_broken}
-use Rattle.live_ledger.specs.Drafts.{Changed, draft_of, laid_over}
+use Rattle.draft_changes.specs.Changed.{Changed, laid_over}
+use Rattle.live_ledger.specs.Drafts.{draft_of}
 use Rattle.rule_checks.specs.Answered.{IsAnswered}
 
 -- changes that laid over the ledger give the draft of a transaction that breaks no rule, or the first rule that it breaks, unless memory ran out

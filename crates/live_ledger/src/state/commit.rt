@@ -9,7 +9,8 @@ ghost use Rattle.ledger_model.specs.Draft.{last_draft};
 ghost use Rattle.ledger_model.specs.Transaction.{ledger_after_tx, made_outputs, made_proposals, with_votes};
 ghost use Rattle.ledger_model.specs.UtxoRules.{is_failed, returned};
 ghost use Rattle.live_ledger.specs.Books.{IsMade};
-ghost use Rattle.live_ledger.specs.Drafts.{draft_of, laid_over};
+ghost use Rattle.draft_changes.specs.Changed.{laid_over};
+ghost use Rattle.live_ledger.specs.Drafts.{draft_of};
 ghost use Rattle.live_ledger.specs.Proposed.{IsUnknown};
 ghost use Rattle.live_ledger.specs.Standing.{on_ledger};
 ghost use Rattle.maps.specs.Maps.{IsMap, value_at, without_keys};
@@ -21,10 +22,10 @@ ghost use Rattle.tx_records.specs.declared.tx.TxOutput.{TxOutput};
 
 use super::LiveLedger;
 use crate::books::{with_tx_collateral, with_tx_outputs};
-use crate::changes::{Books, Changes};
-use crate::live_proposals::LiveProposals;
 use crate::proposals::with_tx_proposals;
 use coin_frac::NoMemory;
+use draft_changes::{Changes, Voters};
+use proposal_store::ProposalStore;
 use stake_book::StakeBook;
 use std::alloc::Global;
 use tx_records::{Scripts, Tx};
@@ -52,22 +53,26 @@ impl LiveLedger {
         ensures { IfOk result (λ s. s ≡ on_ledger (λ l. ledger_after_tx l tx.now) self) }
     {
         let last = self.epoch + u64::from(self.params().gov_action_lifetime);
-        let books = Books {
-            stake: self.stake,
+        let voters = Voters {
             pools: self.pools,
             dreps: self.dreps,
             hot: self.hot,
-            proposals: self.proposals,
         };
-        let books = changes.laid_over(self.alloc, self.epoch, books)?;
-        let (stake, proposals) = with_tx(self.alloc, last, books.stake, books.proposals, tx)?;
+        let (laid, cleared, voters) = changes.lay_over(
+            self.alloc,
+            self.epoch,
+            self.stake,
+            self.proposals,
+            voters,
+        )?;
+        let (stake, proposals) = with_tx(self.alloc, last, laid, cleared, tx)?;
         Ok(LiveLedger {
             fees: self.fees + tx.fee,
             donations: self.donations + tx.donation,
             stake,
-            pools: books.pools,
-            dreps: books.dreps,
-            hot: books.hot,
+            pools: voters.pools,
+            dreps: voters.dreps,
+            hot: voters.hot,
             proposals,
             ..self
         })
@@ -94,9 +99,9 @@ fn with_tx(
     alloc: Global,
     last: u64,
     stake: StakeBook,
-    proposals: LiveProposals,
+    proposals: ProposalStore,
     tx: &Tx,
-) -> Result<(StakeBook, LiveProposals), NoMemory>
+) -> Result<(StakeBook, ProposalStore), NoMemory>
     requires in_order { IsMap outref_cmp stake.outputs.outputs }
     requires few_outputs { length tx.now.outputs ≤ 65535 }
     requires absent { AllByRecursion

@@ -5,11 +5,11 @@ ghost use Rattle.live_ledger.specs.Starts.{StartsAs};
 
 use super::LiveLedger;
 use crate::fault::GenesisFault;
-use crate::live_proposals::LiveProposals;
 use coin_frac::NoMemory;
 use genesis_books::{broken_rule, first_committee, first_holdings, first_keys};
 use gov_actions::{EnactState, LastIds};
 use listed::Boxed;
+use proposal_store::ProposalStore;
 use std::alloc::Global;
 use tx_records::Genesis;
 
@@ -40,7 +40,7 @@ impl LiveLedger {
             pools,
             dreps,
             hot,
-            proposals: LiveProposals::new(alloc),
+            proposals: ProposalStore::new(alloc),
         })
     }
 }

@@ -5,7 +5,8 @@ use Rattle.ledger_model.specs.Broken.{body_checks}
 use Rattle.ledger_model.specs.Checks.{first_among}
 use Rattle.ledger_model.specs.Ledger.{Ledger}
 use Rattle.ledger_model.specs.UtxoRules.{unless_failed, utxo_checks}
-use Rattle.live_ledger.specs.Drafts.{Changed, Drafted, draft_of, laid_over}
+use Rattle.draft_changes.specs.Changed.{Changed, laid_over}
+use Rattle.live_ledger.specs.Drafts.{Drafted, draft_of}
 use Rattle.rule_checks.specs.Answered.{IsAnswered, as_fault}
 use Rattle.tx_rule.specs.Judged.{IsJudged}
 use Rattle.tx_rule.proofs.Certified.{faulted}

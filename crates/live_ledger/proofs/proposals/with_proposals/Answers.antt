@@ -24,8 +24,8 @@ loop-index-preserved c =
     let a = c.in_ok-made.field-0 in
     let made = c.in_ok-made.ensures in
     let old = c.loop-index.store in
-    let new = c.in_ok-store.store in
-    let added = c.in_ok-store.ensures in
+    let new = c.add.new.self in
+    let added = c.in_ok-add.ensures.ok in
     record {
       made = next_made id c.args.last all i p lt is a made old new added ∙ c.loop-index.invariant.made;
       unknown = next_unknown id c.args.last all i p lt is a made old new added c.loop-index.invariant.unknown;

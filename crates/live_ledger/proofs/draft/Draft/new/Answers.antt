@@ -7,13 +7,13 @@ use Rattle.book_records.specs.declared.pool.Pool.{Pool}
 use Rattle.maps.specs.Maps.{IsMap}
 use Rattle.ledger_model.specs.Ledger.{Ledger}
 use Rattle.run_model.specs.Laws.{IsWithinDormantBound}
-use Rattle.live_ledger.specs.ChangedAccounts.{ChangedAccounts}
-use Rattle.live_ledger.specs.ChangedDreps.{ChangedDreps}
-use Rattle.live_ledger.specs.ChangedHot.{ChangedHot, IsOver}
-use Rattle.live_ledger.specs.ChangedParts.{changed_of}
-use Rattle.live_ledger.specs.Drafts.{Changed, laid_over}
+use Rattle.draft_changes.specs.ChangedAccounts.{ChangedAccounts}
+use Rattle.draft_changes.specs.ChangedDreps.{ChangedDreps}
+use Rattle.draft_changes.specs.ChangedHot.{ChangedHot, IsOver}
+use Rattle.draft_changes.specs.ChangedParts.{changed_of}
+use Rattle.draft_changes.specs.Changed.{Changed, laid_over}
 use Rattle.live_ledger.proofs.DraftChanging.{nothing_laid}
-use Rattle.live_ledger.proofs.HotChanging.{none_covered}
+use Rattle.draft_changes.proofs.HotChanging.{none_covered}
 use Rattle.live_ledger.proofs.draft.Draft.new.Goals as goal
 
 -- the ledger, with nothing changed

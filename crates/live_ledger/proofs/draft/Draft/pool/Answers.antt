@@ -5,7 +5,7 @@ use Rattle.gov_ids.proofs.Totals.{pool_total}
 use Rattle.maps.proofs.Kept.{IsMap-with_values}
 use Rattle.maps.specs.Maps.{IsMap, value_at}
 use Rattle.live_ledger.specs.Drafts.{Drafted}
-use Rattle.live_ledger.proofs.Laid.{value_at-with_map}
+use Rattle.draft_changes.proofs.Laid.{value_at-with_map}
 use Rattle.live_ledger.proofs.draft.Draft.pool.Goals as goal
 
 pub returns-clause-value : goal.returns-clause-value

@@ -6,9 +6,10 @@ use Rattle.maps.proofs.Kept.{IsMap-with_value}
 use Rattle.maps.specs.Maps.{IsMap, value_at}
 use Rattle.ledger_model.specs.Ledger.{Ledger}
 use Rattle.run_model.specs.Laws.{IsWithinDormantBound}
-use Rattle.live_ledger.specs.ChangedDreps.{ChangedDreps}
-use Rattle.live_ledger.specs.ChangedParts.{changed_of}
-use Rattle.live_ledger.specs.Drafts.{Drafted, IsTimely, drep_deposit_in, given_back, laid_over, paid_by, with_drep}
+use Rattle.draft_changes.specs.ChangedDreps.{ChangedDreps}
+use Rattle.draft_changes.specs.ChangedParts.{changed_of}
+use Rattle.draft_changes.specs.Changed.{laid_over}
+use Rattle.live_ledger.specs.Drafts.{Drafted, IsTimely, drep_deposit_in, given_back, paid_by, with_drep}
 use Rattle.live_ledger.proofs.DraftChanging.{drep_laid, now}
 use Rattle.live_ledger.proofs.Timely.{timely_put}
 use Rattle.live_ledger.proofs.draft.Draft.put_drep.Goals as goal

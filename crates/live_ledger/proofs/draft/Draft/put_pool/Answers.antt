@@ -3,9 +3,10 @@ use Rattle.gov_ids.specs.Orders.{pool_cmp}
 use Rattle.gov_ids.proofs.Exacts.{pool_exact}
 use Rattle.gov_ids.proofs.Totals.{pool_total}
 use Rattle.maps.specs.Maps.{IsMap, with_value, with_values}
-use Rattle.live_ledger.specs.ChangedParts.{changed_of}
-use Rattle.live_ledger.specs.Drafts.{Drafted, laid_over, with_pool}
-use Rattle.live_ledger.proofs.Laid.{with_values-with_value}
+use Rattle.draft_changes.specs.ChangedParts.{changed_of}
+use Rattle.draft_changes.specs.Changed.{laid_over}
+use Rattle.live_ledger.specs.Drafts.{Drafted, with_pool}
+use Rattle.draft_changes.proofs.Laid.{with_values-with_value}
 use Rattle.live_ledger.proofs.draft.Draft.put_pool.Goals as goal
 
 pub returns-clause-ok : goal.returns-clause-ok

@@ -3,10 +3,11 @@ use Rattle.gov_ids.specs.Orders.{credential_cmp}
 use Rattle.maps.specs.Maps.{IsMap}
 use Rattle.ledger_model.specs.Ledger.{Ledger}
 use Rattle.run_model.specs.Laws.{IsWithinDormantBound}
-use Rattle.live_ledger.specs.ChangedDreps as changed_dreps
-use Rattle.live_ledger.specs.ChangedDreps.{AllAddable, ChangedDreps}
-use Rattle.live_ledger.specs.ChangedParts.{changed_of}
-use Rattle.live_ledger.specs.Drafts.{Drafted, dormant_by, laid_over, with_refresh}
+use Rattle.draft_changes.specs.ChangedDreps as changed_dreps
+use Rattle.draft_changes.specs.ChangedDreps.{AllAddable, ChangedDreps}
+use Rattle.draft_changes.specs.ChangedParts.{changed_of}
+use Rattle.draft_changes.specs.Changed.{dormant_by, laid_over}
+use Rattle.live_ledger.specs.Drafts.{Drafted, with_refresh}
 use Rattle.live_ledger.proofs.DraftChanging.{addable, now, refresh_laid, refreshed_map}
 use Rattle.live_ledger.proofs.Timely.{timely_added}
 use Rattle.live_ledger.proofs.draft.Draft.refresh.Goals as goal

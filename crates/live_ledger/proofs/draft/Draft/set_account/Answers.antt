@@ -1,8 +1,9 @@
 use Rattle.std.proofs.Common.{◌≡◌, ◌+◌, ap, sym, ◌∙◌}
 use Rattle.ledger_model.specs.Ledger.{account_at}
-use Rattle.live_ledger.specs.ChangedAccounts.{ChangedAccounts}
-use Rattle.live_ledger.specs.ChangedParts.{changed_of}
-use Rattle.live_ledger.specs.Drafts.{Drafted, deposit_in, given_back, laid_over, paid_by, with_account}
+use Rattle.draft_changes.specs.ChangedAccounts.{ChangedAccounts}
+use Rattle.draft_changes.specs.ChangedParts.{changed_of}
+use Rattle.draft_changes.specs.Changed.{laid_over}
+use Rattle.live_ledger.specs.Drafts.{Drafted, deposit_in, given_back, paid_by, with_account}
 use Rattle.live_ledger.proofs.DraftChanging.{account_laid}
 use Rattle.live_ledger.proofs.draft.Draft.set_account.Goals as goal
 

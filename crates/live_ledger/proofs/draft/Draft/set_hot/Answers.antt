@@ -5,9 +5,10 @@ use Rattle.gov_ids.proofs.Totals.{credential_total}
 use Rattle.gov_actions.specs.declared.state.HotState.{HotState}
 use Rattle.maps.proofs.Kept.{IsMap-with_value}
 use Rattle.maps.specs.Maps.{IsMap, with_value}
-use Rattle.live_ledger.specs.ChangedHot.{IsOver}
-use Rattle.live_ledger.specs.ChangedParts.{changed_of}
-use Rattle.live_ledger.specs.Drafts.{Drafted, laid_over, with_hot}
+use Rattle.draft_changes.specs.ChangedHot.{IsOver}
+use Rattle.draft_changes.specs.ChangedParts.{changed_of}
+use Rattle.draft_changes.specs.Changed.{laid_over}
+use Rattle.live_ledger.specs.Drafts.{Drafted, with_hot}
 use Rattle.live_ledger.proofs.DraftChanging.{hot_laid}
 use Rattle.live_ledger.proofs.draft.Draft.set_hot.Goals as goal
 

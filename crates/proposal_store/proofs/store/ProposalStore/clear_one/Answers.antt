@@ -41,5 +41,5 @@ invariant_of-self c =
     let es = a.proposals.entries in
     let kept : c.drop_from.new.proposals.entries ≡ each f es =
     c.drop_from.ensures ∙ ap (λ (ids : List ActionId). each (dropping (Drep drep) ids) es) (c.as_slice.ensures ∙ c.take-ids.ensures.taken) ∙ each_dropped a.voted drep es c.self.invariant.1 in
-    subst (λ (l : List (ActionId × Proposal)). IsStore l a.families a.deposits × AllNoted c.take-ids.new.self (values_of l)) (sym kept)
-    (IsStore-voted f (dropping_votes (Drep drep)) es a.families a.deposits c.self.invariant.0, all_noted_cleared drep a.voted c.take-ids.new.self c.take-ids.ensures.left es c.self.invariant.0.ordered c.self.invariant.1)
+    subst (λ (l : List (ActionId × Proposal)). IsStore l a.families a.added a.deposits × AllNoted c.take-ids.new.self (values_of l)) (sym kept)
+    (IsStore-voted f (dropping_votes (Drep drep)) es a.families a.added a.deposits c.self.invariant.0, all_noted_cleared drep a.voted c.take-ids.new.self c.take-ids.ensures.left es c.self.invariant.0.ordered c.self.invariant.1)

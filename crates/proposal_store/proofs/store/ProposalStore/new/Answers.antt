@@ -9,4 +9,4 @@ use Rattle.proposal_store.proofs.store.ProposalStore.new.Goals as goal
 
 pub invariant_of-result : goal.invariant_of-result
 invariant_of-result c =
-    subst (λ (es : List (ActionId × Proposal)). IsStore es c.new-2.result 0 × AllNoted c.new-3.result (values_of es)) (sym c.new.ensures.empty) (IsStore-none c.new-2.result c.new-2.ensures, tt)
+    subst (λ (es : List (ActionId × Proposal)). IsStore es c.new-2.result c.new-4.result 0 × AllNoted c.new-3.result (values_of es)) (sym c.new.ensures.empty) (IsStore-none c.new-2.result c.new-4.result c.new-2.ensures c.new-4.ensures, tt)

@@ -28,5 +28,5 @@ invariant_of-self c =
     let f = without_vote c.args.v.now in
     let a = c.self.inside in
     let es = a.proposals.entries in
-    subst (λ (l : List (ActionId × Proposal)). IsStore l a.families a.deposits × AllNoted a.voted (values_of l)) (sym c.drop_at.ensures)
-    (IsStore-voted (changing c.args.id.now f) (changing_votes c.args.id.now f (dropping_votes c.args.v.now)) es a.families a.deposits c.self.invariant.0, all_noted_dropped a.voted c.args.id.now c.args.v.now es c.self.invariant.0.ordered c.self.invariant.1)
+    subst (λ (l : List (ActionId × Proposal)). IsStore l a.families a.added a.deposits × AllNoted a.voted (values_of l)) (sym c.drop_at.ensures)
+    (IsStore-voted (changing c.args.id.now f) (changing_votes c.args.id.now f (dropping_votes c.args.v.now)) es a.families a.added a.deposits c.self.invariant.0, all_noted_dropped a.voted c.args.id.now c.args.v.now es c.self.invariant.0.ordered c.self.invariant.1)

@@ -67,7 +67,7 @@ invariant_of-self-in_err-note_voter c =
     let a = c.self.inside in
     let es = a.proposals.entries in
     let p = c.in-Some.p.now in
-    subst (λ (l : List (ActionId × Proposal)). IsStore l a.families a.deposits × AllNoted c.note_voter.new.self (values_of l))
+    subst (λ (l : List (ActionId × Proposal)). IsStore l a.families a.added a.deposits × AllNoted c.note_voter.new.self (values_of l))
     (sym ((c.get_mut.follows.holds p).0 ∙ set_value_same (action_eq.eq-value.it id) es p (sym c.in-Some.ensures.value)))
     (c.self.invariant.0, all_noted_more a.voted c.note_voter.new.self (values_of es) c.in_err-note_voter.ensures.kept c.self.invariant.1)
 
@@ -86,9 +86,9 @@ invariant_of-self-2 c =
     let alone : new ≡ record p { votes = votes } = put_votes c.put_vote.result p new c.args.v c.args.vote ok err in
     let ordered = put_ordered c.put_vote.result p new c.args.v c.args.vote ok err (found_ordered id p es c.self.invariant.0.ordered there) in
     let f : Proposal → Proposal = λ q. record q { votes = votes } in
-    subst (λ (l : List (ActionId × Proposal)). IsStore l a.families a.deposits × AllNoted c.note_voter.new.self (values_of l))
+    subst (λ (l : List (ActionId × Proposal)). IsStore l a.families a.added a.deposits × AllNoted c.note_voter.new.self (values_of l))
     (sym ((c.get_mut.follows.holds new).0 ∙ ap (λ (q : Proposal). set_value (action_eq.eq-value.it id) es q) alone ∙ set_value-each id f p es c.self.invariant.0.keyed c.self.invariant.0.distinct there)) (
-      IsStore-voted (changing id f) (changing_votes id f (setting_votes votes ordered)) es a.families a.deposits c.self.invariant.0,
+      IsStore-voted (changing id f) (changing_votes id f (setting_votes votes ordered)) es a.families a.added a.deposits c.self.invariant.0,
       all_noted_voted c.put_vote.result a.voted c.note_voter.new.self id p new c.args.v c.args.vote es found ok err c.in_ok-note_voter.ensures.kept c.in_ok-note_voter.ensures.noted
           (found_noted a.voted id p (values_of es) c.self.invariant.1 found) c.self.invariant.0.ordered c.self.invariant.1,
     )

@@ -1,0 +1,197 @@
+ghost use Rattle.std.specs.Prelude.{◌≡◌, ◌<◌, ◌^◌, [], IfOk, OnOk, OnErr, if◌then◌else◌, option_map, unwrap_or};
+ghost use Rattle.std.specs.Map.{keys_of};
+ghost use Rattle.gov_ids.specs.Orders.{credential_cmp};
+ghost use Rattle.ledger_model.specs.Changes.{without_drep};
+ghost use Rattle.draft_changes.specs.Balances.{KeepsOutputs, NoneRises};
+ghost use Rattle.draft_changes.specs.ChangedAccounts.{has_left_after, none_changed, standing, standing_of, with_change, with_leaving};
+ghost use Rattle.draft_changes.specs.Changed.{with_registrations};
+ghost use Rattle.maps.specs.Maps.{IsMap, IsSet, value_at};
+ghost use Rattle.stake_book.specs.Stakes.{HasRoom, accounts_of, delegates_to_dreps, without_dreps};
+
+use book_records::Registered;
+use coin_frac::NoMemory;
+use gov_ids::{Credential, Drep};
+use stake_book::StakeBook;
+use std::alloc::Global;
+use std::collections::BTreeMap;
+use std::marker::Model;
+
+/// What a change wrote, and its number among the changes, from 1. (Own)
+#[derive(Clone, Copy)]
+pub struct Written {
+    /// The number of the change.
+    pub number: u64,
+    /// The registration, none where it was ended.
+    pub to: Option<Registered>,
+}
+
+/// The accounts that a draft changed. A DRep that leaves ends the delegations to it that were made before, and none that is made later; the numbers of the changes tell these apart, so that no account is walked. (Own)
+#[derive(Drop)]
+pub struct AccountChanges {
+    entries: BTreeMap<Credential, Written>,
+    left: BTreeMap<Credential, u64>,
+    changes: u64,
+}
+
+impl Model for AccountChanges {
+    ghost use Rattle.std.specs.Map.{keys_of};
+    ghost use Rattle.draft_changes.specs.ChangedAccounts.{ChangedAccounts, standing_of};
+
+    ghost Value = { ChangedAccounts };
+
+    ghost use Rattle.draft_changes.specs.Numbered.{AreNumbered};
+
+    ghost view = { λ a. record {
+      accounts = standing_of a.left.entries a.entries.entries;
+      left = keys_of a.left.entries;
+      changes = a.changes;
+    } };
+
+    ghost invariant = { λ a. AreNumbered a.changes a.left.entries a.entries.entries };
+}
+
+/// Whether the DRep left after the change of this number.
+fn has_left_after(left: &BTreeMap<Credential, u64>, number: u64, drep: &Option<Drep>) -> bool
+    ensures { result ≡ has_left_after left.now.entries number drep.now }
+{
+    match drep {
+        Some(Drep::Registered(c)) => match left.get(c) {
+            Some(leaving) => number < *leaving,
+            None => false,
+        },
+        Some(Drep::Abstain | Drep::NoConfidence) | None => false,
+    }
+}
+
+/// A registration that the change of this number wrote, as it stands: without its delegation to a DRep that left later.
+fn standing(
+    left: &BTreeMap<Credential, u64>,
+    number: u64,
+    to: Option<Registered>,
+) -> Option<Registered>
+    ensures { result ≡ option_map (standing left.now.entries number) to }
+{
+    let r = to?;
+    if has_left_after(left, number, &r.drep) {
+        return Some(Registered { drep: None, ..r });
+    }
+    Some(r)
+}
+
+impl AccountChanges {
+    /// No change.
+    pub fn new(alloc: Global) -> AccountChanges
+        ensures { result ≡ none_changed }
+    {
+        AccountChanges {
+            entries: BTreeMap::new(alloc),
+            left: BTreeMap::new(alloc),
+            changes: 0,
+        }
+    }
+
+    /// The registration of a credential, which had this one before.
+    pub fn latest(&self, c: &Credential, before: Option<Registered>) -> Option<Registered>
+        ensures value { result ≡ unwrap_or (value_at credential_cmp self.now.accounts c.now)
+            (option_map (λ r. if delegates_to_dreps self.now.left r then without_drep r else r) before) }
+        ensures in_order { IsMap credential_cmp self.now.accounts }
+    {
+        match self.entries.get(c) {
+            Some(written) => standing(&self.left, written.number, written.to),
+            None => standing(&self.left, 0, before),
+        }
+    }
+
+    /// The registration of a credential becomes `to`. Want of memory changes nothing.
+    pub fn set(&mut self, c: Credential, to: Option<Registered>) -> Result<(), NoMemory>
+        requires few { self.old.changes < 2 ^ 32 }
+        ensures ok { OnOk result (self.new ≡ with_change c to self.old) }
+        ensures in_order { IsMap credential_cmp self.old.accounts }
+        ensures err { OnErr result (self.new ≡ self.old) }
+    {
+        let number = self.changes + 1;
+        self.entries.insert(c, Written { number, to })?;
+        self.changes = number;
+        Ok(())
+    }
+
+    /// The DRep of a credential leaves: the delegations to it end. Want of memory changes nothing.
+    pub fn leave(&mut self, c: Credential) -> Result<(), NoMemory>
+        requires few { self.old.changes < 2 ^ 32 }
+        ensures ok { OnOk result (self.new ≡ with_leaving c self.old) }
+        ensures in_order { IsMap credential_cmp self.old.accounts }
+        ensures err { OnErr result (self.new ≡ self.old) }
+    {
+        let number = self.changes + 1;
+        self.left.insert(c, number)?;
+        self.changes = number;
+        Ok(())
+    }
+
+    /// The DReps that left, in order.
+    pub fn left(&self, alloc: Global) -> Result<Vec<Credential>, NoMemory>
+        ensures names { IfOk result (λ names. names.items ≡ self.now.left) }
+        ensures in_order { IsSet credential_cmp self.now.left }
+    {
+        names_of(alloc, &self.left)
+    }
+
+    /// The book with these changes, none of which raises a balance; `left` are the DReps that left. It walks the accounts of the book where there are any, and else the changed ones alone.
+    pub fn lay_over(self, stake: StakeBook, left: &[Credential]) -> Result<StakeBook, NoMemory>
+        requires in_order { IsMap credential_cmp (accounts_of stake) }
+        requires room { HasRoom 0 stake }
+        requires lower { NoneRises self.accounts (without_dreps self.left (accounts_of stake)) }
+        requires left { left.now ≡ self.left }
+        ensures accounts { IfOk result (λ after. accounts_of after ≡
+            with_registrations self.accounts (without_dreps self.left (accounts_of stake))) }
+        ensures rest { IfOk result (λ after. KeepsOutputs stake after) }
+    {
+        let stake = without_left(stake, left)?;
+        with_accounts(stake, self.entries, &self.left)
+    }
+}
+
+/// The names of those that left.
+fn names_of(alloc: Global, left: &BTreeMap<Credential, u64>) -> Result<Vec<Credential>, NoMemory>
+    ensures { IfOk result (λ names. names.items ≡ keys_of left.now.entries) }
+{
+    let names = left.iter().map(|(c, _)| *c).collect(alloc)?;
+    Ok(names)
+}
+
+/// The book without the delegations to the DReps that left.
+fn without_left(stake: StakeBook, left: &[Credential]) -> Result<StakeBook, NoMemory>
+    requires in_order { IsMap credential_cmp (accounts_of stake) }
+    requires room { HasRoom 0 stake }
+    ensures accounts { IfOk result (λ after. accounts_of after ≡ without_dreps left.now (accounts_of stake)) }
+    ensures in_order { IfOk result (λ after. IsMap credential_cmp (accounts_of after)) }
+    ensures room { IfOk result (λ after. HasRoom 0 after) }
+    ensures rest { IfOk result (λ after. KeepsOutputs stake after) }
+{
+    if left.is_empty() {
+        return Ok(stake);
+    }
+    let mut stake = stake;
+    stake.clear_dreps(left)?;
+    Ok(stake)
+}
+
+/// The book with these registrations as they stand, none of which raises a balance.
+fn with_accounts(
+    stake: StakeBook,
+    changed: BTreeMap<Credential, Written>,
+    left: &BTreeMap<Credential, u64>,
+) -> Result<StakeBook, NoMemory>
+    requires in_order { IsMap credential_cmp (accounts_of stake) }
+    requires room { HasRoom 0 stake }
+    requires lower { NoneRises (standing_of left.now.entries changed.entries) (accounts_of stake) }
+    ensures accounts { IfOk result (λ after. accounts_of after ≡
+        with_registrations (standing_of left.now.entries changed.entries) (accounts_of stake)) }
+    ensures rest { IfOk result (λ after. KeepsOutputs stake after) }
+{
+    let mut stake = stake;
+    for (credential, written) in changed {
+        stake.set_account(credential, standing(left, written.number, written.to))?;
+    }
+    Ok(stake)
+}

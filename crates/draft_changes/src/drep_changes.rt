@@ -1,0 +1,125 @@
+ghost use Rattle.std.specs.Prelude.{◌≡◌, ◌+◌, ◌<◌, ◌^◌, [], option_map, if◌then◌else◌, IfOk, OnOk, OnErr};
+ghost use Rattle.std.specs.Option.{ForSome};
+ghost use Rattle.gov_ids.specs.Orders.{credential_cmp};
+ghost use Rattle.book_records.specs.Dormancy.{AllFit};
+ghost use Rattle.draft_changes.specs.ChangedDreps.{AllAddable, awakened, laid_over, with_change, with_refresh};
+ghost use Rattle.draft_changes.specs.Changed.{dormant_by, with_dreps};
+ghost use Rattle.maps.specs.Maps.{value_at};
+
+use book_records::DrepState;
+use coin_frac::NoMemory;
+use drep_book::{DrepBook, with_dormant};
+use gov_ids::Credential;
+use std::alloc::Global;
+use std::collections::BTreeMap;
+use std::marker::Model;
+
+/// The DReps that a draft changed, and whether it added the dormant epochs. Those of the book before are read with them added, so that no DRep is walked. (Own)
+#[derive(Drop)]
+pub struct DrepChanges {
+    entries: BTreeMap<Credential, Option<DrepState>>,
+    refreshed: bool,
+}
+
+impl Model for DrepChanges {
+    ghost use Rattle.gov_ids.specs.Orders.{credential_cmp};
+    ghost use Rattle.maps.specs.Maps.{IsMap};
+    ghost use Rattle.draft_changes.specs.ChangedDreps.{ChangedDreps};
+
+    ghost Value = { ChangedDreps };
+
+    ghost view = { λ a. record { dreps = a.entries.entries; refreshed = a.refreshed } };
+
+    ghost invariant = { λ a. IsMap credential_cmp a.entries.entries };
+}
+
+/// A DRep with the dormant epochs added, if they are and it has not expired with them.
+fn awakened(refreshed: bool, drep: Option<DrepState>, epoch: u64, dormant: u64) -> Option<DrepState>
+    ensures { ForSome drep (λ s. s.expiry + dormant < 2 ^ 64) →
+        result ≡ (if refreshed then option_map (awakened epoch dormant) drep else drep) }
+{
+    if !refreshed {
+        return drep;
+    }
+    Some(with_dormant(drep?, epoch, dormant))
+}
+
+impl DrepChanges {
+    /// No DRep is changed; where no epoch is dormant, none is left to be added.
+    pub fn new(alloc: Global, refreshed: bool) -> DrepChanges
+        ensures { result ≡ record { dreps = []; refreshed = refreshed } }
+    {
+        DrepChanges {
+            entries: BTreeMap::new(alloc),
+            refreshed,
+        }
+    }
+
+    /// The DRep of a credential in an epoch, over this book.
+    pub fn latest(&self, c: &Credential, book: &DrepBook, epoch: u64) -> Option<DrepState>
+        requires fit { ForSome (value_at credential_cmp book.now.dreps c.now)
+            (λ s. s.expiry + book.now.dormant < 2 ^ 64) }
+        ensures { result ≡ value_at credential_cmp (laid_over self.now epoch book.now).dreps c.now }
+    {
+        let before = awakened(self.refreshed, book.get(c), epoch, book.dormant());
+        self.entries.get(c).copied().unwrap_or(before)
+    }
+
+    /// The dormant epochs that are left, over this book.
+    pub fn dormant(&self, book: &DrepBook) -> u64
+        ensures { result ≡ dormant_by self.now.refreshed book.now.dormant }
+    {
+        if self.refreshed { 0 } else { book.dormant() }
+    }
+
+    /// The DRep of a credential becomes `to`. Want of memory changes nothing.
+    pub fn set(&mut self, c: Credential, to: Option<DrepState>) -> Result<(), NoMemory>
+        ensures ok { OnOk result (self.new ≡ with_change c to self.old) }
+        ensures err { OnErr result (self.new ≡ self.old) }
+    {
+        self.entries.insert(c, to)?;
+        Ok(())
+    }
+
+    /// The dormant epochs of this book are added, if they are not yet. It walks the changed DReps alone.
+    pub fn refresh(&mut self, book: &DrepBook, epoch: u64)
+        requires fit { AllAddable (dormant_by self.old.refreshed book.now.dormant) self.old.dreps }
+        ensures { self.new ≡ with_refresh epoch book.now.dormant self.old }
+    {
+        if self.refreshed {
+            return;
+        }
+        let dormant = book.dormant();
+        self.entries.retain(|_, to| {
+            *to = awakened(true, *to, epoch, dormant);
+            true
+        });
+        self.refreshed = true;
+    }
+
+    /// The book with these changes, in an epoch. It walks the DReps of the book where dormant epochs were added, and else the changed ones alone.
+    pub fn lay_over(self, book: DrepBook, epoch: u64) -> Result<DrepBook, NoMemory>
+        requires fit { AllFit book.dormant book.dreps }
+        ensures { IfOk result (λ after. after ≡ laid_over self epoch book) }
+    {
+        let mut book = book;
+        if self.refreshed {
+            book.refresh(epoch);
+        }
+        with_dreps(book, self.entries)
+    }
+}
+
+/// The book with these DReps, and without those that left.
+fn with_dreps(
+    book: DrepBook,
+    changed: BTreeMap<Credential, Option<DrepState>>,
+) -> Result<DrepBook, NoMemory>
+    ensures { IfOk result (λ after. after ≡ record book { dreps = with_dreps changed.entries book.dreps }) }
+{
+    let mut book = book;
+    for (c, to) in changed {
+        book.restore(c, to)?;
+    }
+    Ok(book)
+}

@@ -1,7 +1,0 @@
-use Rattle.std.proofs.Common.{◌≡◌}
-use Rattle.live_ledger.specs.Drafts.{with_dreps}
-use Rattle.live_ledger.proofs.drep_changes.with_dreps.Given as goal
-
--- what is left laid over the DReps so far is all laid over the first
-abbrev pub invariant-loop-c : goal.invariant-loop-c
-invariant-loop-c l = record l.book { dreps = with_dreps l.c-iterator l.book.dreps } ≡ record l.fn.book { dreps = with_dreps l.fn.changed.entries l.fn.book.dreps }
