@@ -12,6 +12,7 @@ pub use book_records::{Entry, Registered};
 use coin_frac::NoMemory;
 use gov_ids::Credential;
 use std::alloc::Global;
+use std::collections::btree_map::Iter;
 use std::marker::Model;
 pub use view_map::FrozenIter;
 use view_map::ViewMap;
@@ -116,6 +117,13 @@ impl AccountBook {
         ensures in_order { IsMap credential_cmp (frozen_of credential_cmp self.now) }
     {
         self.view.frozen_len()
+    }
+
+    /// The live entries in the order of credentials, in one walk. It takes no memory. (DState of the formal specification)
+    pub fn iter(&self) -> Iter<'_, Credential, Entry>
+        ensures { result ≡ self.now.live }
+    {
+        self.view.live.iter()
     }
 
     /// The first live entry past a credential, or the first of all, in the order of credentials; none at the end. (DState of the formal specification)

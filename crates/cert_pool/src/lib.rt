@@ -2,6 +2,7 @@
 #![tactic(auto)]
 
 ghost use Rattle.std.specs.Prelude.{◌≡◌, [], ◌++◌, None, option_map, is_none, unwrap_or, OnOk, OnErr, IfOk};
+ghost use Rattle.std.specs.Map.{keys_of};
 ghost use Rattle.gov_ids.specs.Orders.{pool_cmp};
 ghost use Rattle.maps.specs.Maps.{IsMap, value_at, with_value, entry_after};
 ghost use Rattle.maps.specs.Replaced.{with_option};
@@ -121,6 +122,14 @@ impl PoolBook {
     {
         let (p, pool) = self.pools.range(keys_past(after)).next()?;
         Some((*p, *pool))
+    }
+
+    /// The ids of the pools in their order, in one walk. (PState of the formal specification)
+    pub fn ids(&self, alloc: Global) -> Result<Vec<PoolId>, NoMemory>
+        ensures value { IfOk result (λ l. l.items ≡ keys_of self.now) }
+        ensures in_order { IsMap pool_cmp self.now }
+    {
+        Ok(self.pools.keys().copied().collect(alloc)?)
     }
 
     // A pool in place of what the id had.

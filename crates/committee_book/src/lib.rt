@@ -136,6 +136,18 @@ impl HotBook {
         let (cold, s) = self.entries.range(keys_past(after)).next()?;
         Some((*cold, *s))
     }
+
+    /// Each cold key with its hot key or its resignation, in the order of cold keys, in one walk. (GState of the formal specification)
+    pub fn listed(&self, alloc: Global) -> Result<Vec<(Credential, HotState)>, NoMemory>
+        ensures value { IfOk result (λ l. l.items ≡ self.now) }
+        ensures in_order { IsMap credential_cmp self.now }
+    {
+        let mut listed = Vec::new(alloc);
+        for (cold, s) in &self.entries {
+            listed.push((*cold, *s))?;
+        }
+        Ok(listed)
+    }
 }
 
 /// The counts of entries without those of cold keys that are no members.

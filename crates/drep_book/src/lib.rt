@@ -1,7 +1,7 @@
 //! The book of registered DReps, with the dormant count.
 #![tactic(auto)]
 
-ghost use Rattle.std.specs.Prelude.{◌≡◌, ◌+◌, ◌^◌, ◌<◌, [], option_map, OnOk, OnErr, if◌then◌else◌};
+ghost use Rattle.std.specs.Prelude.{◌≡◌, ◌+◌, ◌^◌, ◌<◌, [], map, option_map, IfOk, OnOk, OnErr, if◌then◌else◌};
 ghost use Rattle.gov_ids.specs.Orders.{credential_cmp};
 ghost use Rattle.maps.specs.Maps.{IsMap, value_at, with_value, without_key, entry_after};
 ghost use Rattle.maps.specs.Replaced.{with_option};
@@ -132,6 +132,19 @@ impl DrepBook {
     {
         let (c, s) = self.dreps.range(keys_past(after)).next()?;
         Some((*c, *s))
+    }
+
+    /// Each DRep with the epoch of its expiry, in the order of credentials, in one walk. (GState of the formal specification)
+    pub fn expiries(&self, alloc: Global) -> Result<Vec<(Credential, u64)>, NoMemory>
+        ensures value { IfOk result (λ l. l.items ≡ map (λ e. (e.0, e.1.expiry)) self.now.dreps) }
+        ensures in_order { IsMap credential_cmp self.now.dreps }
+    {
+        Ok(
+            self.dreps
+                .iter()
+                .map(|(c, s)| (*c, s.expiry))
+                .collect(alloc)?,
+        )
     }
 }
 

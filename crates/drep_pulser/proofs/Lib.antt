@@ -3,3 +3,4 @@ pub mod Covered
 pub mod Kept
 pub mod Begun
 pub mod Advance
+mod Ordered

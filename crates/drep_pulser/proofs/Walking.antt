@@ -1,5 +1,5 @@
 -- A walk from key to key goes by the places of a map's entries.
-use Rattle.std.proofs.Common.{Bor, ◌≡◌, ℕ, zero, suc, ◌<◌, ◌≤◌, List, [], ◌∷◌, ◌++◌, true, false, cond, length, take, drop, slice_get, Option, Some, None, option_map, refl, ap, sym, ◌∙◌, arith}
+use Rattle.std.proofs.Common.{Bor, ◌≡◌, ℕ, zero, suc, ◌<◌, ◌≤◌, List, [], ◌∷◌, ◌++◌, true, false, cond, length, take, drop, slice_get, Option, Some, None, option_map, refl, ap, ◌∙◌, arith}
 use Rattle.std.specs.declared.cmp.Ordering.TheVariants.{Less}
 use Rattle.std.specs.Ordering.{is_lt, ordering_reverse}
 use Rattle.std.specs.List.{AllByRecursion}
@@ -7,12 +7,11 @@ use Rattle.std.specs.List.Sorted.{IsStrictlySortedBy}
 use Rattle.std.specs.Map.{keys_of}
 use Rattle.std.specs.Option.{option_copied}
 use Rattle.std.proofs.lemmas.Cmp.{eq_by_cmp_equiv}
-use Rattle.std.proofs.lemmas.Option.{slice_get_within}
 use Rattle.gov_ids.specs.declared.Credential.{Credential}
 use Rattle.gov_ids.specs.Orders.{credential_cmp}
 use Rattle.gov_ids.proofs.Totals.{credential_total}
 use Rattle.maps.proofs.Ties.{is_equal}
-use Rattle.maps.specs.Maps.{IsMap, comes_past, entry_after}
+use Rattle.maps.specs.Maps.{IsMap, comes_past}
 use Rattle.view_map.specs.Walk.{entries_past}
 use Rattle.drep_pulser.specs.Facts.{cursor_at}
 
@@ -91,32 +90,3 @@ module _ {X : Type 0} where
       let passed : comes_past credential_cmp (cursor_at (suc c) es) e.0 ≡ false =
       ap (λ (x : Option (Credential × X)). comes_past credential_cmp (option_map (λ e. e.0) x) e.0) there.1 ∙ below e.0 there.0.0 there.2 in
       ap (λ b. cond b (e ∷ past (cursor_at (suc c) es) es) (past (cursor_at (suc c) es) es)) passed ∙ rest_at (suc c) es h.1 (omega arith)
-
-  first_past : (after : Option Credential) (es : List (Credential × X)) → entry_after credential_cmp after es ≡ slice_get (past after es) 0
-  first_past after [] = refl
-  first_past after (e ∷ es) =
-      elim (comes_past credential_cmp after e.0) as (λ b. cond b (Some e) (entry_after credential_cmp after es) ≡ slice_get (cond b (e ∷ past after es) (past after es)) 0) [ true ↦ refl | false ↦ first_past after es ]
-
-  pub next_at : (c : ℕ) (es : List (Credential × X)) → IsMap credential_cmp es → c ≤ length es → entry_after credential_cmp (cursor_at c es) es ≡ slice_get es c
-  next_at c es h le = first_past (cursor_at c es) es ∙ ap (λ (l : List (Credential × X)). slice_get l 0) (rest_at c es h le) ∙ get_drop es c
-
-  -- what the next entry of a walk is
-  pub next_of : (c : ℕ) (es : List (Credential × X)) (after : Option (Bor Credential)) (last : Option Credential) (r : Option (Credential × X)) → IsMap credential_cmp es → c ≤ length es
-      → option_copied after ≡ last → last ≡ cursor_at c es → r ≡ entry_after credential_cmp (option_map (λ k. k.now) after) es → r ≡ slice_get es c
-  next_of c es after last r h le a l p =
-      p ∙ ap (λ (k : Option Credential). entry_after credential_cmp k es) (sym (copied_is after) ∙ a ∙ l) ∙ next_at c es h le
-
-  pub cursor_next : (c : ℕ) (es : List (Credential × X)) (e : Credential × X) → slice_get es c ≡ Some e → Some e.0 ≡ cursor_at (suc c) es
-  cursor_next c es e m = sym (ap (λ (x : Option (Credential × X)). option_map (λ e. e.0) x) m)
-
-  -- fewer are left behind the next one
-  pub fewer : (c : ℕ) (es : List (Credential × X)) (last : Option Credential) (e : Credential × X) → IsMap credential_cmp es → c ≤ length es → last ≡ cursor_at c es → slice_get es c ≡ Some e
-      → length (past (Some e.0) es) < length (past last es)
-  fewer c es last e h le l m =
-      omega (
-        arith,
-        ap (λ (k : Option Credential). length (past k es)) l,
-        ap (λ (k : Option Credential). length (past k es)) (cursor_next c es e m),
-        ap (λ (l : List (Credential × X)). length l) (rest_at c es h le ∙ cut_at es c e m),
-        ap (λ (l : List (Credential × X)). length l) (rest_at (suc c) es h (omega (arith, slice_get_within es c e m))),
-      )

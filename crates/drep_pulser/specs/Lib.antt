@@ -1,4 +1,5 @@
 pub mod Count
 pub mod Facts
+pub mod Places
 pub mod Pulsers
 pub mod Visits

@@ -1,19 +1,20 @@
-ghost use Rattle.std.specs.Prelude.{◌≡◌, ◌+◌, ◌^◌, ◌<◌, [], IfOk, OnOk};
+ghost use Rattle.std.specs.Prelude.{◌≡◌, ◌+◌, ◌^◌, ◌<◌, None, map, IfSome, IfNone, IfOk};
+ghost use Rattle.gov_ids.specs.declared.Drep.TheVariants.{Registered};
 ghost use Rattle.gov_ids.specs.Orders.{drep_cmp};
-ghost use Rattle.maps.specs.Maps.{with_value, changed_at};
+ghost use Rattle.maps.specs.Maps.{IsMap, value_at, changed_at};
 ghost use Rattle.drep_pulser.specs.Count.{sum_for, no_sums};
+ghost use Rattle.drep_pulser.specs.Places.{IsPlaceOf};
 
 use coin_frac::NoMemory;
 use drep_book::DrepBook;
-use gov_ids::Drep;
+use gov_ids::{Credential, Drep};
 use std::alloc::Global;
-use std::collections::BTreeMap;
 use std::marker::Model;
 
-// The sum of each DRep, in lovelace.
+// The sum of each DRep, in lovelace, in the order of DReps: one is found by halves.
 #[derive(Debug, Drop)]
 pub(crate) struct Sums {
-    amounts: BTreeMap<Drep, u64>,
+    amounts: Vec<(Drep, u64)>,
 }
 
 impl Model for Sums {
@@ -24,9 +25,9 @@ impl Model for Sums {
 
     ghost Value = { List (Drep × ℕ) };
 
-    ghost view = { λ a. a.amounts.entries };
+    ghost view = { λ a. a.amounts.items };
 
-    ghost invariant = { λ a. IsMap drep_cmp a.amounts.entries };
+    ghost invariant = { λ a. IsMap drep_cmp a.amounts.items };
 }
 
 impl Sums {
@@ -34,39 +35,21 @@ impl Sums {
     pub(crate) fn of(alloc: Global, dreps: &DrepBook) -> Result<Sums, NoMemory>
         ensures { IfOk result (λ s. s ≡ no_sums dreps.now.dreps) }
     {
-        let mut sums = Sums::predefined(alloc)?;
-        let mut last = None;
-        while let Some((c, _)) = dreps.next(last.as_ref()) {
-            sums.put(Drep::Registered(c), 0)?;
-            last = Some(c);
-        }
-        Ok(sums)
-    }
-
-    // 0 for the predefined DReps.
-    fn predefined(alloc: Global) -> Result<Sums, NoMemory>
-        ensures { IfOk result (λ s. s ≡ no_sums []) }
-    {
-        let mut sums = Sums {
-            amounts: BTreeMap::new(alloc),
-        };
-        sums.put(Drep::Abstain, 0)?;
-        sums.put(Drep::NoConfidence, 0)?;
-        Ok(sums)
-    }
-
-    fn put(&mut self, d: Drep, n: u64) -> Result<(), NoMemory>
-        ensures { OnOk result (self.new ≡ with_value drep_cmp d n self.old) }
-    {
-        self.amounts.insert(d, n)?;
-        Ok(())
+        let listed = dreps.expiries(alloc)?;
+        let mut amounts = zeros(alloc, listed.as_slice())?;
+        amounts.push((Drep::Abstain, 0))?;
+        amounts.push((Drep::NoConfidence, 0))?;
+        Ok(Sums { amounts })
     }
 
     // The sum of a DRep, 0 where there is none.
     pub(crate) fn get(&self, d: &Drep) -> u64
         ensures { result ≡ sum_for self.now d.now }
     {
-        self.amounts.get(d).copied().unwrap_or(0)
+        match place_of(self.amounts.as_slice(), d) {
+            Some(place) => self.amounts[place].1,
+            None => 0,
+        }
     }
 
     // More for a DRep that has a sum. It takes no memory.
@@ -74,8 +57,29 @@ impl Sums {
         requires { sum_for self.old d.now + n < 2 ^ 64 }
         ensures { self.new ≡ changed_at drep_cmp d.now (λ s. s + n) self.old }
     {
-        if let Some(sum) = self.amounts.get_mut(d) {
-            *sum += n;
+        if let Some(place) = place_of(self.amounts.as_slice(), d) {
+            self.amounts[place].1 += n;
         }
     }
+}
+
+// 0 for each of these registered DReps.
+fn zeros(alloc: Global, dreps: &[(Credential, u64)]) -> Result<Vec<(Drep, u64)>, NoMemory>
+    ensures { IfOk result (λ v. v.items ≡ map (λ e. (Registered e.0, 0)) dreps.now) }
+{
+    Ok(
+        dreps
+            .iter()
+            .map(|(c, _)| (Drep::Registered(*c), 0))
+            .collect(alloc)?,
+    )
+}
+
+// Where the sum of a DRep stands among these, which are in order.
+fn place_of(amounts: &[(Drep, u64)], d: &Drep) -> Option<usize>
+    requires { IsMap drep_cmp amounts.now }
+    ensures there { IfSome result (IsPlaceOf amounts.now d.now) }
+    ensures absent { IfNone result (value_at drep_cmp amounts.now d.now ≡ None) }
+{
+    amounts.binary_search_by_key(d, |amount| amount.0).ok()
 }

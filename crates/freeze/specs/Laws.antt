@@ -1,13 +1,29 @@
 -- What the calls of this crate make of the books is what is frozen of a snapshot; src/laws.rt has a function whose contract is the law.
 use Rattle.std.specs.Prelude.{◌≡◌, ℕ, List, filter_map, map, option_map, unwrap_or}
 use Rattle.maps.specs.Maps.{IsMap, value_at}
+use Rattle.gov_ids.specs.declared.Credential.{Credential}
 use Rattle.gov_ids.specs.declared.PoolId.{PoolId}
 use Rattle.gov_ids.specs.Orders.{pool_cmp}
 use Rattle.book_records.specs.declared.pool.Pool.{Pool}
+use Rattle.gov_model.specs.Sides.{default_of_delegation, default_vote}
 use Rattle.gov_model.specs.Snapshot.{Snapshot}
+use Rattle.gov_model.specs.Stake.{deposits_to, is_staked_with}
 use Rattle.snapshots.specs.Frozen.{frozen_of}
-use Rattle.freeze.specs.Deposits.{paid_with}
-use Rattle.freeze.specs.Pools.{pool_by}
+use Rattle.freeze.specs.Deposits.{paid_by, paid_with, delegates_to}
+use Rattle.freeze.specs.Pools.{delegation_of, pool_by}
+
+-- what is paid to a credential are the deposits that go back to it
+abbrev pub PaidAreDeposits : Type 0
+PaidAreDeposits = (s : Snapshot) (c : Credential) → paid_by s.proposals c ≡ deposits_to s c
+
+-- a credential that delegates to a pool is staked with it
+abbrev pub DelegatingAreStaked : Type 0
+DelegatingAreStaked = (s : Snapshot) (p : PoolId) (c : Credential) → delegates_to s.entries p c ≡ is_staked_with s p c
+
+-- what the delegation of a pool's reward account stands for is the pool's default vote
+abbrev pub DelegationsAreDefaults : Type 0
+DelegationsAreDefaults = (s : Snapshot) (p : PoolId)
+    → default_of_delegation (delegation_of s.entries (value_at pool_cmp s.pool_accounts p)) ≡ default_vote s p
 
 -- where the snapshot has the reward accounts of these pools, and these are the deposits by pool, the pools are those that are frozen
 abbrev pub PoolsAreFrozen : Type 0

@@ -7,6 +7,6 @@ mod pools;
 mod proposals;
 
 pub use deposits::{deposits_by_account, deposits_by_pool};
-pub use laws::pools_are_frozen;
+pub use laws::{pools_are_frozen, words_are_of_snapshots};
 pub use pools::frozen_pools;
 pub use proposals::copied_proposals;

@@ -1,10 +1,13 @@
 -- What a clearing does to entries and registrations, for pools and for DReps. (Own)
-use Rattle.std.specs.Prelude.{Bool, List, Option, Some, None, option_map, if◌then◌else◌}
+use Rattle.std.specs.Prelude.{Bool, List, Option, Some, None, fold, is_some, option_map, if◌then◌else◌}
+use Rattle.std.specs.Map.{keys_of}
+use Rattle.std.specs.Option.{option_and_then}
 use Rattle.gov_ids.specs.declared.Credential.{Credential}
 use Rattle.book_records.specs.declared.Entry.{Entry}
 use Rattle.book_records.specs.declared.Registered.{Registered}
 use Rattle.ledger_model.specs.Changes.{without_drep}
-use Rattle.maps.specs.Maps.{each_value, changed_where}
+use Rattle.gov_ids.specs.Orders.{credential_cmp}
+use Rattle.maps.specs.Maps.{changed_at, changed_where, each_value, entries_where}
 use Rattle.stake_book.specs.declared.leaving.Leaving.{Leaving}
 use Rattle.stake_book.specs.declared.leaving.Leaving.TheVariants.{Pools, Dreps}
 use Rattle.stake_book.specs.Stakes.{delegates_to_dreps, delegates_to_pools, without_pool}
@@ -30,6 +33,14 @@ entry_without l e = record e { registered = option_map (λ r. if is_cleared l r 
 -- the entries without such delegations
 abbrev pub entries_without : Leaving → List (Credential × Entry) → List (Credential × Entry)
 entries_without l entries = each_value (λ c e. entry_without l e) entries
+
+-- the credentials of the entries with such a delegation, in order
+abbrev pub delegating : Leaving → List (Credential × Entry) → List Credential
+delegating l entries = keys_of (entries_where (λ c (e : Entry). is_some (option_and_then (change_of l) e.registered)) entries)
+
+-- the entries without such delegations of these credentials, one after another
+abbrev pub ended_at : Leaving → List Credential → List (Credential × Entry) → List (Credential × Entry)
+ended_at l cs entries = fold (λ es c. changed_at credential_cmp c (entry_without l) es) entries cs
 
 -- the accounts without them
 abbrev pub accounts_without : Leaving → List (Credential × Registered) → List (Credential × Registered)

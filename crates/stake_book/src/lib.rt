@@ -6,14 +6,14 @@ ghost use Rattle.gov_ids.specs.declared.Credential.{Credential};
 ghost use Rattle.gov_ids.specs.Orders.{credential_cmp, outref_cmp, txid_cmp};
 ghost use Rattle.tx_records.specs.declared.limits.TheConstants.{SUPPLY_LIMIT};
 ghost use Rattle.book_records.specs.Outputs.{lovelace_in};
-ghost use Rattle.maps.specs.Maps.{value_at, with_value, with_key, without_member};
+ghost use Rattle.maps.specs.Maps.{value_at, changed_at, with_key, without_member};
 ghost use Rattle.maps.specs.Replaced.{with_option};
 ghost use Rattle.view_map.specs.View.{frozen_of};
 ghost use Rattle.stake_book.specs.Stakes.{AreKept, HasRoom, accounts_of, balances_in, no_stakes, pool_stake_in};
 ghost use Rattle.stake_book.specs.Stakes.{stake_at, with_stake, spent, added, with_account, with_used};
 ghost use Rattle.stake_book.specs.Stakes.{without_pools, without_dreps};
 ghost use Rattle.stake_book.specs.Sums.{weight_in};
-ghost use Rattle.stake_book.specs.Ended.{entry_without, entries_without, accounts_without};
+ghost use Rattle.stake_book.specs.Ended.{entry_without, entries_without, accounts_without, ended_at};
 
 mod leaving;
 mod summed;
@@ -192,13 +192,16 @@ impl StakeBook {
         Ok(())
     }
 
-    /// Ends the delegations to each of some pools; all else stays. It walks the accounts once. Want of memory leaves a book with some of them ended: the caller drops it. (POOLREAP of the formal specification)
+    /// Ends the delegations to each of some pools; all else stays. It walks the accounts once, and not at all for no pool. It takes memory for the accounts that delegate to them alone. Want of memory leaves a book with some of them ended: the caller drops it. (POOLREAP of the formal specification)
     pub fn clear_pools(&mut self, pools: &[PoolId]) -> Result<(), NoMemory>
         ensures outputs { OnOk result (self.new.outputs ≡ self.old.outputs) }
         ensures registered { OnOk result (accounts_of self.new ≡ without_pools pools.now (accounts_of self.old)) }
         ensures frozen { OnOk result (frozen_of credential_cmp self.new.accounts ≡
             frozen_of credential_cmp self.old.accounts) }
     {
+        if pools.is_empty() {
+            return Ok(());
+        }
         let pools = set_of(self.alloc, pools)?;
         self.clear(&Leaving::Pools(pools))?;
         Ok(())
@@ -214,13 +217,16 @@ impl StakeBook {
         self.clear_pools(&[*p])
     }
 
-    /// Ends the delegations to each of some DReps; all else stays. It walks the accounts once. Want of memory leaves a book with some of them ended: the caller drops it. (GOVCERT of the formal specification; that they end at once is own)
+    /// Ends the delegations to each of some DReps; all else stays. It walks the accounts once, and not at all for no DRep. It takes memory for the accounts that delegate to them alone. Want of memory leaves a book with some of them ended: the caller drops it. (GOVCERT of the formal specification; that they end at once is own)
     pub fn clear_dreps(&mut self, dreps: &[Credential]) -> Result<(), NoMemory>
         ensures outputs { OnOk result (self.new.outputs ≡ self.old.outputs) }
         ensures registered { OnOk result (accounts_of self.new ≡ without_dreps dreps.now (accounts_of self.old)) }
         ensures frozen { OnOk result (frozen_of credential_cmp self.new.accounts ≡
             frozen_of credential_cmp self.old.accounts) }
     {
+        if dreps.is_empty() {
+            return Ok(());
+        }
         let dreps = set_of(self.alloc, dreps)?;
         self.clear(&Leaving::Dreps(dreps))?;
         Ok(())
@@ -236,31 +242,41 @@ impl StakeBook {
         self.clear_dreps(&[*c])
     }
 
-    // Ends the delegations to what leaves, account by account.
+    // Ends the delegations to what leaves.
     fn clear(&mut self, leaving: &Leaving) -> Result<(), NoMemory>
         ensures outputs { OnOk result (self.new.outputs ≡ self.old.outputs) }
         ensures live { OnOk result (self.new.accounts.live ≡ entries_without leaving.now self.old.accounts.live) }
         ensures frozen { OnOk result (frozen_of credential_cmp self.new.accounts ≡
             frozen_of credential_cmp self.old.accounts) }
     {
-        let mut last = None;
-        while let Some((c, entry)) = self.accounts.next(last.as_ref()) {
-            self.clear_at(c, entry, leaving)?;
-            last = Some(c);
+        let delegating = self.accounts.delegating(self.alloc, leaving)?;
+        self.clear_each(delegating.as_slice(), leaving)?;
+        Ok(())
+    }
+
+    // Ends the delegations of these accounts to what leaves, one after another.
+    fn clear_each(&mut self, delegating: &[Credential], leaving: &Leaving) -> Result<(), NoMemory>
+        ensures outputs { OnOk result (self.new.outputs ≡ self.old.outputs) }
+        ensures live { OnOk result (self.new.accounts.live ≡
+            ended_at leaving.now delegating.now self.old.accounts.live) }
+        ensures frozen { OnOk result (frozen_of credential_cmp self.new.accounts ≡
+            frozen_of credential_cmp self.old.accounts) }
+    {
+        for c in delegating {
+            self.clear_at(*c, leaving)?;
         }
         Ok(())
     }
 
     // Ends the delegation of one account to what leaves, if it has one.
-    fn clear_at(&mut self, c: Credential, entry: Entry, leaving: &Leaving) -> Result<(), NoMemory>
-        requires kept { AreKept self.old }
-        requires there { value_at credential_cmp self.old.accounts.live c ≡ Some entry }
+    fn clear_at(&mut self, c: Credential, leaving: &Leaving) -> Result<(), NoMemory>
         ensures outputs { OnOk result (self.new.outputs ≡ self.old.outputs) }
         ensures live { OnOk result (self.new.accounts.live ≡
-            with_value credential_cmp c (entry_without leaving.now entry) self.old.accounts.live) }
+            changed_at credential_cmp c (entry_without leaving.now) self.old.accounts.live) }
         ensures frozen { OnOk result (frozen_of credential_cmp self.new.accounts ≡
             frozen_of credential_cmp self.old.accounts) }
     {
+        let entry = self.accounts.entry_of(&c);
         if let Some(changed) = leaving.change(entry.registered) {
             self.set_account(c, Some(changed))?;
         }

@@ -1,14 +1,16 @@
-ghost use Rattle.std.specs.Prelude.{◌≡◌, ◌+◌, ◌-◌, ◌≤◌, ◌^◌, ◌<◌, [], Some, OnOk, OnErr, option_map};
+ghost use Rattle.std.specs.Prelude.{◌≡◌, ◌+◌, ◌-◌, ◌≤◌, ◌^◌, ◌<◌, [], Some, IfOk, OnOk, OnErr};
 ghost use Rattle.gov_ids.specs.declared.PoolId.{PoolId};
 ghost use Rattle.gov_ids.specs.Orders.{credential_cmp};
 ghost use Rattle.tx_records.specs.declared.limits.TheConstants.{SUPPLY_LIMIT};
 ghost use Rattle.coin_frac.specs.Totals.{total_of};
-ghost use Rattle.maps.specs.Maps.{IsMap, entry_after, sum_values};
+ghost use Rattle.maps.specs.Maps.{IsMap, sum_values};
 ghost use Rattle.view_map.specs.View.{frozen_of};
 ghost use Rattle.accounts.specs.Accounts.{with_entry, entered};
+ghost use Rattle.stake_book.specs.Ended.{delegating};
 ghost use Rattle.stake_book.specs.Stakes.{whole_entry};
 ghost use Rattle.stake_book.specs.Sums.{IsRaised, balance_of, pool_of, weight_of, share_of, weight_in, stake_in};
 
+use crate::leaving::Leaving;
 use accounts::AccountBook;
 use book_records::{Entry, Registered};
 use coin_frac::{NoMemory, TotalMap};
@@ -115,12 +117,18 @@ impl SummedAccounts {
         })
     }
 
-    /// The first entry past a credential, or the first of all, in the order of credentials; none at the end. (Own)
-    pub fn next(&self, after: Option<&Credential>) -> Option<(Credential, Entry)>
-        ensures value { result ≡ entry_after credential_cmp (option_map (λ c. c.now) after.entry) self.now.live }
+    /// The credentials of the entries that delegate to what leaves, in order, in one walk. (Own)
+    pub fn delegating(&self, alloc: Global, leaving: &Leaving) -> Result<Vec<Credential>, NoMemory>
+        ensures value { IfOk result (λ cs. cs.items ≡ delegating leaving.now self.now.live) }
         ensures in_order { IsMap credential_cmp self.now.live }
     {
-        self.accounts.next(after)
+        let mut delegating = Vec::new(alloc);
+        for (c, entry) in self.accounts.iter() {
+            if leaving.change(entry.registered).is_some() {
+                delegating.push(*c)?;
+            }
+        }
+        Ok(delegating)
     }
 
     /// The balances, added up, in lovelace. (Own)

@@ -1,35 +1,42 @@
-use Rattle.std.proofs.Common.{◌≡◌, ◌+◌, ℕ, List, Option, Some, None, unwrap_or, ap, sym, ◌∙◌, arith}
-use Rattle.std.specs.BTreeMap.{BTreeMap, is_at}
-use Rattle.std.specs.Map.{set_value}
+use Rattle.std.proofs.Common.{◌≡◌, ◌+◌, ℕ, List, None, ap, subst, sym, ◌∙◌, arith}
 use Rattle.gov_ids.specs.declared.Drep.{Drep}
 use Rattle.gov_ids.specs.Orders.{drep_cmp}
-use Rattle.gov_ids.specs.Derived.{drep_is}
-use Rattle.gov_ids.proofs.Totals.{drep_total}
-use Rattle.maps.proofs.Placed.{changed_at_absent, set_value-changed_at}
-use Rattle.maps.specs.Maps.{value_at, changed_at}
+use Rattle.gov_ids.specs.Same.{same_drep}
+use Rattle.maps.proofs.Kept.{IsMap-changed_where}
+use Rattle.maps.proofs.Placed.{changed_at_absent}
+use Rattle.maps.specs.Maps.{IsMap, value_at, changed_at}
 use Rattle.drep_pulser.specs.Count.{sum_for}
-use Rattle.drep_pulser.proofs.sums.Sums.add.Goals.{in-Some, in_default}
+use Rattle.drep_pulser.specs.Places.{IsPlaceOf}
+use Rattle.drep_pulser.proofs.Ordered.{sum_there, more_there}
 use Rattle.drep_pulser.proofs.sums.Sums.add.Goals as goal
 
-pub overflow_add-sum : goal.overflow_add-sum
-overflow_add-sum c =
+pub overflow_add-index_mut : goal.overflow_add-index_mut
+overflow_add-index_mut c =
+    let sums = c.self.inside.amounts.items in
     let d = c.args.d.now in
-    let here : value_at drep_cmp c.self.inside.amounts.entries d ≡ Some c.in-Some.sum.now = sym (c.in-Some.ensures.value ∙ (λ i. value_at (drep_is i) c.self.inside.amounts.entries d)) in
-    let is : sum_for c.args.self.now d ≡ c.in-Some.sum.now = ap (λ (es : List (Drep × ℕ)). sum_for es d) (sym c.self.view_is) ∙ ap (λ (v : Option ℕ). unwrap_or v 0) here in
+    let there = subst (λ (es : List (Drep × ℕ)). IsPlaceOf es d c.in-Some.place) c.as_slice.ensures.value c.in-Some.ensures.there in
+    let is : sum_for c.args.self.now d ≡ c.index_mut.result.now.1 =
+    ap (λ (es : List (Drep × ℕ)). sum_for es d) (sym c.self.view_is) ∙ sum_there sums d c.in-Some.place c.index_mut.result.now c.self.invariant there c.index_mut.ensures.value in
     omega (arith, is, c.requires)
 
-pub returns : goal.returns
-returns c =
+pub invariant_of-self : goal.invariant_of-self
+invariant_of-self c =
+    let sums = c.self.inside.amounts.items in
     let d = c.args.d.now in
-    let more : ℕ → ℕ = λ s. s + c.args.n in
-    let sums = c.self.inside.amounts.entries in
-    let written : changed_at drep_cmp d more sums ≡ changed_at drep_cmp d more c.args.self.now = ap (λ (es : List (Drep × ℕ)). changed_at drep_cmp d more es) c.self.view_is in
-    elim c.match-get_mut.branch [
-      | in-Some w ↦
-          let sum = w.in-Some.sum.now in
-          let here : value_at drep_cmp sums d ≡ Some sum = sym (w.in-Some.ensures.value ∙ (λ i. value_at (drep_is i) sums d)) in
-          rw w.self-inside-is ((c.get_mut.follows.holds (more sum)).0 ∙ (λ i. set_value (is_at (drep_is i d)) sums (more sum)) ∙ set_value-changed_at drep_total d more sum sums c.self.invariant here ∙ written)
-      | in_default w ↦
-          let absent : value_at drep_cmp sums d ≡ None = sym (w.in_default.ensures.value ∙ (λ i. value_at (drep_is i) sums d)) in
-          rw w.self-inside-is (ap (λ (m : BTreeMap Drep ℕ). m.entries) c.get_mut.follows.holds-at-none ∙ sym (changed_at_absent drep_cmp d more sums absent) ∙ written)
-    ]
+    let there = subst (λ (es : List (Drep × ℕ)). IsPlaceOf es d c.in-Some.place) c.as_slice.ensures.value c.in-Some.ensures.there in
+    subst (λ (es : List (Drep × ℕ)). IsMap drep_cmp es) (sym (more_there sums d c.in-Some.place c.args.n c.index_mut.result.now c.self.invariant there c.index_mut.ensures.value))
+    (IsMap-changed_where drep_cmp (λ q (s : ℕ). same_drep d q) (λ s. s + c.args.n) sums c.self.invariant)
+
+pub returns-in-Some : goal.returns-in-Some
+returns-in-Some c =
+    let sums = c.self.inside.amounts.items in
+    let d = c.args.d.now in
+    let there = subst (λ (es : List (Drep × ℕ)). IsPlaceOf es d c.in-Some.place) c.as_slice.ensures.value c.in-Some.ensures.there in
+    more_there sums d c.in-Some.place c.args.n c.index_mut.result.now c.self.invariant there c.index_mut.ensures.value
+    ∙ ap (λ (es : List (Drep × ℕ)). changed_at drep_cmp d (λ s. s + c.args.n) es) c.self.view_is
+
+pub returns-in_default : goal.returns-in_default
+returns-in_default c =
+    let d = c.args.d.now in
+    let absent : value_at drep_cmp c.args.self.now d ≡ None = ap (λ (es : List (Drep × ℕ)). value_at drep_cmp es d) (sym (c.as_slice.ensures.value ∙ c.self.view_is)) ∙ c.in_default.ensures.absent in
+    sym (changed_at_absent drep_cmp d (λ s. s + c.args.n) c.args.self.now absent)
