@@ -55,3 +55,8 @@ frozen_entries b = frozen_of credential_cmp b.stake.accounts
 pub record HoldsSupply (b : Books) : Type 0 where
   pub balanced : supply_of (ledger_of_books b) ≡ b.supply
   pub within : b.supply ≤ SUPPLY_LIMIT
+
+-- the World of the parts after a step is what the step makes of that before, whatever is frozen and counted
+abbrev pub IsStep : (World → World) → Books → Books → Type 0
+IsStep step before after =
+    (counted : ℕ) (f : Snapshot) → world_of_books after counted f ≡ step (world_of_books before counted f)

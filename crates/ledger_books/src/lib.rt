@@ -1,6 +1,8 @@
 //! All parts of a ledger but what is frozen and counted: what a boundary works on.
 #![tactic(auto)]
 
+mod treasury;
+
 use cert_pool::PoolBook;
 use committee_book::HotBook;
 use drep_book::DrepBook;
@@ -9,6 +11,7 @@ use listed::Boxed;
 use proposal_store::ProposalStore;
 use snapshots::Snapshots;
 use stake_book::StakeBook;
+pub use treasury::with_treasury;
 use tx_records::Rewards;
 
 /// All parts of a ledger but what is frozen and counted. (NewEpochState of the formal specification)

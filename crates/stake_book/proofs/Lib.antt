@@ -3,6 +3,7 @@ mod Entering
 mod Kept
 pub mod Ended
 mod Moves
+mod Paying
 mod Pools
 mod Registrations
 mod Sums

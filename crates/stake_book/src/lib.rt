@@ -16,6 +16,7 @@ ghost use Rattle.stake_book.specs.Sums.{weight_in};
 ghost use Rattle.stake_book.specs.Ended.{entry_without, entries_without, accounts_without, ended_at};
 
 mod leaving;
+mod pay;
 mod summed;
 
 use accounts::AccountBook;

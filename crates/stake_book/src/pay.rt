@@ -1,0 +1,31 @@
+ghost use Rattle.std.specs.Prelude.{◌≡◌, true, IfOk, OnOk, OnErr};
+ghost use Rattle.gov_ids.specs.Orders.{credential_cmp};
+ghost use Rattle.maps.specs.Maps.{has_key};
+ghost use Rattle.stake_book.specs.Paid.{with_payment};
+ghost use Rattle.stake_book.specs.Stakes.{AreKept, HasRoom, accounts_of};
+ghost use Rattle.view_map.specs.View.{frozen_of};
+
+use crate::StakeBook;
+use book_records::Registered;
+use coin_frac::NoMemory;
+use gov_ids::Credential;
+
+impl StakeBook {
+    /// Adds an amount, in lovelace, to the reward balance of an account, and says whether it is registered; nothing changes where it is not. Want of memory changes nothing. (EPOCH and POOLREAP of the formal specification)
+    pub fn pay(&mut self, c: &Credential, amount: u64) -> Result<bool, NoMemory>
+        requires room { has_key credential_cmp (accounts_of self.old) c.now ≡ true → HasRoom amount self.old }
+        ensures paid { IfOk result (λ b. b ≡ has_key credential_cmp (accounts_of self.old) c.now) }
+        ensures registered { OnOk result (accounts_of self.new ≡ with_payment c.now amount (accounts_of self.old)) }
+        ensures outputs { self.new.outputs ≡ self.old.outputs }
+        ensures frozen { frozen_of credential_cmp self.new.accounts ≡ frozen_of credential_cmp self.old.accounts }
+        ensures err { OnErr result (self.new ≡ self.old) }
+        ensures kept { AreKept self.old }
+    {
+        let Some(r) = self.account(c) else {
+            return Ok(false);
+        };
+        let rewards = r.rewards + amount;
+        self.set_account(*c, Some(Registered { rewards, ..r }))?;
+        Ok(true)
+    }
+}
