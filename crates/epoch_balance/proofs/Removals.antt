@@ -77,16 +77,19 @@ filter-twice p q (x ∷ xs) = elim (p x) as (λ b. filter q (cond b (x ∷ filte
 abbrev deposit_of : Proposal → ℕ
 deposit_of p = p.deposit
 
+-- those whose id is among what a filter of a filter keeps are what it keeps
+pub kept-self : (p q : Proposal → Bool) (xs : List Proposal) → HaveDistinctIds xs → filter (is_one_of (ids_of (filter q (filter p xs)))) xs ≡ filter q (filter p xs)
+kept-self p q xs d =
+    let twice : filter q (filter p xs) ≡ filter (λ x. p x && q x) xs = filter-twice p q xs in
+    ap (λ (list : List Proposal). filter (is_one_of (ids_of list)) xs) twice ∙ filter-self (λ x. p x && q x) xs d ∙ sym twice
+
 -- what a filter of a filter keeps, and the others, are all
 parted : (p q : Proposal → Bool) (xs : List Proposal) → HaveDistinctIds xs
     → sum_by deposit_of (filter q (filter p xs)) + sum_by deposit_of (filter (λ x. not (is_one_of (ids_of (filter q (filter p xs))) x)) xs) ≡ sum_by deposit_of xs
 parted p q xs d =
     let all : sum_by deposit_of (filter (is_one_of (ids_of (filter q (filter p xs)))) xs) + sum_by deposit_of (filter (λ x. not (is_one_of (ids_of (filter q (filter p xs))) x)) xs) ≡ sum_by deposit_of xs =
     sum-parted deposit_of (is_one_of (ids_of (filter q (filter p xs)))) xs in
-    let twice : filter q (filter p xs) ≡ filter (λ x. p x && q x) xs = filter-twice p q xs in
-    let self : filter (is_one_of (ids_of (filter q (filter p xs)))) xs ≡ filter q (filter p xs) =
-    ap (λ (list : List Proposal). filter (is_one_of (ids_of list)) xs) twice ∙ filter-self (λ x. p x && q x) xs d ∙ sym twice in
-    omega (arith, all, ap (λ (list : List Proposal). sum_by deposit_of list) self)
+    omega (arith, all, ap (λ (list : List Proposal). sum_by deposit_of list) (kept-self p q xs d))
 
 module _ (w : World) (m : HasAccounts w.ledger) (d : HaveDistinctIds w.ledger.proposals) where
   -- the ledger with the kept proposals alone

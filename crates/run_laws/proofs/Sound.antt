@@ -62,6 +62,7 @@ use Rattle.epoch_balance.proofs.Whole.{boundary_balances}
 use Rattle.genesis_balance.proofs.Start.{IsUnbrokenGenesis, empty_sorted, from_none, genesis_holds_supply, unbroken_genesis}
 use Rattle.dormant_laws.proofs.Dormant.{AreActive, IsActive, IsActiveLedger, IsActiveUpdate, IsBounded, accepted_bounded, bounded_ledger, boundary_within, genesis_bounded, law_of_bounded}
 use Rattle.dormant_laws.proofs.Lists.{all_append, all_made, all_passing, left_of, right_of}
+use Rattle.run_laws.specs.Boundaries.{BoundariesKeepSound}
 use Rattle.run_laws.proofs.Good.{IsGood, IsGoodLedger}
 use Rattle.run_laws.proofs.GoodBlock.{boundary_epoch, boundary_good, pulsed_good, update_good, update_only}
 use Rattle.run_laws.proofs.Reach.{accepted_good, accepted_moves}
@@ -269,8 +270,8 @@ votes_updated : (o : Option Rewards) (l : Ledger) → HaveVotes l.proposals → 
 votes_updated None l h = h
 votes_updated (Some u) l h = h
 
-boundary_sound : (w : World) (slot : ℕ) → IsSoundWorld w → enters_next w.ledger slot ≡ true → slot < 2 ^ 62 → IsSoundWorld (world_after_boundary w)
-boundary_sound w slot s enters early =
+pub boundaries_keep_sound : BoundariesKeepSound
+boundaries_keep_sound w s early =
     let good : IsGood w = good_of w s in
     let l : Ledger = (after_rewards w).ledger in
     let m : Ledger = (world_after_boundary w).ledger in
@@ -283,7 +284,6 @@ boundary_sound w slot s enters early =
     let lg : IsGoodLedger l = update_good w.pending w.ledger good.ledger in
     let votes : HaveVotes m.proposals = all_passing (λ (p : Proposal). IsMap voter_cmp p.votes) _ _ (all_passing (λ (p : Proposal). IsMap voter_cmp p.votes) _ l.proposals (votes_updated w.pending w.ledger s.ledger.proposals.votes)) in
     let next : m.epoch ≡ w.ledger.epoch + 1 = boundary_epoch w in
-    let reached : epoch_at w.ledger slot ≡ w.ledger.epoch + 1 = eqb-true (epoch_at w.ledger slot) (w.ledger.epoch + 1) enters in
     let sound : IsSoundLedger m = sound_ledger m g.ledger b.ledger (record {
       votes = votes;
       committee = seated_after w.frozen.start.committee (last_or None (map (λ (a : ActionId × Action). a.1) (map (λ (a : Proposal). (a.id, a.action)) (enacted_proposals w)))) s.frozen.committee;
@@ -291,7 +291,7 @@ boundary_sound w slot s enters early =
       within = omega (arith, same, s.ledger.within);
       lasting = omega (arith, ap (λ (x : Ledger). x.epoch_length) (sym (update_only w.pending w.ledger)), s.ledger.lasting);
       slot = omega (arith, ap (λ (x : Ledger). x.slot) (sym (update_only w.pending w.ledger)), s.ledger.slot);
-      epoch = omega (arith, next, reached, div-le_self slot w.ledger.epoch_length, early);
+      epoch = omega (arith, next, early);
     }) in
     world_sound (on_ledger (λ (x : Ledger). record x { epoch = x.epoch + 1 }) (after_dormancy w)) sound g.frozen
     (pools_sound m.supply l lg.sound.pools lg.sound.accounts (omega (arith, first, same, s.ledger.balanced)))
@@ -300,7 +300,9 @@ boundary_sound w slot s enters early =
     (omega (arith, first, same, s.ledger.balanced))
 
 crossed_sound : (b : Bool) (w : World) (slot : ℕ) → IsSoundWorld w → enters_next w.ledger slot ≡ b → slot < 2 ^ 62 → IsSoundWorld (crossed b w)
-crossed_sound true w slot s e early = boundary_sound w slot s e early
+crossed_sound true w slot s e early =
+    let reached : epoch_at w.ledger slot ≡ w.ledger.epoch + 1 = eqb-true (epoch_at w.ledger slot) (w.ledger.epoch + 1) e in
+    boundaries_keep_sound w s (omega (arith, reached, div-le_self slot w.ledger.epoch_length, early))
 crossed_sound false w slot s e early = s
 
 -- ---- a pulse

@@ -1,3 +1,4 @@
+ghost use Rattle.run_laws.specs.Boundaries.{BoundariesKeepSound};
 ghost use Rattle.run_model.specs.Laws.{CountedIsThePulses, EpochsRatifyOneList, FlowsBalance, PulsesDoNotShow, StandsBetweenBoundaries, SupplyStays};
 ghost use Rattle.run_model.specs.SoundLaws.{DrepStakesAreWithin, GenesisBeginsSound, PoolStakesAreWithin, RecordsKeepSound};
 
@@ -39,6 +40,11 @@ pub fn genesis_begins_sound()
 /// Each record leaves a sound state sound: so a ledger that keeps it as its invariant keeps it for ever. (Own)
 pub fn records_keep_sound()
     ensures { RecordsKeepSound }
+{}
+
+/// A boundary out of an epoch below 2^62 leaves a sound state sound. (Own)
+pub fn boundaries_keep_sound()
+    ensures { BoundariesKeepSound }
 {}
 
 /// The stakes of the DReps of a sound snapshot are together at most the supply, in lovelace: each entry weighs for one at most. (Own)

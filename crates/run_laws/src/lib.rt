@@ -4,7 +4,7 @@
 mod laws;
 
 pub use laws::{
-    counted_is_the_pulses, drep_stakes_are_within, epochs_ratify_one_list, flows_balance,
-    genesis_begins_sound, pool_stakes_are_within, pulses_do_not_show, records_keep_sound,
-    stands_between_boundaries, supply_stays,
+    boundaries_keep_sound, counted_is_the_pulses, drep_stakes_are_within, epochs_ratify_one_list,
+    flows_balance, genesis_begins_sound, pool_stakes_are_within, pulses_do_not_show,
+    records_keep_sound, stands_between_boundaries, supply_stays,
 };
