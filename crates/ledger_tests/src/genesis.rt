@@ -5,6 +5,7 @@ use gov_ids::{Address, CredKind, Credential, OutRef, TxId};
 use live_ledger::{GenesisFault, LiveLedger};
 use listed::Listed;
 use pparams::Params;
+use snapshots::Snapshots;
 use std::alloc::Global;
 use std::test::Fail;
 use tx_records::{Genesis, GenesisCommittee, GenesisRule};
@@ -220,5 +221,31 @@ fn tells_the_first_rule_that_a_genesis_breaks(rt: HostRuntime) -> Result<(), Fai
         let genesis = genesis_of(rt.alloc(), supply, member, output, network)?;
         assert!(rt; fault_of(rt.alloc(), &genesis) == Some(GenesisFault::Broken(rule)));
     }
+    Ok(())
+}
+
+/// Stakes of no pool, and 4 lovelace of fees.
+fn no_stakes(alloc: Global) -> Snapshots {
+    Snapshots {
+        mark: Listed::new(alloc),
+        set: Listed::new(alloc),
+        go: Listed::new(alloc),
+        fees: 4,
+    }
+}
+
+#[test]
+fn gives_its_parts_and_takes_them(rt: HostRuntime) -> Result<(), Fail> {
+    let genesis = genesis_of(rt.alloc(), 100, 2, 1, 0)?;
+    let Some(Ok(ledger)) = started(rt.alloc(), &genesis) else {
+        panic!(rt; "no ledger")
+    };
+    let books = ledger.into_books(no_stakes(rt.alloc()), None);
+    assert!(rt; books.length == 2 && books.reserves == 7 && books.snapshots.fees == 4);
+    let (ledger, snapshots, pending) = LiveLedger::of_books(rt.alloc(), books);
+    let ledger = ledger.at_slot(9);
+    let numbers = [90, 0, 0, 0, 0, 3, 7, 0, 9, 100, 2, 1, 7, 3, 0, 0, 18];
+    assert!(rt; numbers_of(&ledger).as_slice() == numbers.as_slice());
+    assert!(rt; snapshots.fees == 4 && pending.is_none());
     Ok(())
 }

@@ -1,5 +1,5 @@
 -- The first broken rule of a transaction, group after group, and what its step makes of the ledger.
-use Rattle.std.proofs.Common.{◌≡◌, List, [], ◌++◌, Result, Ok, Option, Some, None, true, is_none, subst, refl, ap, sym, ◌∙◌, append_assoc, append-nil}
+use Rattle.std.proofs.Common.{◌≡◌, List, ◌++◌, Result, Ok, Option, Some, None, true, is_none, subst, refl, ap, sym, ◌∙◌, append_assoc}
 use Rattle.std.specs.Prelude.{⊤}
 use Rattle.maps.specs.Words.{or_else}
 use Rattle.tx_records.specs.declared.reply.Reply.TheVariants.{Refused}
