@@ -2,8 +2,8 @@
 use coin_frac::{FracFault, NoMemory, Ratio, Unit};
 use gov_actions::HotState;
 use gov_ids::{Address, CredKind, Credential, OutRef, TxId};
-use live_ledger::{GenesisFault, LiveLedger};
 use listed::Listed;
+use live_ledger::{GenesisFault, LiveLedger};
 use pparams::Params;
 use snapshots::Snapshots;
 use std::alloc::Global;
