@@ -1,0 +1,37 @@
+ghost use Rattle.std.specs.Prelude.{◌≡◌};
+ghost use Rattle.ledger_state.specs.Parts.{world_of_parts};
+ghost use Rattle.ledger_state.specs.Worlds.{IsHeldBy};
+
+use super::LedgerState;
+use drep_pulser::Pulser;
+use ledger_books::Books;
+use live_ledger::LiveLedger;
+use snapshots::Frozen;
+use std::alloc::Global;
+
+impl LedgerState {
+    /// The parts of the state: its books, its frozen copy and its count, of which it can be made again. It takes no memory. (Own)
+    pub fn into_books(self) -> (Books, Frozen, Pulser)
+        ensures world { world_of_parts result.0 result.1 result.2 ≡ self }
+        ensures held { IsHeldBy self result.1 result.2 }
+    {
+        let books = self.live.into_books(self.snapshots, self.pending);
+        (books, self.frozen, self.pulser)
+    }
+
+    /// The state of these parts. It takes no memory. (Own)
+    pub fn from_books(alloc: Global, b: Books, f: Frozen, p: Pulser) -> LedgerState
+        requires { IsHeldBy (world_of_parts b f p) f p }
+        ensures { result ≡ world_of_parts b f p }
+    {
+        let (live, snapshots, pending) = LiveLedger::of_books(alloc, b);
+        LedgerState {
+            alloc,
+            live,
+            snapshots,
+            pending,
+            frozen: f,
+            pulser: p,
+        }
+    }
+}
