@@ -5,20 +5,22 @@ use Rattle.std.specs.Cmp.{IsEquivalence}
 use Rattle.std.proofs.lemmas.Cmp.{eq_by_cmp_equiv}
 use Rattle.maps.proofs.Credits.{sum-parted}
 use Rattle.gov_ids.specs.declared.ActionId.{ActionId}
+use Rattle.gov_ids.specs.declared.Credential.{Credential}
 use Rattle.gov_ids.specs.Same.{same_action}
 use Rattle.gov_ids.proofs.Totals.{action_id_total}
 use Rattle.gov_actions.specs.declared.action.Proposal.{Proposal}
+use Rattle.gov_model.specs.Kept.{kept_of}
 use Rattle.gov_model.specs.Laws.{HaveDistinctIds}
-use Rattle.gov_model.specs.Ratified.{ids_of, is_one_of}
+use Rattle.gov_model.specs.Proposals.{others_than}
+use Rattle.gov_model.specs.Ratified.{expired_of, ids_of, is_one_of, ratified_of}
 use Rattle.ledger_model.proofs.SameSums.{sum_by-map}
 use Rattle.ledger_model.specs.Ledger.{Ledger}
 use Rattle.ledger_model.specs.Supply.{pots_of}
 use Rattle.ledger_model.specs.Flows.{Pot, outputs, deposits, rewards, fees, donations, treasury, reserves, hand, same_pot}
 use Rattle.ledger_model.specs.Moves.{IsMovedBy, held_in}
-use Rattle.run_model.specs.Boundary.{kept_proposals, removed_proposals, proposal_refunds, removals_made}
+use Rattle.run_model.specs.Boundary.{paid_out}
 use Rattle.run_model.specs.BoundaryFlows.{payment}
-use Rattle.run_model.specs.World.{World}
-use Rattle.epoch_balance.specs.StepLaws.{HasAccounts, RemovalsBalance}
+use Rattle.epoch_balance.specs.StepLaws.{CutsBalance, HasAccounts, RemovalsBalance}
 use Rattle.epoch_balance.proofs.Payments.{amount_of, refunds_move}
 
 same_equiv : IsEquivalence same_action
@@ -91,18 +93,26 @@ parted p q xs d =
     sum-parted deposit_of (is_one_of (ids_of (filter q (filter p xs)))) xs in
     omega (arith, all, ap (λ (list : List Proposal). sum_by deposit_of list) (kept-self p q xs d))
 
-module _ (w : World) (m : HasAccounts w.ledger) (d : HaveDistinctIds w.ledger.proposals) where
+module _ (l : Ledger) (enacted expired : List ActionId) (m : HasAccounts l) (d : HaveDistinctIds l.proposals) where
+  -- those that stay
+  abbrev kept : List Proposal
+  kept = kept_of l.proposals enacted expired l.state.last
+
+  -- the deposits of the others
+  abbrev refunds : List (Credential × ℕ)
+  refunds = map (λ (p : Proposal). (p.account.cred, p.deposit)) (others_than (ids_of kept) l.proposals)
+
   -- the ledger with the kept proposals alone
   abbrev cut : Ledger
-  cut = record w.ledger { proposals = kept_proposals w }
+  cut = record l { proposals = kept }
 
-  proposals_parted : sum_by deposit_of (kept_proposals w) + sum_by amount_of (proposal_refunds w) ≡ sum_by deposit_of w.ledger.proposals
+  proposals_parted : sum_by deposit_of kept + sum_by amount_of refunds ≡ sum_by deposit_of l.proposals
   proposals_parted =
-      let parts : sum_by deposit_of (kept_proposals w) + sum_by deposit_of (removed_proposals w) ≡ sum_by deposit_of w.ledger.proposals = parted _ _ w.ledger.proposals d in
-      omega (arith, parts, sum_by-map amount_of (λ (p : Proposal). (p.account.cred, p.deposit)) (removed_proposals w))
+      let parts : sum_by deposit_of kept + sum_by deposit_of (others_than (ids_of kept) l.proposals) ≡ sum_by deposit_of l.proposals = parted _ _ l.proposals d in
+      omega (arith, parts, sum_by-map amount_of (λ (p : Proposal). (p.account.cred, p.deposit)) (others_than (ids_of kept) l.proposals))
 
   -- it lacks the deposits of the others
-  cut_pots : (p : Pot) → held_in p (pots_of cut) + cond (same_pot deposits p) (sum_by amount_of (proposal_refunds w)) 0 ≡ held_in p (pots_of w.ledger)
+  cut_pots : (p : Pot) → held_in p (pots_of cut) + cond (same_pot deposits p) (sum_by amount_of refunds) 0 ≡ held_in p (pots_of l)
   cut_pots outputs = omega arith
   cut_pots deposits = omega (arith, proposals_parted)
   cut_pots rewards = omega arith
@@ -112,8 +122,11 @@ module _ (w : World) (m : HasAccounts w.ledger) (d : HaveDistinctIds w.ledger.pr
   cut_pots reserves = omega arith
   cut_pots hand = omega arith
 
-  removals_move : IsMovedBy (map (payment deposits w.ledger) (proposal_refunds w)) (pots_of w.ledger) (pots_of (removals_made w).ledger)
-  removals_move = refunds_move w.ledger cut (proposal_refunds w) m (λ c. refl) cut_pots
+  cut_moves : IsMovedBy (map (payment deposits l) refunds) (pots_of l) (pots_of (paid_out refunds cut))
+  cut_moves = refunds_move l cut refunds m (λ c. refl) cut_pots
+
+pub cuts_balance : CutsBalance
+cuts_balance l enacted expired m d = cut_moves l enacted expired m d
 
 pub removals_balance : RemovalsBalance
-removals_balance w m d = removals_move w m d
+removals_balance w m d = cut_moves w.ledger (ratified_of w.frozen) (expired_of w.frozen (ratified_of w.frozen)) m d

@@ -1,15 +1,20 @@
 -- The laws on the steps of a boundary: each moves the pots by its flows. src/steps.rt has a function for each, whose contract is the law.
 use Rattle.std.specs.Prelude.{◌≡◌, ℕ, ◌≤◌, List, [], ◌∷◌, Some, map}
 use Rattle.maps.specs.Maps.{IsMap}
+use Rattle.gov_ids.specs.declared.ActionId.{ActionId}
 use Rattle.gov_ids.specs.declared.Credential.{Credential}
 use Rattle.gov_ids.specs.Orders.{credential_cmp}
 use Rattle.tx_records.specs.declared.record.Rewards.{Rewards}
+use Rattle.gov_actions.specs.declared.action.Proposal.{Proposal}
+use Rattle.gov_model.specs.Kept.{kept_of}
 use Rattle.gov_model.specs.Laws.{HaveDistinctIds}
+use Rattle.gov_model.specs.Proposals.{others_than}
+use Rattle.gov_model.specs.Ratified.{ids_of}
 use Rattle.ledger_model.specs.Ledger.{Ledger}
 use Rattle.ledger_model.specs.Supply.{pots_of}
 use Rattle.ledger_model.specs.Flows.{deposits, donations, treasury, flow}
 use Rattle.ledger_model.specs.Moves.{IsMovedBy}
-use Rattle.run_model.specs.Boundary.{after_rewards, marked, terms_turned, pool_refunds, reaped, enacted, claimed, withdrawals_paid, proposal_refunds, removals_made, donations_joined, members_only, dormancy_noted, begun}
+use Rattle.run_model.specs.Boundary.{after_rewards, marked, terms_turned, pool_refunds, reaped, enacted, claimed, paid_out, withdrawals_paid, proposal_refunds, removals_made, donations_joined, members_only, dormancy_noted, begun}
 use Rattle.run_model.specs.BoundaryFlows.{payment, flows_of_update, flows_of_targets}
 use Rattle.run_model.specs.Laws.{IsCoveredUpdate}
 use Rattle.run_model.specs.World.{World}
@@ -54,6 +59,13 @@ abbrev pub RemovalsBalance : Type 0
 RemovalsBalance = (w : World) → HasAccounts w.ledger → HaveDistinctIds w.ledger.proposals →
     IsMovedBy (map (payment deposits w.ledger) (proposal_refunds w))
     (pots_of w.ledger) (pots_of (removals_made w).ledger)
+
+-- 6: the same by any lists of those that are enacted and of those that have expired
+abbrev pub CutsBalance : Type 0
+CutsBalance = (l : Ledger) (enacted expired : List ActionId) → HasAccounts l → HaveDistinctIds l.proposals →
+    let kept : List Proposal = kept_of l.proposals enacted expired l.state.last in
+    let refunds : List (Credential × ℕ) = map (λ (p : Proposal). (p.account.cred, p.deposit)) (others_than (ids_of kept) l.proposals) in
+    IsMovedBy (map (payment deposits l) refunds) (pots_of l) (pots_of (paid_out refunds (record l { proposals = kept })))
 
 -- 7: the donations join the treasury
 abbrev pub DonationsBalance : Type 0

@@ -1,4 +1,4 @@
-ghost use Rattle.epoch_balance.specs.StepLaws.{DonationsBalance, DormancyBalances, EnactmentBalances, FreezeBalances, MembersBalance, PaymentsBalance, PoolsBalance, RemovalsBalance, RewardsBalance, SnapshotsBalance, TermsBalance};
+ghost use Rattle.epoch_balance.specs.StepLaws.{CutsBalance, DonationsBalance, DormancyBalances, EnactmentBalances, FreezeBalances, MembersBalance, PaymentsBalance, PoolsBalance, RemovalsBalance, RewardsBalance, SnapshotsBalance, TermsBalance};
 
 /// The pending reward update moves each pot by its flows, where accounts stand in order and it is balanced and covered. (The preservation of value of EPOCH in the formal specification)
 pub fn rewards_balance()
@@ -33,6 +33,11 @@ pub fn payments_balance()
 /// The removal of proposals moves each pot by its flows, where accounts stand in order and proposals have ids of their own: no refund is lost. (The preservation of value of EPOCH in the formal specification)
 pub fn removals_balance()
     ensures { RemovalsBalance }
+{}
+
+/// The same by any lists of proposals that are enacted and of those that have expired. (The preservation of value of EPOCH in the formal specification)
+pub fn cuts_balance()
+    ensures { CutsBalance }
 {}
 
 /// The donations go to the treasury. (The preservation of value of EPOCH in the formal specification)

@@ -1,6 +1,5 @@
-ghost use Rattle.std.specs.Prelude.{◌≡◌, ℕ, [], ◌∷◌, IfOk};
-ghost use Rattle.gov_model.specs.Snapshot.{Snapshot};
-ghost use Rattle.ledger_books.specs.Parts.{HoldsSupply, frozen_entries, ledger_of_books, world_of_books};
+ghost use Rattle.std.specs.Prelude.{◌≡◌, [], ◌∷◌, IfOk};
+ghost use Rattle.ledger_books.specs.Parts.{HoldsSupply, IsStep, frozen_entries, ledger_of_books};
 ghost use Rattle.ledger_model.specs.Flows.{donations, flow, treasury};
 ghost use Rattle.ledger_model.specs.Moves.{IsMovedBy};
 ghost use Rattle.ledger_model.specs.Supply.{pots_of};
@@ -15,8 +14,7 @@ use std::alloc::Global;
 /// 7: the donations join the treasury. (EPOCH of the formal specification)
 pub fn donations_joined(alloc: Global, b: Books) -> Result<Books, NoMemory>
     requires holds { HoldsSupply b }
-    ensures world { IfOk result (λ a. (counted : ℕ) (f : Snapshot) →
-        world_of_books a counted f ≡ on_ledger donations_joined (world_of_books b counted f)) }
+    ensures world { IfOk result (IsStep (on_ledger donations_joined) b) }
     ensures frozen { IfOk result (λ a. frozen_entries a ≡ frozen_entries b) }
     ensures holds { IfOk result HoldsSupply }
     ensures moved { IfOk result (λ a.

@@ -1,7 +1,6 @@
-ghost use Rattle.std.specs.Prelude.{◌≡◌, ◌+◌, ◌^◌, ◌<◌, ℕ, []};
+ghost use Rattle.std.specs.Prelude.{◌≡◌, ◌+◌, ◌^◌, ◌<◌, []};
 ghost use Rattle.epoch_ends.specs.Steps.{next_epoch};
-ghost use Rattle.gov_model.specs.Snapshot.{Snapshot};
-ghost use Rattle.ledger_books.specs.Parts.{HoldsSupply, frozen_entries, ledger_of_books, world_of_books};
+ghost use Rattle.ledger_books.specs.Parts.{HoldsSupply, IsStep, frozen_entries, ledger_of_books};
 ghost use Rattle.ledger_model.specs.Moves.{IsMovedBy};
 ghost use Rattle.ledger_model.specs.Supply.{pots_of};
 ghost use Rattle.run_model.specs.Boundary.{dormancy_noted, members_only};
@@ -11,8 +10,7 @@ use ledger_books::Books;
 
 /// 8: only members of the committee keep a hot key or a resignation. It takes no memory. (EPOCH of the formal specification)
 pub fn members_only(b: Books) -> Books
-    ensures world { (counted : ℕ) (f : Snapshot) →
-        world_of_books result counted f ≡ on_ledger members_only (world_of_books b counted f) }
+    ensures world { IsStep (on_ledger members_only) b result }
     ensures frozen { frozen_entries result ≡ frozen_entries b }
     ensures holds { HoldsSupply b → HoldsSupply result }
     ensures moved { IsMovedBy [] (pots_of (ledger_of_books b)) (pots_of (ledger_of_books result)) }
@@ -25,8 +23,7 @@ pub fn members_only(b: Books) -> Books
 /// 9: an epoch that leaves no proposal is dormant; a proposal past its last epoch that is still in the list counts. It takes no memory. (EPOCH of the formal specification; that such a proposal counts is own)
 pub fn dormancy_noted(b: Books) -> Books
     requires fits { b.dreps.dormant + 1 < 2 ^ 64 }
-    ensures world { (counted : ℕ) (f : Snapshot) →
-        world_of_books result counted f ≡ on_ledger dormancy_noted (world_of_books b counted f) }
+    ensures world { IsStep (on_ledger dormancy_noted) b result }
     ensures frozen { frozen_entries result ≡ frozen_entries b }
     ensures holds { HoldsSupply b → HoldsSupply result }
     ensures moved { IsMovedBy [] (pots_of (ledger_of_books b)) (pots_of (ledger_of_books result)) }
@@ -41,8 +38,7 @@ pub fn dormancy_noted(b: Books) -> Books
 /// The number of the epoch that begins. It takes no memory. (NEWEPOCH of the formal specification)
 pub fn next_epoch(b: Books) -> Books
     requires fits { b.epoch + 1 < 2 ^ 64 }
-    ensures world { (counted : ℕ) (f : Snapshot) →
-        world_of_books result counted f ≡ on_ledger next_epoch (world_of_books b counted f) }
+    ensures world { IsStep (on_ledger next_epoch) b result }
     ensures frozen { frozen_entries result ≡ frozen_entries b }
     ensures holds { HoldsSupply b → HoldsSupply result }
     ensures moved { IsMovedBy [] (pots_of (ledger_of_books b)) (pots_of (ledger_of_books result)) }

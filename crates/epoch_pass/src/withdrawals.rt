@@ -1,0 +1,88 @@
+ghost use Rattle.std.specs.Prelude.{◌≡◌, ◌-◌, ◌≤◌, map, IfOk};
+ghost use Rattle.epoch_pass.specs.Reported.{by_credential, paid_in};
+ghost use Rattle.gov_ids.specs.Orders.{credential_cmp};
+ghost use Rattle.ledger_books.specs.Parts.{HoldsSupply, IsStep, frozen_entries, ledger_of_books};
+ghost use Rattle.ledger_model.specs.Moves.{IsMovedBy};
+ghost use Rattle.ledger_model.specs.Supply.{pots_of};
+ghost use Rattle.payments.specs.Amounts.{accounts_credited, claimed_of};
+ghost use Rattle.run_model.specs.Boundary.{claimed, withdrawals_paid};
+ghost use Rattle.run_model.specs.BoundaryFlows.{flows_of_targets};
+ghost use Rattle.run_model.specs.World.{on_ledger};
+ghost use Rattle.stake_book.specs.Stakes.{AreKept, HasRoom, accounts_of};
+ghost use Rattle.view_map.specs.View.{frozen_of};
+
+use crate::reports::paid_of;
+use coin_frac::NoMemory;
+use epoch_balance::payments_balance;
+use gov_actions::EnactState;
+use gov_ids::{Account, Credential};
+use ledger_books::{Books, with_treasury};
+use listed::Boxed;
+use payments::pay_registered;
+use stake_book::StakeBook;
+use std::alloc::Global;
+use tx_balance::moves_keep_supply;
+use tx_records::Paid;
+
+/// 5: the treasury pays the targets of the enacted withdrawals whose accounts are registered; the amounts of the others stay there. The report of each target is beside the books, in their order. (ENACT and EPOCH of the formal specification)
+pub fn withdrawals_paid(
+    alloc: Global,
+    b: Books,
+    targets: &[(Account, u64)],
+) -> Result<(Books, Vec<Paid>), NoMemory>
+    requires holds { HoldsSupply b }
+    requires covered { claimed (ledger_of_books b) (by_credential targets.now) ≤ b.state.treasury }
+    ensures world { IfOk result (λ r. IsStep (on_ledger (withdrawals_paid (by_credential targets.now))) b r.0) }
+    ensures paid { IfOk result (λ r. r.1.items ≡ map (paid_in (ledger_of_books b)) targets.now) }
+    ensures frozen { IfOk result (λ r. frozen_entries r.0 ≡ frozen_entries b) }
+    ensures holds { IfOk result (λ r. HoldsSupply r.0) }
+    ensures moved { IfOk result (λ r. IsMovedBy (flows_of_targets (ledger_of_books b) (by_credential targets.now))
+        (pots_of (ledger_of_books b)) (pots_of (ledger_of_books r.0))) }
+{
+    moves_keep_supply();
+    payments_balance();
+    let mut b = b;
+    let paid = paid_of(alloc, &b.stake, targets)?;
+    let payments = by_credential(alloc, targets)?;
+    let (stake, state) = paid_from(alloc, b.stake, b.state, payments.as_slice())?;
+    b.stake = stake;
+    b.state = state;
+    Ok((b, paid))
+}
+
+// The targets by credential.
+fn by_credential(
+    alloc: Global,
+    targets: &[(Account, u64)],
+) -> Result<Vec<(Credential, u64)>, NoMemory>
+    ensures { IfOk result (λ l. l.items ≡ by_credential targets.now) }
+{
+    Ok(
+        targets
+            .iter()
+            .map(|(account, amount)| (account.cred, *amount))
+            .collect(alloc)?,
+    )
+}
+
+// The accounts and the state after the treasury paid.
+fn paid_from(
+    alloc: Global,
+    stake: StakeBook,
+    state: Boxed<EnactState>,
+    payments: &[(Credential, u64)],
+) -> Result<(StakeBook, Boxed<EnactState>), NoMemory>
+    requires room { HasRoom (claimed_of (accounts_of stake) payments.now) stake }
+    requires covered { claimed_of (accounts_of stake) payments.now ≤ state.treasury }
+    ensures accounts { IfOk result (λ r. accounts_of r.0 ≡ accounts_credited payments.now (accounts_of stake)) }
+    ensures outputs { IfOk result (λ r. r.0.outputs ≡ stake.outputs) }
+    ensures frozen { IfOk result (λ r. frozen_of credential_cmp r.0.accounts ≡
+        frozen_of credential_cmp stake.accounts) }
+    ensures state { IfOk result (λ r. r.1 ≡
+        record state { treasury = state.treasury - claimed_of (accounts_of stake) payments.now }) }
+    ensures kept { AreKept stake }
+{
+    let (stake, paid) = pay_registered(stake, payments)?;
+    let treasury = state.get().treasury - paid;
+    Ok((stake, with_treasury(alloc, state, treasury)?))
+}
