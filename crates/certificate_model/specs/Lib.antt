@@ -1,0 +1,4 @@
+pub mod Parts
+pub mod Certificate
+pub mod Fits
+pub mod Checked
