@@ -55,9 +55,13 @@ pool_part f a p = record { role = codes "pool"; name = pool_text p; weight = poo
 abbrev pub pool_parts : Snapshot → Proposal → List Part
 pool_parts f a = map (λ m. pool_part f a m.0) f.mark
 
--- all that weigh
+-- those that weigh
+abbrev pub weighty : List Part → List Part
+weighty ps = filter (λ (p : Part). nat_lt 0 p.weight) ps
+
+-- all that weigh, role after role
 abbrev pub parts_of : Snapshot → Proposal → List Part
-parts_of f a = filter (λ (p : Part). nat_lt 0 p.weight) (committee_parts f a ++ drep_parts f a ++ pool_parts f a)
+parts_of f a = weighty (committee_parts f a) ++ weighty (drep_parts f a) ++ weighty (pool_parts f a)
 
 -- the words of one
 abbrev pub part_words : Proposal → Part → List Text

@@ -1,3 +1,4 @@
 pub mod Checkpoint
 pub mod Resumable
 pub mod Resumed
+pub mod Laws
