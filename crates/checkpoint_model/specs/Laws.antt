@@ -3,11 +3,10 @@ use Rattle.std.specs.Prelude.{◌≡◌, ℕ, ◌++◌, List, Some, option_map, 
 use Rattle.std.specs.List.{list_all}
 use Rattle.tx_records.specs.declared.record.Reading.{Reading}
 use Rattle.run_model.specs.Runs.{IsReached}
-use Rattle.run_model.specs.SoundWorld.{IsSoundWorld}
 use Rattle.run_model.specs.World.{World}
 use Rattle.text_forms.specs.Worlds.{world_of_readings}
 use Rattle.text_model.specs.Runs.{text_of_readings}
-use Rattle.checkpoint_model.specs.Resumable.{IsResumable, delegates_to_registered, is_counted_entry, is_timed}
+use Rattle.checkpoint_model.specs.Resumable.{is_counted_entry, is_timed}
 use Rattle.checkpoint_model.specs.Resumed.{text_of_resume}
 
 -- the run of one stream and then another is the run of the first, and what a resume of its World writes of the second
@@ -15,17 +14,9 @@ abbrev pub ReplayIsResumed : Type 0
 ReplayIsResumed = (rs ss : List (ℕ × Reading)) (w : World) → world_of_readings rs ≡ Some w →
     text_of_readings (rs ++ ss) ≡ option_map (λ t. t ++ text_of_resume w ss) (text_of_readings rs)
 
--- a World that is sound to be resumed has all that a ledger keeps
-abbrev pub ResumableIsSound : Type 0
-ResumableIsSound = (w : World) → IsResumable w → IsSoundWorld w
-
 -- every World that records reach has the epoch of its slot
 abbrev pub ReachedIsTimed : Type 0
 ReachedIsTimed = (w : World) → IsReached w → is_timed w.ledger ≡ true
-
--- its accounts delegate to registered pools and DReps
-abbrev pub ReachedDelegates : Type 0
-ReachedDelegates = (w : World) → IsReached w → delegates_to_registered w.ledger ≡ true
 
 -- each of its frozen entries is registered or has output stake
 abbrev pub ReachedEntriesCount : Type 0

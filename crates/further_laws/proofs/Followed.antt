@@ -1,11 +1,10 @@
 -- Followed streams: without rollbacks they are replays, what stands is accepted and sound, and the count never falls within an epoch.
-use Rattle.std.proofs.Common.{◌≡◌, ℕ, ◌+◌, ◌/◌, ◌==◌, ◌<◌, ◌≤◌, min, List, [], ◌∷◌, ◌++◌, Bool, true, false, not, ◌&&◌, cond, Option, Some, None, is_none, filter_map, fold, map, nat_le, sum_by, refl, ap, sym, subst, ◌∙◌, arith, append_assoc, append-nil}
-use Rattle.std.specs.List.{cons_option, list_all, list_any}
+use Rattle.std.proofs.Common.{◌≡◌, ℕ, ◌+◌, ◌/◌, ◌==◌, ◌<◌, ◌≤◌, min, List, [], ◌∷◌, ◌++◌, Bool, true, false, cond, Option, Some, None, is_none, filter_map, map, nat_le, sum_by, refl, ap, sym, subst, ◌∙◌, arith, append_assoc, append-nil}
+use Rattle.std.specs.List.{cons_option, list_all}
 use Rattle.std.proofs.Math.Nat.{min-eq_left, min-eq_right, min-le_left}
 use Rattle.std.proofs.lemmas.Bool.{and_from, eqb-true, leb-true, leb-false, not-false}
 use Rattle.std.proofs.lemmas.List.Elements.{filter_map-append}
 use Rattle.std.proofs.lemmas.List.Sums.{fold-append, sum_by-append}
-use Rattle.tx_records.specs.declared.genesis.Genesis.{Genesis}
 use Rattle.tx_records.specs.declared.record.Record.{Record}
 use Rattle.tx_records.specs.declared.record.Record.TheVariants as records
 use Rattle.tx_records.specs.declared.reply.Reply.{Reply}
@@ -26,10 +25,10 @@ use Rattle.run_laws.proofs.Sound.{genesis_begins_sound, records_keep_sound}
 use Rattle.run_laws.proofs.Start.{genesis_good}
 use Rattle.follow_records.specs.declared.record.FollowRecord.{FollowRecord}
 use Rattle.follow_records.specs.declared.record.FollowRecord.TheVariants.{Plain, Rollback}
-use Rattle.follow_model.specs.Chain.{Chain, counted_by, is_block_of, is_known_block, no_records, taken_back_to, up_to_block, with_record, world_of_chain}
-use Rattle.follow_model.specs.Follow.{chain_after_all, follow_refusal, follow_replies, follow_step, follow_step_by, followed_world, rollback_checks}
-use Rattle.follow_model.specs.Laws.{CountNeverFalls, FollowedIsSound, FollowIsReplay, IsFollowed, KeptAreAccepted, NeverFalls, RollbackStaysInEpoch, is_within_limits}
-use Rattle.further_laws.proofs.Standing.{Goes, IsTimed, Stand, accepted_is, after_first, all_front, genesis_timed, goes_accepted, goes_all, good_all, parted, past_block, slot_of_front, stand_front, stand_more, stand_past, timed_all}
+use Rattle.follow_model.specs.Chain.{Chain, counted_by, is_known_block, no_records, up_to_block, with_record, world_of_chain}
+use Rattle.follow_model.specs.Follow.{chain_after_all, follow_refusal, follow_replies, follow_step, follow_step_by, rollback_checks}
+use Rattle.follow_model.specs.Laws.{CountNeverFalls, FollowedIsSound, FollowIsReplay, KeptAreAccepted, NeverFalls, RollbackStaysInEpoch, is_within_limits}
+use Rattle.further_laws.proofs.Standing.{Goes, IsTimed, Stand, accepted_is, all_front, genesis_timed, goes_accepted, goes_all, good_all, parted, past_block, slot_of_front, stand_front, stand_more, stand_past, timed_all}
 
 -- ---- lists
 

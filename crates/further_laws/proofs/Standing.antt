@@ -8,13 +8,10 @@ use Rattle.tx_records.specs.declared.genesis.Genesis.{Genesis}
 use Rattle.tx_records.specs.declared.record.Record.{Record}
 use Rattle.tx_records.specs.declared.record.Record.TheVariants as records
 use Rattle.tx_records.specs.declared.reply.Rule.{Rule}
-use Rattle.tx_records.specs.declared.tx.Tx.{Tx}
 use Rattle.tx_records.specs.GenesisLimits as genesis_limits
 use Rattle.tx_records.specs.RecordLimits.{is_within_limits}
 use Rattle.ledger_model.specs.Ledger.{Ledger}
-use Rattle.ledger_model.specs.Transaction.{ledger_after_tx}
 use Rattle.ledger_model.proofs.Unbroken.{IsUnbroken, unbroken-cons}
-use Rattle.gov_model.specs.Snapshot.{Snapshot}
 use Rattle.run_model.specs.World.{World}
 use Rattle.run_model.specs.Boundary.{world_after_boundary}
 use Rattle.run_model.specs.Genesis.{world_of_genesis}

@@ -1,5 +1,5 @@
 ghost use Rattle.certificate_model.specs.Laws.{PartsAreTheCounts, VerdictsAreOfOneList};
-ghost use Rattle.checkpoint_model.specs.Laws.{ReachedIsTimed, ReplayIsResumed};
+ghost use Rattle.checkpoint_model.specs.Laws.{ReachedEntriesCount, ReachedIsTimed, ReplayIsResumed};
 ghost use Rattle.follow_model.specs.Laws.{CountNeverFalls, FollowIsReplay, FollowedIsSound, KeptAreAccepted, RollbackStaysInEpoch};
 
 /// The run of one stream and then another is the run of the first, followed by what a resume of its ledger writes of the second: in mid-pulse too. (Own)
@@ -10,6 +10,11 @@ pub fn replay_is_resumed()
 /// Every ledger that records reach has the epoch of its slot, as a checkpoint must. (Own)
 pub fn reached_is_timed()
     ensures { ReachedIsTimed }
+{}
+
+/// Each frozen entry of every ledger that records reach is registered or has output stake, as a checkpoint must. (Own)
+pub fn reached_entries_count()
+    ensures { ReachedEntriesCount }
 {}
 
 /// The parts that a certificate prints of a role add up to what the role counts: the weights on Yes, and those that are not on Abstain. (CIP-1694, Ratification)

@@ -1,3 +1,2 @@
 pub mod Silent
 pub mod ShortLines
-pub mod Laws
