@@ -1,7 +1,7 @@
 -- A sound World stays sound where a record that breaks no rule acts.
 use Rattle.std.proofs.Common.{◌≡◌, ℕ, zero, suc, ◌+◌, ◌==◌, ◌^◌, ◌<◌, ◌≤◌, ◌&&◌, [], ◌∷◌, Bool, true, false, Option, Some, None, Result, Ok, Err, cond, find, is_none, min, nat_le, nat_lt, option_map, refl, ap, sym, subst, ◌∙◌, arith}
 use Rattle.std.specs.Prelude.{⊤}
-use Rattle.std.proofs.lemmas.Bool.{lt-ltb, ne_eqb}
+use Rattle.std.proofs.lemmas.Bool.{lt-ltb}
 use Rattle.tx_records.specs.declared.record.Record.{Record}
 use Rattle.tx_records.specs.declared.record.Record.TheVariants as records
 use Rattle.tx_records.specs.declared.record.Rewards.{Rewards}
@@ -16,7 +16,7 @@ use Rattle.tx_records.specs.declared.rules.TheConstants.{EPOCH_SKIPPED, SLOT_NOT
 use Rattle.ledger_model.specs.Ledger.{Ledger}
 use Rattle.ledger_model.specs.Transaction.{ledger_after_tx}
 use Rattle.run_model.specs.SoundWorld.{IsSoundWorld}
-use Rattle.run_model.specs.Step.{acceptance_of, block_checks, enters_next, in_order_of_credential, pulsed, refusal_of, reward_checks, step, step_by, world_after_accepted, world_after_block, crossed}
+use Rattle.run_model.specs.Step.{acceptance_of, block_checks, enters_next, epoch_at, in_order_of_credential, pulsed, refusal_of, reward_checks, step, step_by, world_after_accepted, world_after_block, crossed}
 use Rattle.run_model.specs.World.{World, on_ledger}
 use Rattle.run_laws.proofs.Sound.{records_keep_sound}
 use Rattle.ledger_state.specs.Blocks.{StaysInEpoch, entry_by}
