@@ -16,12 +16,27 @@ TOP = Path(__file__).resolve().parent.parent
 WRONG = TOP / "tests/wrong_definitions"
 STREAMS = TOP / "tests/streams/whole"
 ROWS = TOP / "crates/ledger_rows/proofs"
+FURTHER_ROWS = TOP / "crates/further_rows/proofs"
+ROW_CRATES = ("ledger_rows", "further_rows")
+# what the modules of rows stand on
+WORDS = {"Base": ROWS / "Base.antt", "Texts": FURTHER_ROWS / "Texts.antt"}
 # the crates of the definitions, lowest first, and those of them that have types of the program, too
-DEFINITIONS = ("book_records", "gov_model", "ledger_model", "run_model", "text_model")
-WITH_TYPES = ("book_records",)
+DEFINITIONS = (
+    "book_records",
+    "gov_model",
+    "ledger_model",
+    "run_model",
+    "text_model",
+    "text_forms",
+    "checkpoint_model",
+    "certificate_model",
+    "shortfall_model",
+    "follow_model",
+)
+WITH_TYPES = ("book_records", "shortfall_model")
 # the crates whose laws are tried where no row refuses
-LAWS = ("gov_model", "tx_balance", "epoch_balance", "dormant_laws", "run_laws")
-REFERENCE = re.compile(rf"Rattle\.({'|'.join(DEFINITIONS)})\.specs\.(?!declared\b)(\w+)|Rattle\.ledger_rows\.proofs\.(\w+)")
+LAWS = ("gov_model", "tx_balance", "epoch_balance", "dormant_laws", "run_laws", "further_laws")
+REFERENCE = re.compile(rf"Rattle\.({'|'.join(DEFINITIONS)})\.specs\.(?!declared\b)(\w+)|Rattle\.(?:ledger|further)_rows\.proofs\.(\w+)")
 ERROR = re.compile(r"\./(specs|proofs)/(?:t(\d+)_)?(\S+?)\.antt\S*: error: (.*)")
 
 
@@ -56,7 +71,7 @@ class Wrong(NamedTuple):
 
     def nothing(self):
         """What is expected to refuse it, and is neither a stream, nor a module of rows, nor a crate."""
-        places = (lambda it: STREAMS / f"{it}.in", lambda it: ROWS / f"{it}.antt", lambda it: TOP / "crates" / it)
+        places = (lambda it: STREAMS / f"{it}.in", lambda it: module_file(it), lambda it: TOP / "crates" / it)
         return [it for it in self.by if not any(place(it).exists() for place in places)]
 
     def text(self):
@@ -134,15 +149,21 @@ def standing_on(name, texts):
     return found
 
 
+def module_file(name):
+    """The file of a module of rows, whether it is there or not."""
+    return next((it for folder in (ROWS, FURTHER_ROWS) if (it := folder / f"{name}.antt").exists()), ROWS / f"{name}.antt")
+
+
 def rows_of(names):
     """Modules of rows, by name: those of streams as one, and others as they are."""
     streams = [STREAMS / f"{it}.in" for it in names if (STREAMS / f"{it}.in").exists()]
-    others = {it: (ROWS / f"{it}.antt").read_text(encoding="utf-8") for it in names if (ROWS / f"{it}.antt").exists()}
+    others = {it: module_file(it).read_text(encoding="utf-8") for it in names if module_file(it).exists()}
     return {**others, **({"Expected": module_of("The rows that are expected to refuse it.", streams)} if streams else {})}
 
 
 def all_rows():
-    return [it.stem for it in sorted(ROWS.glob("*.antt")) if it.stem not in ("Lib", "Base")]
+    found = (it.stem for folder in (ROWS, FURTHER_ROWS) for it in sorted(folder.glob("*.antt")))
+    return [it for it in found if it not in ("Lib", *WORDS)]
 
 
 def below(crates):
@@ -182,10 +203,11 @@ class RowCopy:
 
     def __init__(self, folder):
         self.trial = folder / "crates/trial"
-        crates = below(["ledger_rows"])
-        inside = {*DEFINITIONS, "ledger_rows"}.difference(WITH_TYPES)
-        needs = " ".join(it for it in crates["ledger_rows"] if it not in inside)
-        low = {name: it for name, it in crates.items() if name not in inside}
+        crates = below(ROW_CRATES)
+        inside = {*DEFINITIONS, *ROW_CRATES}.difference(WITH_TYPES)
+        needs = " ".join(it for it in crates["further_rows"] if it not in inside)
+        # a crate with types stands on others of the definitions, as they are
+        low = {name: it for name, it in crates.items() if name not in ROW_CRATES}
         make_folder(folder, low, "out/rlib", f"trial: {needs}\n")
         shutil.copytree(TOP / "crates/ledger_rows/src", self.trial / "src")
 
@@ -199,12 +221,12 @@ class RowCopy:
 
     def write_all(self, batch):
         """The definitions as they stand, and those of each wrong definition, with its rows."""
-        texts, base = definitions(), (ROWS / "Base.antt").read_text(encoding="utf-8")
-        specs, proofs = {name: merged(text) for name, text in texts.items()}, {"Base": merged(base)}
+        texts, words = definitions(), {name: path.read_text(encoding="utf-8") for name, path in WORDS.items()}
+        specs, proofs = ({name: merged(text) for name, text in them.items()} for them in (texts, words))
         for number, (wrong, names) in batch.items():
             rows = rows_of(names)
-            changed = {**texts, "Base": base, **rows, name_of(wrong.file): wrong.text()}
-            own = {it: f"t{number}_{it}" for it in {"Base", *rows} | standing_on(name_of(wrong.file), changed)}
+            changed = {**texts, **words, **rows, name_of(wrong.file): wrong.text()}
+            own = {it: f"t{number}_{it}" for it in {*WORDS, *rows} | standing_on(name_of(wrong.file), changed)}
             for it in own:
                 (specs if it in texts else proofs)[own[it]] = merged(changed[it], own)
         self.write("specs", specs)

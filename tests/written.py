@@ -323,13 +323,13 @@ IMPORTS = {
 SIGNS = {"[]", "◌∷◌", "◌≡◌", "digits", "encode_with"}
 
 
-def imports(rows):
-    """The use lines of what rows name."""
+def imports(rows, known=IMPORTS):
+    """The use lines of what rows name, of the modules that are known."""
     code = re.sub(r'"[^"]*"', "", rows)
     before_dots = set(re.findall(r"(?<![\w.])\w+(?=\.)", code))
     # a name that stands alone, and not as the name of a field
     alone = set(re.findall(r"(?<![\w.])[^\W\d]\w*(?![\w.]| = (?!refl))", code)) | SIGNS
-    for module, words in IMPORTS.items():
+    for module, words in known.items():
         if words.startswith("as "):
             if words[3:] in before_dots:
                 yield f"use {module} {words}\n"

@@ -50,5 +50,13 @@ fn keeps_what_cold_keys_authorized(rt: HostRuntime) -> Result<(), Fail> {
     for (hot, count) in [(11, 1), (12, 0), (13, 1), (14, 1), (15, 0)] {
         assert!(rt; book.count_of(&key(hot)) == count);
     }
+    let listed = book.listed(rt.alloc())?;
+    let wanted = [
+        (key(1), state(13)),
+        (key(2), state(11)),
+        (key(3), state(0)),
+        (key(4), state(14)),
+    ];
+    assert!(rt; listed.as_slice() == wanted.as_slice());
     Ok(())
 }

@@ -73,5 +73,7 @@ fn reaps_the_pools_of_an_epoch(rt: HostRuntime) -> Result<(), Fail> {
     book.restore(pool(50), None)?;
     book.restore(pool(60), Some(turned))?;
     assert!(rt; book.get(&pool(50)).is_none() && book.get(&pool(60)) == Some(turned));
+    let ids = book.ids(rt.alloc())?;
+    assert!(rt; ids.as_slice() == [pool(60)].as_slice());
     Ok(())
 }

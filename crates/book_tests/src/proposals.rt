@@ -1,8 +1,6 @@
 //! A store of proposals that are voted on, and from which some are taken. (Its own words serve the tests of chains.)
 ghost use Rattle.std.specs.Prelude.{◌≡◌, []};
 
-use coin_frac::Unit;
-use credential_list::CredentialList;
 use gov_actions::{Action, Proposal, Vote};
 use gov_ids::{Account, ActionId, CredKind, Credential, TxId, Voter};
 use listed::Listed;
@@ -94,38 +92,5 @@ fn keeps_votes_and_what_is_listed(rt: HostRuntime) -> Result<(), Fail> {
     };
     let first = first.copied(rt.alloc())?;
     assert!(rt; first.id == id(1) && first.votes.len() == 2);
-    Ok(())
-}
-
-/// An update of the committee that adds the keys of these bytes.
-fn update_adding(alloc: Global, bytes: &[u8]) -> Result<Action, Fail> {
-    let mut add = Listed::new(alloc);
-    for byte in bytes {
-        add.push((key(*byte), 8))?;
-    }
-    Ok(Action::UpdateCommittee {
-        previous: None,
-        remove: CredentialList::new(alloc),
-        add,
-        threshold: Unit::new(1, 2)?,
-    })
-}
-
-/// A key that two add stays told of after one of them is removed.
-#[test]
-fn tells_which_keys_are_added(rt: HostRuntime) -> Result<(), Fail> {
-    let mut store = ProposalStore::new(rt.alloc());
-    for (byte, bytes) in [(1, [4, 5].as_slice()), (2, [4].as_slice())] {
-        let update = update_adding(rt.alloc(), bytes)?;
-        add(&rt, &mut store, rt.alloc(), byte, update)?;
-    }
-    let rows = [(4, true, true), (5, true, false), (6, false, false)];
-    for (byte, before, _) in rows {
-        assert!(rt; store.adds(&key(byte)) == before);
-    }
-    store.retain_listed([id(2)].as_slice())?;
-    for (byte, _, after) in rows {
-        assert!(rt; store.adds(&key(byte)) == after);
-    }
     Ok(())
 }

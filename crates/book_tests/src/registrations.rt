@@ -47,6 +47,8 @@ fn keeps_the_frozen_entries(rt: HostRuntime) -> Result<(), Fail> {
     }
     let next = book.frozen_past(Some(&key(1))).next();
     assert!(rt; next == Some((key(2), staked(20))));
+    let first = book.iter().next().map(|(c, e)| (*c, *e));
+    assert!(rt; first == Some((key(0), staked(5))));
     // all that a book holds: the live entries, and what was saved of the keys that changed
     let (live, saved): (
         BTreeMap<Credential, Entry>,

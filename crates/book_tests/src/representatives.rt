@@ -49,5 +49,7 @@ fn puts_an_entry_back(rt: HostRuntime) -> Result<(), Fail> {
     };
     book.restore(drep(31), Some(state))?;
     assert!(rt; book.get(&drep(31)) == Some(state));
+    let listed = book.expiries(rt.alloc())?;
+    assert!(rt; listed.as_slice() == [(drep(31), 4)].as_slice());
     Ok(())
 }

@@ -118,7 +118,8 @@ impl PoolBook {
 
     /// The first pool past an id, or the first of all, in the order of ids; none at the end. (PState of the formal specification)
     pub fn next(&self, after: Option<&PoolId>) -> Option<(PoolId, Pool)>
-        ensures { result ≡ entry_after pool_cmp (option_map (λ p. p.now) after.entry) self.now }
+        ensures value { result ≡ entry_after pool_cmp (option_map (λ p. p.now) after.entry) self.now }
+        ensures in_order { IsMap pool_cmp self.now }
     {
         let (p, pool) = self.pools.range(keys_past(after)).next()?;
         Some((*p, *pool))

@@ -5,7 +5,7 @@ use Rattle.commands.specs.declared.fault.ReplayFault.{ReplayFault}
 use Rattle.commands.specs.declared.fault.ReplayFault.TheVariants as faults
 use Rattle.commands.specs.declared.status.Status.TheVariants as statuses
 use Rattle.commands.specs.Endings.{IsReplayed}
-use Rattle.commands.specs.Records.{records_of}
+use Rattle.record_stream.specs.Records.{records_of}
 use Rattle.commands.specs.Runs.{start_fault}
 use Rattle.commands.specs.Statuses.{status_of_fault}
 use Rattle.tx_records.specs.declared.limits.TheConstants.{STREAM_LIMIT}

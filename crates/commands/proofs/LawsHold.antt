@@ -31,7 +31,7 @@ use Rattle.record_read.specs.Lines.{record_of_line}
 use Rattle.commands.specs.Built.{is_built, is_built_reading}
 use Rattle.commands.specs.Laws.{LinesAreWithin, LinesReach, RunsAreOfTheWhole, TextIsOfTheWhole, SupplyStays, RefusedChangesNothing, are_within, built_record, world_after_all}
 use Rattle.tx_records.specs.declared.limits.TheConstants.{LINE_LIMIT}
-use Rattle.commands.specs.Records.{is_blank, is_within, reading_by, records_from}
+use Rattle.record_stream.specs.Records.{is_blank, is_within, reading_by, records_from}
 use Rattle.commands.specs.Runs.{genesis_lines, not_built, text_by_cause, text_from}
 
 -- ---- the ledger

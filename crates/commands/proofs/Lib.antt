@@ -1,6 +1,5 @@
 pub mod Numbers
 pub mod Judging
 pub mod Complete
-pub mod Heard
 pub mod LawsHold
 pub mod Turns

@@ -1,24 +1,18 @@
 -- How a run of `replay` may end, and what it has written then. (Own)
 use Rattle.std.specs.Prelude.{◌≡◌, ◌≢◌, ◌⊎◌, ℕ, ◌<◌, ◌↔◌, List, [], ◌∷◌, ◌++◌, Option, Some, None, length}
 use Rattle.std.specs.Io.KnownBytes.{append_known}
-use Rattle.byte_lines.specs.Pieces.{open_of, whole_of}
-use Rattle.byte_lines.specs.Reader.{heeded, part_max}
+use Rattle.byte_lines.specs.Pieces.{whole_of}
+use Rattle.byte_lines.specs.Reader.{heeded}
 use Rattle.commands.specs.declared.status.GenesisCause.{GenesisCause}
 use Rattle.commands.specs.declared.status.GenesisCause.TheVariants as causes
 use Rattle.commands.specs.declared.status.Status.{Status}
 use Rattle.commands.specs.declared.status.Status.TheVariants as statuses
 use Rattle.tx_records.specs.declared.limits.TheConstants.{STREAM_LIMIT}
-use Rattle.commands.specs.Records.{records_of}
+use Rattle.record_stream.specs.Records.{records_of}
+use Rattle.record_stream.specs.Come.{HasCome, ReadTo}
 use Rattle.commands.specs.Runs.{start_fault, text_of_run, text_or_nothing, text_so_far}
 use Rattle.text_model.specs.Words.{Text}
 use Rattle.tx_records.specs.declared.record.Reading.{Reading}
-
--- what came of a source that held these bytes, and what is left
-pub record HasCome (bytes : List ℕ) (left : Option (List ℕ)) : Type 0 where
-  pub came : List ℕ
-  pub rest : List ℕ
-  pub cut : bytes ≡ came ++ rest
-  pub told : left ≡ Some rest
 
 -- a fault, if there is one, is that nothing was there yet
 abbrev pub IsMissingOnly : Option GenesisCause → Type 0
@@ -57,16 +51,6 @@ pub record NotBegun (cause : GenesisCause) (bytes came rest : List ℕ) (written
 pub record BrokenOff (came : List ℕ) (written : Text) : Type 0 where
   pub text : written ≡ text_or_nothing (whole_of came)
   pub start : IsMissingOnly (start_fault (records_of (whole_of came)))
-
--- no more came than the lines of these records, up to the last one's, and less than one part beyond: nothing is asked of
--- the source once a line is found; that line is whole, or no byte is left
-pub record ReadTo (came rest : List ℕ) (records : List (ℕ × Reading)) : Type 0 where
-  pub upto : List ℕ
-  pub ahead : List ℕ
-  pub cut : came ≡ upto ++ ahead
-  pub less : length ahead < part_max
-  pub whole : (open_of upto ≡ []) ⊎ (rest ≡ [])
-  pub all : records ≡ records_of upto
 
 -- a front of the text was written, that of a last record in part, and nothing came beyond its line; the first record is a
 -- genesis to begin with

@@ -15,7 +15,7 @@ use Rattle.tx_records.specs.declared.record.Record.{Record}
 use Rattle.tx_records.specs.declared.reply.Reply.TheVariants.{Refused}
 use Rattle.tx_records.specs.declared.reply.Rule.{Rule}
 use Rattle.commands.specs.Built.{is_built, is_built_reading}
-use Rattle.commands.specs.Records.{is_within, records_of}
+use Rattle.record_stream.specs.Records.{is_within, records_of}
 use Rattle.commands.specs.Runs.{text_of_records, world_left}
 
 -- the record that was read, where it is built

@@ -1,5 +1,4 @@
 pub mod Built
-pub mod Records
 pub mod Runs
 pub mod Laws
 pub mod Commands
@@ -7,5 +6,4 @@ pub mod Statuses
 pub mod Endings
 pub mod Outcomes
 pub mod Answers
-pub mod Heard
 pub mod Turns

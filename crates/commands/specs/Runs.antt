@@ -18,7 +18,7 @@ use Rattle.tx_records.specs.Rules.{plain_rule}
 use Rattle.commands.specs.declared.status.GenesisCause.{GenesisCause}
 use Rattle.commands.specs.declared.status.GenesisCause.TheVariants as causes
 use Rattle.commands.specs.Built.{is_built_reading}
-use Rattle.commands.specs.Records.{records_of}
+use Rattle.record_stream.specs.Records.{records_of}
 
 -- ---- records
 

@@ -1,6 +1,6 @@
 ghost use Rattle.std.specs.Prelude.{◌≡◌, true};
 ghost use Rattle.commands.specs.Answers.{Answers, Begins, BeginsWith, Judges};
-ghost use Rattle.commands.specs.Records.{is_within};
+ghost use Rattle.record_stream.specs.Records.{is_within};
 ghost use Rattle.tx_records.specs.GenesisLimits as genesis_limits;
 ghost use Rattle.tx_records.specs.RecordLimits.{is_within_limits};
 ghost use Rattle.tx_records.specs.TxLimits as tx_limits;
@@ -12,25 +12,28 @@ use crate::fault::AnswerFault;
 use crate::outcome::Outcome;
 use crate::status::GenesisCause;
 use coin_frac::NoMemory;
-use live_ledger::LiveLedger;
+use ledger_state::LedgerState;
 use report::PotsWord;
 use std::alloc::Global;
 use tx_records::rules::{GENESIS_AGAIN, MALFORMED, NOT_BUILT, TOO_LONG};
 use tx_records::{FieldName, Genesis, Reading, Record, Reply, Rule, Tx, What};
 use tx_rule::apply_tx;
 
+/// How many workers count an epoch's entries.
+const ONE_WORKER: u32 = 1;
+
 /// The ledger of a genesis and its pots, where it breaks no rule.
-fn begin(alloc: Global, genesis: &Genesis) -> Result<(LiveLedger, Outcome), AnswerFault>
+fn begin(alloc: Global, genesis: &Genesis) -> Result<(LedgerState, Outcome), AnswerFault>
     requires within { genesis_limits.is_within_limits genesis.now ≡ true }
     ensures { Begins genesis.now result }
 {
-    let ledger = LiveLedger::from_genesis(alloc, genesis)?;
+    let ledger = LedgerState::from_genesis(alloc, genesis, ONE_WORKER)?;
     let pots = ledger.pots();
     Ok((ledger, Outcome::Pots(PotsWord::Genesis, pots)))
 }
 
 /// The same of what was read first.
-fn begin_with(alloc: Global, reading: &Reading) -> Result<(LiveLedger, Outcome), AnswerFault>
+fn begin_with(alloc: Global, reading: &Reading) -> Result<(LedgerState, Outcome), AnswerFault>
     requires within { is_within reading.now ≡ true }
     ensures { BeginsWith reading.now result }
 {
@@ -67,7 +70,7 @@ fn malformed(what: FieldName, place: Option<u32>) -> Outcome
 }
 
 /// The ledger after a transaction, and its reply.
-fn judge_tx(alloc: Global, ledger: LiveLedger, tx: &Tx) -> Result<(LiveLedger, Outcome), NoMemory>
+fn judge_tx(alloc: Global, ledger: LedgerState, tx: &Tx) -> Result<(LedgerState, Outcome), NoMemory>
     requires within { tx_limits.is_within_limits tx.now ≡ true }
     ensures { Judges ledger (Read (Record.Tx tx.now)) result }
 {
@@ -78,9 +81,9 @@ fn judge_tx(alloc: Global, ledger: LiveLedger, tx: &Tx) -> Result<(LiveLedger, O
 /// The ledger after a record, and what it comes to.
 fn judge_record(
     alloc: Global,
-    ledger: LiveLedger,
+    ledger: LedgerState,
     found: &Record,
-) -> Result<(LiveLedger, Outcome), NoMemory>
+) -> Result<(LedgerState, Outcome), NoMemory>
     requires within { is_within_limits found.now ≡ true }
     ensures { Judges ledger (Read found.now) result }
 {
@@ -100,9 +103,9 @@ fn judge_record(
 /// The ledger after what was read of a line, and what that comes to.
 fn judge(
     alloc: Global,
-    ledger: LiveLedger,
+    ledger: LedgerState,
     reading: &Reading,
-) -> Result<(LiveLedger, Outcome), NoMemory>
+) -> Result<(LedgerState, Outcome), NoMemory>
     requires within { is_within reading.now ≡ true }
     ensures { Judges ledger reading.now result }
 {
@@ -116,9 +119,9 @@ fn judge(
 /// The ledger after what was read of a line, and what that comes to; before the genesis there is no ledger.
 pub fn answer(
     alloc: Global,
-    ledger: Option<LiveLedger>,
+    ledger: Option<LedgerState>,
     reading: Reading,
-) -> Result<(LiveLedger, Outcome), AnswerFault>
+) -> Result<(LedgerState, Outcome), AnswerFault>
     requires within { is_within reading ≡ true }
     ensures { Answers ledger reading result }
 {

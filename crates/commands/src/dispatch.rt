@@ -3,7 +3,7 @@ ghost use Rattle.byte_lines.specs.Faults.{CountsFaults, Rose};
 ghost use Rattle.commands.specs.Commands.{is_replay_command, IsReplayCommand};
 ghost use Rattle.commands.specs.Endings.{IsReplayed};
 ghost use Rattle.tx_records.specs.declared.limits.TheConstants.{STREAM_LIMIT};
-ghost use Rattle.commands.specs.Records.{records_of};
+ghost use Rattle.record_stream.specs.Records.{records_of};
 ghost use Rattle.commands.specs.Runs.{start_fault};
 
 use crate::command::is_replay;

@@ -9,7 +9,6 @@ mod every_run;
 mod exit;
 mod fault;
 mod outcome;
-mod reading;
 mod replay;
 mod status;
 

@@ -5,10 +5,10 @@ ghost use Rattle.commands.specs.Statuses.{status_by};
 
 use crate::answer::answer;
 use crate::fault::ReplayFault;
-use crate::reading::next_record;
 use crate::status::GenesisCause;
 use byte_lines::{Lines, Sink, Source};
-use live_ledger::LiveLedger;
+use ledger_state::LedgerState;
+use record_stream::next_record;
 use std::alloc::Global;
 use tx_records::limits::{LINE_LIMIT, STREAM_LIMIT};
 
@@ -25,7 +25,7 @@ pub fn replay<S: Source, K: Sink>(
 {
     let mut lines = Lines::new(alloc, LINE_LIMIT, STREAM_LIMIT);
     let mut text = Vec::new(alloc);
-    let mut ledger: Option<LiveLedger> = None;
+    let mut ledger: Option<LedgerState> = None;
     while let Some(reading) = next_record(alloc, &mut lines, source)? {
         let (after, outcome) = answer(alloc, ledger, reading)?;
         outcome.write(lines.number(), &mut text, sink)?;

@@ -2,7 +2,7 @@
 ghost use Rattle.std.specs.Prelude.{◌≡◌, ◌≢◌, ◌<◌, ◌≤◌, ◌⊎◌, IfOk, None, Some, length};
 ghost use Rattle.commands.specs.Commands.{IsReplayCommand};
 ghost use Rattle.tx_records.specs.declared.limits.TheConstants.{STREAM_LIMIT};
-ghost use Rattle.commands.specs.Records.{records_of};
+ghost use Rattle.record_stream.specs.Records.{records_of};
 ghost use Rattle.commands.specs.Runs.{start_fault, text_of_run};
 
 use byte_lines::{MemorySink, MemorySource, Sink, Source};

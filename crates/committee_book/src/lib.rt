@@ -131,7 +131,8 @@ impl HotBook {
 
     /// The first entry past a cold key, or the first of all, in the order of cold keys; none at the end. (GState of the formal specification)
     pub fn next(&self, after: Option<&Credential>) -> Option<(Credential, HotState)>
-        ensures { result ≡ entry_after credential_cmp (option_map (λ c. c.now) after.entry) self.now }
+        ensures value { result ≡ entry_after credential_cmp (option_map (λ c. c.now) after.entry) self.now }
+        ensures in_order { IsMap credential_cmp self.now }
     {
         let (cold, s) = self.entries.range(keys_past(after)).next()?;
         Some((*cold, *s))

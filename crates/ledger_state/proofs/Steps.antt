@@ -1,7 +1,7 @@
 -- A sound World stays sound where a record that breaks no rule acts.
 use Rattle.std.proofs.Common.{◌≡◌, ℕ, zero, suc, ◌+◌, ◌==◌, ◌^◌, ◌<◌, ◌≤◌, ◌&&◌, [], ◌∷◌, Bool, true, false, Option, Some, None, Result, Ok, Err, cond, find, is_none, min, nat_le, nat_lt, option_map, refl, ap, sym, subst, ◌∙◌, arith}
 use Rattle.std.specs.Prelude.{⊤}
-use Rattle.std.proofs.lemmas.Bool.{lt-ltb, ne_eqb}
+use Rattle.std.proofs.lemmas.Bool.{lt-ltb}
 use Rattle.tx_records.specs.declared.record.Record.{Record}
 use Rattle.tx_records.specs.declared.record.Record.TheVariants as records
 use Rattle.tx_records.specs.declared.record.Rewards.{Rewards}
@@ -19,7 +19,7 @@ use Rattle.run_model.specs.SoundWorld.{IsSoundWorld}
 use Rattle.run_model.specs.Step.{acceptance_of, block_checks, enters_next, epoch_at, in_order_of_credential, pulsed, refusal_of, reward_checks, step, step_by, world_after_accepted, world_after_block, crossed}
 use Rattle.run_model.specs.World.{World, on_ledger}
 use Rattle.run_laws.proofs.Sound.{records_keep_sound}
-use Rattle.ledger_state.specs.Blocks.{IsOfEpoch, entry_by}
+use Rattle.ledger_state.specs.Blocks.{StaysInEpoch, entry_by}
 
 -- ---- what an answer says
 
@@ -64,18 +64,14 @@ tx_sound w tx s within allowed = accepted_sound w (records.Tx tx) s within (not_
 pub rewards_sound : (w : World) (u : Rewards) → IsSoundWorld w → is_within_limits (records.Rewards u) ≡ true → first_among (reward_checks w u) ≡ None → IsSoundWorld (record w { pending = Some (in_order_of_credential u) })
 rewards_sound w u s within none = accepted_sound w (records.Rewards u) s within none
 
--- a slot of the current epoch is none of the next
-of_none_next : (n e : ℕ) → n ≡ e → (n == (e + 1)) ≡ false
-of_none_next n e h = ne_eqb n (e + 1) (λ p. omega (arith, h, p))
-
 within_block : (slot pulse : ℕ) → slot < 2 ^ 62 → pulse < 2 ^ 32 → is_within_limits (records.Block slot pulse) ≡ true
 within_block slot pulse early small = ap (λ b. b && nat_lt pulse (2 ^ 32)) (lt-ltb slot (2 ^ 62) early) ∙ lt-ltb pulse (2 ^ 32) small
 
-pub block_stays : (w : World) (slot pulse : ℕ) → epoch_at w.ledger slot ≡ w.ledger.epoch → world_after_block w slot pulse ≡ pulsed slot pulse w
-block_stays w slot pulse current = ap (λ b. pulsed slot pulse (crossed b w)) (of_none_next _ _ current)
+pub block_stays : (w : World) (slot pulse : ℕ) → enters_next w.ledger slot ≡ false → world_after_block w slot pulse ≡ pulsed slot pulse w
+block_stays w slot pulse stays = ap (λ b. pulsed slot pulse (crossed b w)) stays
 
--- a block of the current epoch
-pub block_sound : (w : World) (slot pulse : ℕ) → IsSoundWorld w → slot < 2 ^ 62 → pulse < 2 ^ 32 → IsOfEpoch w.ledger slot pulse → first_among (block_checks w.ledger slot pulse) ≡ None → IsSoundWorld (pulsed slot pulse w)
+-- a block that does not begin the next epoch
+pub block_sound : (w : World) (slot pulse : ℕ) → IsSoundWorld w → slot < 2 ^ 62 → pulse < 2 ^ 32 → StaysInEpoch w.ledger slot pulse → first_among (block_checks w.ledger slot pulse) ≡ None → IsSoundWorld (pulsed slot pulse w)
 block_sound w slot pulse s early small current none =
     subst (λ (x : World). IsSoundWorld x) (block_stays w slot pulse (current none))
     (accepted_sound w (records.Block slot pulse) s (within_block slot pulse early small) none)

@@ -11,6 +11,7 @@ use gov_ids::{Account, ActionId, Voter};
 use listed::Listed;
 use std::alloc::Global;
 use std::collections::BTreeMap;
+use std::collections::btree_map::Iter;
 use std::marker::Model;
 
 /// A live proposal whose votes stand in a tree, so that no vote walks those that stand. Contracts see the proposal. (GovActionState of the formal specification)
@@ -79,6 +80,13 @@ impl LiveProposal {
         ensures { result ≡ value_at voter_cmp self.now.votes v.now }
     {
         self.votes.get(v).copied()
+    }
+
+    /// The votes one after another, in the order of voters. It takes no memory. (GovActionState of the formal specification)
+    pub fn votes(&self) -> Iter<'_, Voter, Vote>
+        ensures { result ≡ self.now.votes }
+    {
+        self.votes.iter()
     }
 
     /// The plain proposal, in memory of its own: its votes are a list in order of voter. (GovActionState of the formal specification)

@@ -2,3 +2,4 @@ pub mod Joined
 pub mod Puts
 pub mod Roles
 pub mod RulesFound
+pub mod SinkBytes

@@ -115,3 +115,20 @@ put_third {T} {add} {IsPart} {n} {t} {t'} {t''} {u} {f} {f'} {f''} {g} {r} xs ys
 pub kept_lines : (n : ℕ) (kept : List Text) (lines : List (List Text)) → with_lines (λ (ls : List Text) line. ls ++ line ∷ []) n kept lines ≡ kept ++ map (line_of n) lines
 kept_lines n kept [] = sym (append-nil kept)
 kept_lines n kept (words ∷ lines) = kept_lines n (kept ++ line_of n words ∷ []) lines ∙ append_assoc kept (line_of n words ∷ []) (map (line_of n) lines)
+
+-- ---- two lists of lines, each known as another
+
+-- of the first no more than a front
+pub put_first_as : {T : Type 0} {add : T → Text → T} {IsPart : T → Text → T → Type 0} {n : ℕ} {t t' : T} {f f' : ℕ} {e : SinkFault} {r : Result (Unit {0}) SinkFault} (xs xs' ys : List (List Text)) → xs ≡ xs'
+    → HasPut add IsPart n t xs t' f f' (Err e) → IsErrAnd r (λ x. x ≡ e) → HasPut add IsPart n t (xs' ++ ys) t' f f' r
+put_first_as {T} {add} {IsPart} {n} {t} {t'} {f} {f'} {e} {r} xs xs' ys is first same =
+    put_failed add IsPart n t t' (xs' ++ ys) f f' e r same
+    (put_cut add IsPart n t t' xs' ys f f' e (subst (λ (ls : List (List Text)). HasPut add IsPart n t ls t' f f' (Err e)) is first))
+
+-- all of the first
+pub put_second_as : {T : Type 0} {add : T → Text → T} {IsPart : T → Text → T → Type 0} {n : ℕ} {t t' t'' : T} {f f' f'' : ℕ} {r : Result (Unit {0}) SinkFault} (xs xs' ys ys' : List (List Text)) → xs ≡ xs' → ys ≡ ys'
+    → HasPut add IsPart n t xs t' f f' (Ok tt) → HasPut add IsPart n t' ys t'' f' f'' r → HasPut add IsPart n t (xs' ++ ys') t'' f f'' r
+put_second_as {T} {add} {IsPart} {n} {t} {t'} {t''} {f} {f'} {f''} {r} xs xs' ys ys' is are first second =
+    put_then add IsPart n t t' t'' xs' ys' f f' f'' r
+    (subst (λ (ls : List (List Text)). HasPut add IsPart n t ls t' f f' (Ok tt)) is first)
+    (subst (λ (ls : List (List Text)). HasPut add IsPart n t' ls t'' f' f'' r) are second)

@@ -1,17 +1,17 @@
 //! The lines of proposals, of the snapshots of pools and of the pending reward update.
-ghost use Rattle.std.specs.Prelude.{◌≡◌, [], ◌∷◌, ◌++◌, codes, decimal, OnOk};
-ghost use Rattle.gov_actions.specs.declared.action.Proposal.{Proposal};
+ghost use Rattle.std.specs.Prelude.{◌≡◌, ◌++◌, OnOk};
 ghost use Rattle.text_model.specs.ActionWords.{vote_text};
-ghost use Rattle.text_model.specs.StateLines.{pending_reward_words, pending_words, proposal_words, snapshot_words, vote_words};
+ghost use Rattle.text_model.specs.StateLines.{none_pending_words, noted_fees_words, pending_reward_words, pending_words, snapshot_words, words_of_vote};
 ghost use Rattle.text_model.specs.Words.{line_of};
+ghost use Rattle.report.specs.StateTexts.{proposed_words};
 ghost use Rattle.report.specs.SnapshotNames.{snapshot_text};
 
 use crate::epochs::kind_name;
 use crate::parts::{Word, push_line};
 use crate::states::id_word;
 use coin_frac::NoMemory;
-use gov_actions::{Proposal, Vote};
-use gov_ids::{ActionId, Credential, PoolId, Voter};
+use gov_actions::{Action, Vote};
+use gov_ids::{Account, ActionId, Credential, PoolId, Voter};
 use tx_records::Rewards;
 
 /// A vote.
@@ -25,24 +25,43 @@ fn vote_name(vote: Vote) -> &'static str
     }
 }
 
+/// A proposal but for its votes. (GovActionState of the formal specification)
+#[derive(Clone, Copy)]
+pub struct Proposed<'a> {
+    /// The transaction that proposed it, and its place there.
+    pub id: ActionId,
+    /// What it asks for.
+    pub action: &'a Action,
+    /// What it paid, in lovelace.
+    pub deposit: u64,
+    /// The return account of the deposit.
+    pub account: Account,
+    /// The last epoch in which it may be voted on.
+    pub expires_after: u64,
+}
+
 /// Appends the line of a proposal. After want of memory the buffer may hold anything. (Own)
-pub fn push_proposal_line(out: &mut Vec<u8>, line: u64, proposal: &Proposal) -> Result<(), NoMemory>
-    ensures { OnOk result (out.new.items ≡ out.old.items ++ line_of line (proposal_words proposal.now)) }
+pub fn push_proposal_line(
+    out: &mut Vec<u8>,
+    line: u64,
+    proposed: &Proposed<'_>,
+) -> Result<(), NoMemory>
+    ensures { OnOk result (out.new.items ≡ out.old.items ++ line_of line (proposed_words proposed.now)) }
 {
-    let previous = proposal.action.previous();
+    let previous = proposed.action.previous();
     push_line(
         out,
         line,
         &[
             Word::Text("proposal"),
-            Word::Action(&proposal.id),
-            Word::Text(kind_name(proposal.action.kind())),
+            Word::Action(&proposed.id),
+            Word::Text(kind_name(proposed.action.kind())),
             Word::Text("deposit"),
-            Word::Number(proposal.deposit),
+            Word::Number(proposed.deposit),
             Word::Text("return"),
-            Word::Account(&proposal.account),
+            Word::Account(&proposed.account),
             Word::Text("expires"),
-            Word::Number(proposal.expires_after),
+            Word::Number(proposed.expires_after),
             Word::Text("previous"),
             id_word(&previous),
         ],
@@ -56,7 +75,7 @@ pub fn push_vote_line<'a>(
     id: &'a ActionId,
     cast: &'a (Voter, Vote),
 ) -> Result<(), NoMemory>
-    ensures { (p : Proposal) → p.id ≡ id.now → OnOk result (out.new.items ≡ out.old.items ++ line_of line (vote_words p cast.now)) }
+    ensures { OnOk result (out.new.items ≡ out.old.items ++ line_of line (words_of_vote id.now cast.now)) }
 {
     push_line(
         out,
@@ -117,8 +136,7 @@ pub fn push_snapshot_line(
 
 /// Appends the line of the fee pot at the last boundary, in lovelace. After want of memory the buffer may hold anything. (Own)
 pub fn push_noted_fees_line(out: &mut Vec<u8>, line: u64, fees: u64) -> Result<(), NoMemory>
-    ensures { OnOk result (out.new.items ≡ out.old.items
-        ++ line_of line (codes "snapshot" ∷ codes "fees" ∷ decimal fees ∷ [])) }
+    ensures { OnOk result (out.new.items ≡ out.old.items ++ line_of line (noted_fees_words fees)) }
 {
     push_line(
         out,
@@ -152,7 +170,7 @@ pub fn push_pending_line(out: &mut Vec<u8>, line: u64, update: &Rewards) -> Resu
 
 /// Appends the line that says that no reward update is pending. After want of memory the buffer may hold anything. (Own)
 pub fn push_none_pending_line(out: &mut Vec<u8>, line: u64) -> Result<(), NoMemory>
-    ensures { OnOk result (out.new.items ≡ out.old.items ++ line_of line (codes "pending" ∷ codes "none" ∷ [])) }
+    ensures { OnOk result (out.new.items ≡ out.old.items ++ line_of line none_pending_words) }
 {
     push_line(out, line, &[Word::Text("pending"), Word::Text("none")])
 }

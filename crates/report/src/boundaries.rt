@@ -5,7 +5,7 @@ ghost use Rattle.text_model.specs.Words.{line_of};
 ghost use Rattle.report.specs.Taking.{HasPut};
 
 use crate::line_list::LineList;
-use crate::lines::{Lines, put_listed, put_one};
+use crate::lines::{LineTaker, put_listed, put_one};
 use crate::pots::PotsWord;
 use byte_lines::SinkFault;
 use coin_frac::NoMemory;
@@ -13,7 +13,7 @@ use std::alloc::Global;
 use tx_records::{EpochReport, Pots};
 
 /// Hands over the epoch that begins, its stakes and its tallies.
-fn put_count<T: Lines>(
+fn put_count<T: LineTaker>(
     to: &mut T,
     text: &mut Vec<u8>,
     line: u64,
@@ -29,7 +29,7 @@ fn put_count<T: Lines>(
 }
 
 /// The same, and what was paid and removed.
-fn put_enacted<T: Lines>(
+fn put_enacted<T: LineTaker>(
     to: &mut T,
     text: &mut Vec<u8>,
     line: u64,
@@ -46,7 +46,7 @@ fn put_enacted<T: Lines>(
 }
 
 /// Hands over the lines of a boundary, in order: its report, and the pots after it. Each is made in the buffer, in place of what it held. After an error a front of them was taken. (Own)
-pub fn put_epoch<T: Lines>(
+pub fn put_epoch<T: LineTaker>(
     to: &mut T,
     text: &mut Vec<u8>,
     line: u64,

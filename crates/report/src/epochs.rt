@@ -1,10 +1,8 @@
 //! The lines of a boundary.
 ghost use Rattle.std.specs.Prelude.{◌≡◌, ◌++◌, OnOk, flat_map, zip};
-ghost use Rattle.run_model.specs.World.{World};
-ghost use Rattle.gov_model.specs.Snapshot.{entry_count};
 ghost use Rattle.text_model.specs.ActionWords.{kind_text, need_text, verdict_text, why_text};
 ghost use Rattle.text_model.specs.EpochLines.{epoch_words, paid_words, removed_words, retired_words, role_texts, role_words, stake_words, tally_words, to_text};
-ghost use Rattle.text_model.specs.Replies.{block_words};
+ghost use Rattle.text_model.specs.Replies.{words_of_block};
 ghost use Rattle.text_model.specs.Words.{line_of, spaced};
 ghost use Rattle.report.specs.WordTexts.{word_text};
 
@@ -281,8 +279,7 @@ pub fn push_block_line(
     counted: u64,
     entries: u64,
 ) -> Result<(), NoMemory>
-    ensures { (w : World) → w.ledger.slot ≡ slot → w.ledger.epoch ≡ epoch → w.counted ≡ counted → entry_count w.frozen ≡ entries →
-        OnOk result (out.new.items ≡ out.old.items ++ line_of line (block_words w)) }
+    ensures { OnOk result (out.new.items ≡ out.old.items ++ line_of line (words_of_block slot epoch counted entries)) }
 {
     push_line(
         out,

@@ -7,15 +7,18 @@ mod boundaries;
 mod epochs;
 mod line_list;
 mod lines;
+mod params;
 mod parts;
 mod pots;
 mod replies;
 mod rule_texts;
+mod sinks;
+mod state_line;
 mod states;
 mod words;
 
 pub use actions::{
-    SnapshotName, push_none_pending_line, push_noted_fees_line, push_pending_line,
+    Proposed, SnapshotName, push_none_pending_line, push_noted_fees_line, push_pending_line,
     push_pending_reward_line, push_proposal_line, push_snapshot_line, push_vote_line,
 };
 pub use books::{
@@ -27,9 +30,12 @@ pub use epochs::{
     push_stake_line, push_tally_line,
 };
 pub use line_list::LineList;
-pub use lines::{Lines, Printed, put_each, put_one};
+pub use lines::{LineTaker, Printed, put_each, put_one};
+pub use params::put_params;
 pub use pots::{PotsWord, pots_line, push_pots_line};
 pub use replies::reply_line;
+pub use sinks::write_epoch;
+pub use state_line::StateLine;
 pub use states::{
     push_committee_line, push_constitution_line, push_enacted_line, push_hot_line,
     push_member_line, push_now_line,

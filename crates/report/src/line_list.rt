@@ -1,6 +1,6 @@
 ghost use Rattle.std.specs.Prelude.{◌≡◌, [], map};
 
-use crate::lines::Lines;
+use crate::lines::LineTaker;
 use byte_lines::SinkFault;
 use std::alloc::Global;
 use std::marker::Model;
@@ -39,7 +39,7 @@ impl LineList {
     }
 }
 
-impl Lines for LineList {
+impl LineTaker for LineList {
     ghost use Rattle.std.specs.Prelude.{◌≡◌, ℕ, List, [], ◌∷◌, ◌++◌};
 
     ghost Taken = { List (List ℕ) };

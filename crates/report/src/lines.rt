@@ -9,7 +9,7 @@ use coin_frac::NoMemory;
 use listed::Listed;
 
 /// Who takes finished lines. (Own)
-pub trait Lines {
+pub trait LineTaker {
     ghost use Rattle.std.specs.Prelude.{ℕ, List};
 
     ghost Taken: { Type 0 };
@@ -46,7 +46,7 @@ pub trait Printed {
 }
 
 /// Hands over the line of an item, through a buffer that is used again for the next.
-pub fn put_one<T: Lines, P: Printed>(
+pub fn put_one<T: LineTaker, P: Printed>(
     to: &mut T,
     text: &mut Vec<u8>,
     line: u64,
@@ -61,7 +61,7 @@ pub fn put_one<T: Lines, P: Printed>(
 }
 
 /// Hands over the line of each item, in order.
-pub fn put_each<T: Lines, P: Printed>(
+pub fn put_each<T: LineTaker, P: Printed>(
     to: &mut T,
     text: &mut Vec<u8>,
     line: u64,
@@ -77,7 +77,7 @@ pub fn put_each<T: Lines, P: Printed>(
 }
 
 /// The same of a list.
-pub(crate) fn put_listed<T: Lines, P: Printed>(
+pub(crate) fn put_listed<T: LineTaker, P: Printed>(
     to: &mut T,
     text: &mut Vec<u8>,
     line: u64,

@@ -80,7 +80,7 @@ fn push_text(out: &mut Vec<u8>, word: &Word<'_>) -> Result<(), NoMemory>
 }
 
 /// Adds a word after a space.
-fn push_part(out: &mut Vec<u8>, word: &Word<'_>) -> Result<(), NoMemory>
+pub(crate) fn push_part(out: &mut Vec<u8>, word: &Word<'_>) -> Result<(), NoMemory>
     ensures { OnOk result (out.new.items ≡ out.old.items ++ 32 ∷ word_text word.now) }
 {
     out.push(b' ')?;

@@ -1,10 +1,7 @@
 //! The lines of the state, but for parameters, books and proposals.
 ghost use Rattle.std.specs.Prelude.{◌≡◌, ◌++◌, OnOk};
-ghost use Rattle.maps.specs.Maps.{value_at};
-ghost use Rattle.gov_ids.specs.Orders.{credential_cmp};
 ghost use Rattle.gov_ids.specs.Spelling.{action_id_text, hash_text};
-ghost use Rattle.ledger_model.specs.Ledger.{Ledger};
-ghost use Rattle.text_model.specs.StateLines.{committee_words, constitution_words, enacted_words, hot_text, hot_words, member_words, now_words};
+ghost use Rattle.text_model.specs.StateLines.{committee_words, hot_text, hot_words, words_of_constitution, words_of_enacted, words_of_member, words_of_now};
 ghost use Rattle.text_model.specs.Words.{line_of, or_none};
 ghost use Rattle.report.specs.WordTexts.{word_text};
 
@@ -53,8 +50,7 @@ pub fn push_now_line(
     version: (u32, u32),
     dormant: u64,
 ) -> Result<(), NoMemory>
-    ensures { (l : Ledger) → l.slot ≡ slot → l.epoch ≡ epoch → l.state.version ≡ version → l.dormant ≡ dormant →
-        OnOk result (out.new.items ≡ out.old.items ++ line_of line (now_words l)) }
+    ensures { OnOk result (out.new.items ≡ out.old.items ++ line_of line (words_of_now slot epoch version dormant)) }
 {
     push_line(
         out,
@@ -80,8 +76,7 @@ pub fn push_constitution_line<'a>(
     document: &'a [u8; 32],
     script: &'a Option<[u8; 28]>,
 ) -> Result<(), NoMemory>
-    ensures { (l : Ledger) → l.state.document ≡ document.now → l.state.script ≡ script.now →
-        OnOk result (out.new.items ≡ out.old.items ++ line_of line (constitution_words l)) }
+    ensures { OnOk result (out.new.items ≡ out.old.items ++ line_of line (words_of_constitution document.now script.now)) }
 {
     push_line(
         out,
@@ -123,8 +118,7 @@ pub fn push_member_line<'a>(
     member: &'a (Credential, u64),
     hot: &'a Option<HotState>,
 ) -> Result<(), NoMemory>
-    ensures { (l : Ledger) → value_at credential_cmp l.hot member.now.0 ≡ hot.now →
-        OnOk result (out.new.items ≡ out.old.items ++ line_of line (member_words l member.now)) }
+    ensures { OnOk result (out.new.items ≡ out.old.items ++ line_of line (words_of_member member.now hot.now)) }
 {
     push_line(
         out,
@@ -162,8 +156,7 @@ pub fn push_hot_line<'a>(
 
 /// Appends the line of the last enacted ids. After want of memory the buffer may hold anything. (Own)
 pub fn push_enacted_line(out: &mut Vec<u8>, line: u64, last: &LastIds) -> Result<(), NoMemory>
-    ensures { (l : Ledger) → l.state.last ≡ last.now →
-        OnOk result (out.new.items ≡ out.old.items ++ line_of line (enacted_words l)) }
+    ensures { OnOk result (out.new.items ≡ out.old.items ++ line_of line (words_of_enacted last.now)) }
 {
     push_line(
         out,

@@ -2,7 +2,8 @@
 ghost use Rattle.std.specs.Prelude.{IfOk};
 ghost use Rattle.wallet.specs.Starts.{IsLedgerOf};
 
-use live_ledger::{GenesisFault, LiveLedger};
+use ledger_state::LedgerState;
+use live_ledger::GenesisFault;
 use record_read::{RecordFault, read_record};
 use std::alloc::Global;
 use tx_records::{GenesisRule, Record};
@@ -21,7 +22,7 @@ pub enum StartFault {
 }
 
 /// The ledger of a line that is a genesis. (Own)
-pub fn ledger_of(alloc: Global, line: &[u8]) -> Result<LiveLedger, StartFault>
+pub fn ledger_of(alloc: Global, line: &[u8]) -> Result<LedgerState, StartFault>
     ensures { IfOk result (IsLedgerOf line.now) }
 {
     let genesis = match read_record(alloc, line) {
@@ -29,7 +30,7 @@ pub fn ledger_of(alloc: Global, line: &[u8]) -> Result<LiveLedger, StartFault>
         Ok(_) => return Err(StartFault::NoGenesis),
         Err(fault) => return Err(StartFault::Unreadable(fault)),
     };
-    match LiveLedger::from_genesis(alloc, genesis.get()) {
+    match LedgerState::from_genesis(alloc, genesis.get(), 1) {
         Ok(ledger) => Ok(ledger),
         Err(GenesisFault::Broken(rule)) => Err(StartFault::Broken(rule)),
         Err(GenesisFault::NoMemory) => Err(StartFault::NoMemory),

@@ -1,6 +1,6 @@
 ghost use Rattle.std.specs.Prelude.{◌≡◌, ◌<◌, ◌≤◌, ◌^◌, IfOk, None, Some, is_some, true};
 ghost use Rattle.ledger_model.specs.Checks.{answer_of, first_among};
-ghost use Rattle.ledger_state.specs.Blocks.{IsOfEpoch, block_answer};
+ghost use Rattle.ledger_state.specs.Blocks.{StaysInEpoch, block_answer};
 ghost use Rattle.run_model.specs.SoundWorld.{IsSoundWorld};
 ghost use Rattle.run_model.specs.Step.{block_checks, pulsed, reward_checks, step};
 ghost use Rattle.tx_records.specs.RecordLimits.{is_within_limits};
@@ -23,10 +23,10 @@ impl LedgerState {
         answer(self.live(), slot, pulse)
     }
 
-    /// The state after a block of the current epoch, which counts the next `pulse` frozen entries, and its reply; that of a refused block is the one that was given. It takes no memory. (TICK of the formal specification; the DRep pulser of cardano-ledger)
+    /// The state after a block that does not begin the next epoch, which counts the next `pulse` frozen entries, and its reply; that of a refused block is the one that was given. It takes no memory. (TICK of the formal specification; the DRep pulser of cardano-ledger)
     pub fn block(self, slot: u64, pulse: u32) -> (LedgerState, Reply)
         requires early { slot < 2 ^ 62 }
-        requires current { IsOfEpoch self.ledger slot pulse }
+        requires current { StaysInEpoch self.ledger slot pulse }
         ensures { result ≡ step self (records.Block slot pulse) }
     {
         match self.check_block(slot, pulse) {
@@ -35,10 +35,10 @@ impl LedgerState {
         }
     }
 
-    /// The state after a block of the current epoch that breaks no rule.
+    /// The state after such a block that breaks no rule.
     fn pulsed(self, slot: u64, pulse: u32) -> LedgerState
         requires early { slot < 2 ^ 62 }
-        requires current { IsOfEpoch self.ledger slot pulse }
+        requires current { StaysInEpoch self.ledger slot pulse }
         requires unbroken { first_among (block_checks self.ledger slot pulse) ≡ None }
         ensures { result ≡ pulsed slot pulse self }
     {

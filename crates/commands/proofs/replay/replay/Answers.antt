@@ -2,7 +2,7 @@ use Rattle.std.proofs.Common.{◌≡◌, ℕ, Option, Result, Ok, Err, ap, refl,
 use Rattle.byte_lines.specs.Faults.{CountsFaults}
 use Rattle.byte_lines.specs.Reader.{Reader}
 use Rattle.tx_records.specs.declared.record.Reading.{Reading}
-use Rattle.commands.specs.Heard.{HearsNext}
+use Rattle.record_stream.specs.Heard.{HearsNext}
 use Rattle.commands.specs.Statuses.{fault_of_answer, fault_of_line, fault_of_sink}
 use Rattle.commands.specs.declared.fault.ReplayFault.TheVariants as faults
 use Rattle.commands.proofs.Numbers.{became, counts_as, none_counted, not_err, not_read, to_replay, to_sink}

@@ -1,5 +1,5 @@
 use Rattle.std.proofs.Common.{◌≡◌, ℕ, List, Some}
-use Rattle.commands.specs.Heard.{turns_left}
+use Rattle.record_stream.specs.Heard.{turns_left}
 use Rattle.commands.specs.Turns.{Stands}
 use Rattle.commands.proofs.replay.replay.Given as goal
 

@@ -6,6 +6,6 @@ use Rattle.report.proofs.lines.put_each.Given as goal
 -- with what is handed over of the items that are left, all are handed over
 abbrev pub invariant-loop-item : goal.invariant-loop-item
 invariant-loop-item g l =
-    (t : g.T.Lines.Taken) (f : ℕ) (r : Result (Unit {0}) SinkFault)
-    → HasPut g.T.Lines.with_line g.T.Lines.IsPart l.line (g.T.Lines.taken l.to) (map g.P.Printed.words (drop l.item-index l.items)) t (g.T.Lines.faults l.to) f r
-    → HasPut g.T.Lines.with_line g.T.Lines.IsPart l.line (g.T.Lines.taken l.fn.to) (map g.P.Printed.words l.items) t (g.T.Lines.faults l.fn.to) f r
+    (t : g.T.LineTaker.Taken) (f : ℕ) (r : Result (Unit {0}) SinkFault)
+    → HasPut g.T.LineTaker.with_line g.T.LineTaker.IsPart l.line (g.T.LineTaker.taken l.to) (map g.P.Printed.words (drop l.item-index l.items)) t (g.T.LineTaker.faults l.to) f r
+    → HasPut g.T.LineTaker.with_line g.T.LineTaker.IsPart l.line (g.T.LineTaker.taken l.fn.to) (map g.P.Printed.words l.items) t (g.T.LineTaker.faults l.fn.to) f r

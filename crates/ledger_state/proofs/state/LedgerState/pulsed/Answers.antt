@@ -5,7 +5,7 @@ use Rattle.gov_ids.specs.declared.Credential.{Credential}
 use Rattle.ledger_model.specs.Checks.{first_among}
 use Rattle.run_model.specs.Step.{block_checks, pulsed}
 use Rattle.run_model.specs.World.{World}
-use Rattle.ledger_state.specs.Blocks.{IsOfEpoch}
+use Rattle.ledger_state.specs.Blocks.{StaysInEpoch}
 use Rattle.ledger_state.specs.contracts.state.LedgerState.{the_view}
 use Rattle.ledger_state.proofs.Steps.{block_sound, pulse_positive}
 use Rattle.ledger_state.proofs.Worlds.{goes_on, held_after, held_along, pulsed_is, visited_are}
@@ -29,7 +29,7 @@ invariant_of-result c =
     held_along (pulsed c.args.slot c.args.pulse w) _ a.frozen c.advanced-pulser.result (sym is)
     (held_after w (pulsed c.args.slot c.args.pulse w) a.frozen a.pulser c.advanced-pulser.result c.self.invariant (λ i. w.frozen) (c.advanced-pulser.ensures.counts w.frozen (sym entries) c.self.invariant.counts)
     (block_sound w c.args.slot c.args.pulse c.self.invariant.sound c.requires.early (omega (arith, c.ranges.pulse.fits))
-    (subst (λ (x : World). IsOfEpoch x.ledger c.args.slot c.args.pulse) (sym c.self.view_is) c.requires.current)
+    (subst (λ (x : World). StaysInEpoch x.ledger c.args.slot c.args.pulse) (sym c.self.view_is) c.requires.current)
     (ap (λ (x : World). first_among (block_checks x.ledger c.args.slot c.args.pulse)) c.self.view_is ∙ c.requires.unbroken)))
 
 pub returns : goal.returns

@@ -1,0 +1,108 @@
+-- The text of a certificate: what was frozen, the stakes of DReps, and for each proposal who counted for what and what came of it. (Own)
+use Rattle.std.specs.Prelude.{ℕ, not, List, [], ◌∷◌, ◌++◌, codes, decimal, filter, flat_map, map, zip}
+use Rattle.maps.specs.Maps.{value_at}
+use Rattle.gov_ids.specs.declared.Credential.{Credential}
+use Rattle.gov_ids.specs.declared.PoolId.{PoolId}
+use Rattle.gov_ids.specs.Orders.{credential_cmp}
+use Rattle.gov_ids.specs.Spelling.{action_id_text, credential_text, hash_text, pool_text}
+use Rattle.gov_actions.specs.declared.action.Proposal.{Proposal}
+use Rattle.gov_actions.specs.declared.state.EnactState.{EnactState}
+use Rattle.gov_actions.specs.declared.state.HotState.{HotState}
+use Rattle.gov_actions.specs.declared.tally.Tally.{Tally}
+use Rattle.gov_model.specs.Hot.{is_member}
+use Rattle.gov_model.specs.Ratified.{order_of, ratified_of, tallies_of}
+use Rattle.gov_model.specs.Sides.{members_of}
+use Rattle.gov_model.specs.Snapshot.{Snapshot}
+use Rattle.run_model.specs.Report.{stakes_of}
+use Rattle.text_forms.specs.Lines.{text_of_bare}
+use Rattle.text_forms.specs.Snapshots.{action_words, expiry_words, pool_account_words}
+use Rattle.text_model.specs.ActionWords.{kind_text, verdict_text}
+use Rattle.text_model.specs.EpochLines.{role_texts, role_words, stake_words}
+use Rattle.text_model.specs.ParamLines.{param_lines}
+use Rattle.text_model.specs.StateLines.{account_words, committee_words, hot_text, hot_words, proposal_lines}
+use Rattle.text_model.specs.Words.{Text, or_none, version_text}
+use Rattle.certificate_model.specs.Parts.{part_words, parts_of}
+
+-- ---- the snapshot
+
+-- the epoch that ends, with the version and the treasury of its beginning
+abbrev pub certificate_words : Snapshot → List Text
+certificate_words f =
+    codes "certificate" ∷ codes "epoch" ∷ decimal f.epoch ∷ codes "version" ∷ version_text f.start.version ∷
+    codes "treasury" ∷ decimal f.start.treasury ∷
+    []
+
+-- the constitution
+abbrev pub constitution_words : EnactState → List Text
+constitution_words s = codes "constitution" ∷ hash_text s.document ∷ or_none hash_text s.script ∷ []
+
+-- a member with its hot key at the freeze
+abbrev pub member_words : Snapshot → Credential × ℕ → List Text
+member_words f m =
+    codes "member" ∷ credential_text m.0 ∷ codes "term" ∷ decimal m.1 ∷ codes "hot" ∷ hot_text (value_at credential_cmp f.hot m.0) ∷ []
+
+-- the entries of keys that are not members
+abbrev pub outside_hot : Snapshot → List (Credential × HotState)
+outside_hot f = filter (λ h. not (is_member f.start.committee h.0)) f.hot
+
+-- the last enacted ids
+abbrev pub enacted_words : EnactState → List Text
+enacted_words s =
+    codes "enacted" ∷
+    codes "committee" ∷ or_none action_id_text s.last.committee ∷
+    codes "constitution" ∷ or_none action_id_text s.last.constitution ∷
+    codes "hardfork" ∷ or_none action_id_text s.last.hardfork ∷
+    codes "parameters" ∷ or_none action_id_text s.last.parameters ∷
+    []
+
+-- the stake of a pool of mark
+abbrev pub mark_words : PoolId × ℕ → List Text
+mark_words m = codes "mark" ∷ pool_text m.0 ∷ decimal m.1 ∷ []
+
+-- a proposal with its votes and its action
+abbrev pub whole_proposal_lines : Proposal → List (List Text)
+whole_proposal_lines p = proposal_lines p ++ action_words p ∷ []
+
+-- the snapshot, part after part
+abbrev pub snapshot_lines : Snapshot → List (List Text)
+snapshot_lines f =
+    certificate_words f ∷ constitution_words f.start ∷ committee_words f.start.committee ∷ []
+    ++ map (member_words f) (members_of f.start.committee)
+    ++ map hot_words (outside_hot f)
+    ++ enacted_words f.start ∷ []
+    ++ param_lines f.start.params
+    ++ map expiry_words f.dreps
+    ++ map (pool_account_words f) f.mark
+    ++ map mark_words f.mark
+    ++ map account_words f.entries
+    ++ flat_map whole_proposal_lines f.proposals
+
+-- ---- what is made of it
+
+-- the counts, the needs and the verdict of a proposal
+abbrev pub verdict_words : Tally → List Text
+verdict_words t =
+    codes "verdict" ∷ action_id_text t.id ∷ kind_text t.kind ∷ []
+    ++ flat_map (λ x. role_words (x.0, x.1.0, x.1.1)) (zip role_texts (zip t.counts t.needs))
+    ++ verdict_text t.verdict ∷ []
+
+-- who counts for what on a proposal, and what comes of it
+abbrev pub claim_of_proposal : Snapshot → Proposal × Tally → List (List Text)
+claim_of_proposal f (a, t) = map (part_words a) (parts_of f a) ++ verdict_words t ∷ []
+
+-- the stakes of DReps, and the proposals in order of priority
+abbrev pub claim_lines : Snapshot → List (List Text)
+claim_lines f =
+    map stake_words (stakes_of f)
+    ++ flat_map (claim_of_proposal f) (zip (order_of f) (tallies_of f (ratified_of f)))
+    ++ (codes "end" ∷ []) ∷ []
+
+-- ---- all of it
+
+-- the lines of the certificate of a snapshot
+abbrev pub certificate_lines : Snapshot → List (List Text)
+certificate_lines f = snapshot_lines f ++ claim_lines f
+
+-- its text
+abbrev pub certificate_text : Snapshot → Text
+certificate_text f = text_of_bare (certificate_lines f)

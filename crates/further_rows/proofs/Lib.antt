@@ -1,0 +1,14 @@
+pub mod Texts
+pub mod CheckpointStreams
+pub mod LaterCheckpointStreams
+pub mod ResumeStreams
+pub mod LaterResumeStreams
+pub mod ForgedResumeStreams
+pub mod CertificateStreams
+pub mod EnactedCertificateStreams
+pub mod ThresholdCertificateStreams
+pub mod ShortfallStreams
+pub mod FollowStreams
+pub mod TakenBackStreams
+pub mod RefusedStreams
+pub mod LaterRefusedStreams

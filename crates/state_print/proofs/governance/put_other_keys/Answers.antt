@@ -1,0 +1,6 @@
+use Rattle.state_print.proofs.Walks.{others}
+use Rattle.state_print.proofs.Lines.{put_as}
+use Rattle.state_print.proofs.governance.put_other_keys.Goals as goal
+
+pub returns : goal.returns
+returns g c = put_as (others c.args.committee.now c.args.hot.now) c.put_walk.ensures

@@ -1,0 +1,14 @@
+//! The print of a state: the lines of a ledger's parts, one after another, each through one buffer. No part is copied, and no text is held whole.
+#![tactic(auto)]
+
+mod books;
+mod governance;
+mod items;
+mod kept;
+mod proposals;
+mod state;
+mod view;
+mod walk;
+
+pub use state::{put_state, state_text, write_state};
+pub use view::StateView;
