@@ -1,6 +1,6 @@
 use crate::actions::check_action;
-use live_ledger::Draft;
 use lineage::{follows_version, may_follow};
+use live_ledger::Draft;
 use rule_checks::ItemRules;
 use tx_records::rules::{
     CANNOT_FOLLOW, PREVIOUS_WRONG, PROPOSAL_DEPOSIT_WRONG, RETURN_ACCOUNT_UNKNOWN,
