@@ -3,6 +3,7 @@ use Rattle.std.proofs.Common.{◌≡◌, [], ◌∷◌, Option, Some, None, Ok, 
 use Rattle.ledger_model.specs.Broken.{first_broken}
 use Rattle.ledger_model.specs.Ledger.{Ledger}
 use Rattle.ledger_model.specs.Transaction.{accepted_as, tx_step_by}
+use Rattle.live_ledger.specs.Standing.{Standing}
 use Rattle.run_model.specs.Step.{step_by, world_after_accepted}
 use Rattle.run_model.specs.World.{World}
 use Rattle.text_model.specs.Replies.{reply_words}
@@ -61,7 +62,7 @@ lines_are w (Read (records.Print State)) = refl
 
 -- ---- both
 
-pub judged : (w : World) (l : World) (r : Reading) (after : World) (outcome : Outcome) → l.ledger ≡ w.ledger → Judges l r (Ok (after, outcome))
+pub judged : (w : World) (l : Standing) (r : Reading) (after : Standing) (outcome : Outcome) → l.ledger ≡ w.ledger → Judges l r (Ok (after, outcome))
     → (after.ledger ≡ (world_left w r).ledger) × (answer_lines w r ≡ outcome_lines outcome)
 judged w l r after outcome is judges = (
   judges.0 ∙ ap (λ (m : Ledger). ledger_left m r) is ∙ ledger_is w r,

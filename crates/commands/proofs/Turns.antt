@@ -10,6 +10,7 @@ use Rattle.byte_lines.specs.declared.lines.LineFault.{LineFault}
 use Rattle.byte_lines.specs.declared.lines.LineFault.TheVariants as line_faults
 use Rattle.byte_lines.specs.declared.sink.SinkFault.{SinkFault}
 use Rattle.byte_lines.specs.declared.sink.SinkFault.TheVariants as sink_faults
+use Rattle.live_ledger.specs.Standing.{Standing}
 use Rattle.run_model.specs.Genesis.{genesis_fault, world_of_genesis}
 use Rattle.run_model.specs.World.{World}
 use Rattle.text_model.specs.Runs.{text_of_lines}
@@ -65,12 +66,12 @@ leaves_well : (records : List (ℕ × Reading)) (w : World) (written : Text) →
 leaves_well records w written leaves more = starts_well (records ++ more) _ (leaves more)
 
 -- what was written is a front of their text, whatever comes next
-writes_front : (records : List (ℕ × Reading)) (ledger : Option World) (written : Text) → Writes records ledger written → (more : List (ℕ × Reading)) → IsFront written (text_so_far (records ++ more))
+writes_front : (records : List (ℕ × Reading)) (ledger : Option Standing) (written : Text) → Writes records ledger written → (more : List (ℕ × Reading)) → IsFront written (text_so_far (records ++ more))
 writes_front records None written writes more = (text_so_far (records ++ more), ap (λ (t : Text). t ++ text_so_far (records ++ more)) (sym writes.1))
 writes_front records (Some l) written writes more = (text_from writes.0 more, ap (λ (t : Option Text). unwrap_or t []) (writes.2 more))
 
 -- and it is their text
-writes_now : (records : List (ℕ × Reading)) (ledger : Option World) (written : Text) → Writes records ledger written → (written ≡ text_so_far records) × IsMissingOnly (start_fault records)
+writes_now : (records : List (ℕ × Reading)) (ledger : Option Standing) (written : Text) → Writes records ledger written → (written ≡ text_so_far records) × IsMissingOnly (start_fault records)
 writes_now records None written writes =
     (writes.1 ∙ ap (λ (rs : List (ℕ × Reading)). text_so_far rs) (sym writes.0), subst (λ (rs : List (ℕ × Reading)). IsMissingOnly (start_fault rs)) (sym writes.0) tt)
 writes_now records (Some l) written writes =
@@ -86,7 +87,7 @@ text_of_first n g None e more = refl
 text_of_first n g (Some cause) e more = cc
 
 -- one record more: its text follows
-pub writes_more : (records : List (ℕ × Reading)) (ledger : Option World) (written : Text) (n : ℕ) (r : Reading) (after : World) (outcome : Outcome)
+pub writes_more : (records : List (ℕ × Reading)) (ledger : Option Standing) (written : Text) (n : ℕ) (r : Reading) (after : Standing) (outcome : Outcome)
     → Writes records ledger written → Answers ledger r (Ok (after, outcome)) → Writes (records ++ (n, r) ∷ []) (Some after) (written ++ outcome_text n outcome)
 writes_more records None written n r after outcome writes answers = (
   world_of_genesis answers.0,
@@ -148,7 +149,7 @@ abbrev all_come : (bytes : List ℕ) (left : Option (List ℕ)) (records : List 
 all_come bytes left records all = record { came = bytes; rest = []; cut = sym (append-nil bytes); told = all.told }
 
 -- a run that stands, and reads on
-module _ (bytes : List ℕ) (old : Reader) (before : Option (List ℕ)) (ledger : Option World) (had now : Option (List ℕ)) (stands : Stands bytes old before ledger had now)
+module _ (bytes : List ℕ) (old : Reader) (before : Option (List ℕ)) (ledger : Option Standing) (had now : Option (List ℕ)) (stands : Stands bytes old before ledger had now)
     (new : Reader) (left : Option (List ℕ)) where
   -- memory ran out, and of a further text a front was taken
   without_memory : (records : List (ℕ × Reading)) (has : Option (List ℕ)) (front : Text) → has ≡ append_known now front
@@ -189,9 +190,9 @@ module _ (bytes : List ℕ) (old : Reader) (before : Option (List ℕ)) (ledger 
       (λ more. subst (λ (t : Text). IsFront t (text_so_far (stands.records ++ more))) (sym (append-nil stands.written)) (writes_front stands.records ledger stands.written stands.writes more)) heard
 
   -- the end came
-  pub ends_done : (l : World) → ledger ≡ Some l → AreAll bytes left stands.records → IsReplayed statuses.Done bytes left had now
+  pub ends_done : (l : Standing) → ledger ≡ Some l → AreAll bytes left stands.records → IsReplayed statuses.Done bytes left had now
   ends_done l is all =
-      let writes : Writes stands.records (Some l) stands.written = subst (λ (o : Option World). Writes stands.records o stands.written) is stands.writes in record {
+      let writes : Writes stands.records (Some l) stands.written = subst (λ (o : Option Standing). Writes stands.records o stands.written) is stands.writes in record {
         come = all_come bytes left stands.records all;
         written = stands.written;
         wrote = stands.wrote;
@@ -204,7 +205,7 @@ module _ (bytes : List ℕ) (old : Reader) (before : Option (List ℕ)) (ledger 
 
   pub ends_missing : ledger ≡ None → AreAll bytes left stands.records → IsReplayed (statuses.BadGenesis causes.Missing) bytes left had now
   ends_missing is all =
-      let writes : Writes stands.records None stands.written = subst (λ (o : Option World). Writes stands.records o stands.written) is stands.writes in
+      let writes : Writes stands.records None stands.written = subst (λ (o : Option Standing). Writes stands.records o stands.written) is stands.writes in
       let fault : start_fault (records_of bytes) ≡ Some causes.Missing = ap (λ (rs : List (ℕ × Reading)). start_fault rs) (sym all.all ∙ writes.0) in record {
         come = all_come bytes left stands.records all;
         written = stands.written;
@@ -247,7 +248,7 @@ module _ (bytes : List ℕ) (old : Reader) (before : Option (List ℕ)) (ledger 
     }
 
     -- there is no answer
-    ends_by : (o : Option World) → Writes stands.records o stands.written → (fault : AnswerFault) → Answers o r (Err fault) → IsReplayed (status_of_fault (fault_of_answer fault)) bytes left had now
+    ends_by : (o : Option Standing) → Writes stands.records o stands.written → (fault : AnswerFault) → Answers o r (Err fault) → IsReplayed (status_of_fault (fault_of_answer fault)) bytes left had now
     ends_by None none (answer_faults.BadGenesis cause) answers = bad_start cause none.0 none.1 answers
     ends_by None none answer_faults.NoMemory answers = without_memory upto now [] (took_nothing now) front_before heard.first
     ends_by (Some l) some (answer_faults.BadGenesis cause) answers = absurd answers
@@ -256,7 +257,7 @@ module _ (bytes : List ℕ) (old : Reader) (before : Option (List ℕ)) (ledger 
     pub ends_at_answer : (fault : AnswerFault) → Answers ledger r (Err fault) → IsReplayed (status_of_fault (fault_of_answer fault)) bytes left had now
     ends_at_answer fault answers = ends_by ledger stands.writes fault answers
 
-    module _ (after : World) (outcome : Outcome) (answers : Answers ledger r (Ok (after, outcome))) where
+    module _ (after : Standing) (outcome : Outcome) (answers : Answers ledger r (Ok (after, outcome))) where
       abbrev line : Text
       line = outcome_text new.number outcome
 

@@ -4,9 +4,9 @@ use Rattle.coin_frac.specs.declared.NoMemory.{NoMemory}
 use Rattle.ledger_model.specs.Ledger.{Ledger}
 use Rattle.ledger_model.specs.Supply.{pots_of}
 use Rattle.ledger_model.specs.Transaction.{tx_step}
+use Rattle.live_ledger.specs.Standing.{Standing}
 use Rattle.report.specs.declared.pots.PotsWord.TheVariants as words
 use Rattle.run_model.specs.Genesis.{ledger_of_genesis}
-use Rattle.run_model.specs.World.{World}
 use Rattle.text_model.specs.Runs.{line_rule}
 use Rattle.tx_records.specs.declared.genesis.Genesis.{Genesis}
 use Rattle.tx_records.specs.declared.record.Reading.{Reading}
@@ -25,14 +25,14 @@ use Rattle.commands.specs.Outcomes.{outcome_lines}
 use Rattle.commands.specs.Runs.{genesis_cause, genesis_lines, not_built, reading_fault}
 
 -- the ledger of a genesis and its pots, or the cause for which there is none
-abbrev pub Begins : Genesis → Result (World × Outcome) AnswerFault → Type 0
+abbrev pub Begins : Genesis → Result (Standing × Outcome) AnswerFault → Type 0
 Begins g (Ok (l, outcome)) =
     (genesis_cause g ≡ None) × (l.ledger ≡ ledger_of_genesis g) × (outcome_lines outcome ≡ genesis_lines g)
 Begins g (Err (faults.BadGenesis cause)) = genesis_cause g ≡ Some cause
 Begins g (Err faults.NoMemory) = ⊤
 
 -- the same of what was read first
-abbrev pub BeginsWith : Reading → Result (World × Outcome) AnswerFault → Type 0
+abbrev pub BeginsWith : Reading → Result (Standing × Outcome) AnswerFault → Type 0
 BeginsWith r (Ok p) = (g : Genesis) × (r ≡ Read (records.Genesis g)) × Begins g (Ok p)
 BeginsWith r (Err (faults.BadGenesis cause)) = reading_fault r ≡ Some cause
 BeginsWith r (Err faults.NoMemory) = ⊤
@@ -56,12 +56,12 @@ outcome_of l (Malformed field place) = Answered (Refused (line_rule MALFORMED (S
 outcome_of l TooLong = Answered (Refused (plain_rule TOO_LONG))
 
 -- the ledger after what was read, and what that comes to, but where memory ran out
-abbrev pub Judges : World → Reading → Result (World × Outcome) NoMemory → Type 0
+abbrev pub Judges : Standing → Reading → Result (Standing × Outcome) NoMemory → Type 0
 Judges l r (Ok (after, outcome)) = (after.ledger ≡ ledger_left l.ledger r) × (outcome ≡ outcome_of l.ledger r)
 Judges l r (Err e) = ⊤
 
 -- the answer to what was read; there is no ledger before the genesis
-abbrev pub Answers : Option World → Reading → Result (World × Outcome) AnswerFault → Type 0
+abbrev pub Answers : Option Standing → Reading → Result (Standing × Outcome) AnswerFault → Type 0
 Answers None r result = BeginsWith r result
 Answers (Some l) r (Ok p) = Judges l r (Ok p)
 Answers (Some l) r (Err (faults.BadGenesis cause)) = ⊥

@@ -12,28 +12,25 @@ use crate::fault::AnswerFault;
 use crate::outcome::Outcome;
 use crate::status::GenesisCause;
 use coin_frac::NoMemory;
-use ledger_state::LedgerState;
+use live_ledger::LiveLedger;
 use report::PotsWord;
 use std::alloc::Global;
 use tx_records::rules::{GENESIS_AGAIN, MALFORMED, NOT_BUILT, TOO_LONG};
 use tx_records::{FieldName, Genesis, Reading, Record, Reply, Rule, Tx, What};
 use tx_rule::apply_tx;
 
-/// How many workers count an epoch's entries.
-const ONE_WORKER: u32 = 1;
-
 /// The ledger of a genesis and its pots, where it breaks no rule.
-fn begin(alloc: Global, genesis: &Genesis) -> Result<(LedgerState, Outcome), AnswerFault>
+fn begin(alloc: Global, genesis: &Genesis) -> Result<(LiveLedger, Outcome), AnswerFault>
     requires within { genesis_limits.is_within_limits genesis.now ≡ true }
     ensures { Begins genesis.now result }
 {
-    let ledger = LedgerState::from_genesis(alloc, genesis, ONE_WORKER)?;
+    let ledger = LiveLedger::from_genesis(alloc, genesis)?;
     let pots = ledger.pots();
     Ok((ledger, Outcome::Pots(PotsWord::Genesis, pots)))
 }
 
 /// The same of what was read first.
-fn begin_with(alloc: Global, reading: &Reading) -> Result<(LedgerState, Outcome), AnswerFault>
+fn begin_with(alloc: Global, reading: &Reading) -> Result<(LiveLedger, Outcome), AnswerFault>
     requires within { is_within reading.now ≡ true }
     ensures { BeginsWith reading.now result }
 {
@@ -70,7 +67,7 @@ fn malformed(what: FieldName, place: Option<u32>) -> Outcome
 }
 
 /// The ledger after a transaction, and its reply.
-fn judge_tx(alloc: Global, ledger: LedgerState, tx: &Tx) -> Result<(LedgerState, Outcome), NoMemory>
+fn judge_tx(alloc: Global, ledger: LiveLedger, tx: &Tx) -> Result<(LiveLedger, Outcome), NoMemory>
     requires within { tx_limits.is_within_limits tx.now ≡ true }
     ensures { Judges ledger (Read (Record.Tx tx.now)) result }
 {
@@ -81,9 +78,9 @@ fn judge_tx(alloc: Global, ledger: LedgerState, tx: &Tx) -> Result<(LedgerState,
 /// The ledger after a record, and what it comes to.
 fn judge_record(
     alloc: Global,
-    ledger: LedgerState,
+    ledger: LiveLedger,
     found: &Record,
-) -> Result<(LedgerState, Outcome), NoMemory>
+) -> Result<(LiveLedger, Outcome), NoMemory>
     requires within { is_within_limits found.now ≡ true }
     ensures { Judges ledger (Read found.now) result }
 {
@@ -103,9 +100,9 @@ fn judge_record(
 /// The ledger after what was read of a line, and what that comes to.
 fn judge(
     alloc: Global,
-    ledger: LedgerState,
+    ledger: LiveLedger,
     reading: &Reading,
-) -> Result<(LedgerState, Outcome), NoMemory>
+) -> Result<(LiveLedger, Outcome), NoMemory>
     requires within { is_within reading.now ≡ true }
     ensures { Judges ledger reading.now result }
 {
@@ -119,9 +116,9 @@ fn judge(
 /// The ledger after what was read of a line, and what that comes to; before the genesis there is no ledger.
 pub fn answer(
     alloc: Global,
-    ledger: Option<LedgerState>,
+    ledger: Option<LiveLedger>,
     reading: Reading,
-) -> Result<(LedgerState, Outcome), AnswerFault>
+) -> Result<(LiveLedger, Outcome), AnswerFault>
     requires within { is_within reading ≡ true }
     ensures { Answers ledger reading result }
 {

@@ -7,7 +7,7 @@ use crate::answer::answer;
 use crate::fault::ReplayFault;
 use crate::status::GenesisCause;
 use byte_lines::{Lines, Sink, Source};
-use ledger_state::LedgerState;
+use live_ledger::LiveLedger;
 use record_stream::next_record;
 use std::alloc::Global;
 use tx_records::limits::{LINE_LIMIT, STREAM_LIMIT};
@@ -25,7 +25,7 @@ pub fn replay<S: Source, K: Sink>(
 {
     let mut lines = Lines::new(alloc, LINE_LIMIT, STREAM_LIMIT);
     let mut text = Vec::new(alloc);
-    let mut ledger: Option<LedgerState> = None;
+    let mut ledger: Option<LiveLedger> = None;
     while let Some(reading) = next_record(alloc, &mut lines, source)? {
         let (after, outcome) = answer(alloc, ledger, reading)?;
         outcome.write(lines.number(), &mut text, sink)?;

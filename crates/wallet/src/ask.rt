@@ -1,10 +1,10 @@
 //! Whether a transaction will be accepted.
 ghost use Rattle.std.specs.Prelude.{◌≡◌, IfOk};
 ghost use Rattle.ledger_model.specs.Transaction.{tx_step};
-ghost use Rattle.run_model.specs.World.{on_ledger};
+ghost use Rattle.live_ledger.specs.Standing.{on_ledger};
 
 use coin_frac::NoMemory;
-use ledger_state::LedgerState;
+use live_ledger::LiveLedger;
 use std::alloc::Global;
 use tx_records::{Reply, Tx};
 use tx_rule::apply_tx;
@@ -29,7 +29,7 @@ impl From<NoMemory> for AskFault {
 }
 
 /// The reply to a transaction, and the ledger after it, which is the one that was given where the reply is a refusal. (Own)
-pub fn ask(alloc: Global, ledger: LedgerState, tx: &Tx) -> Result<(LedgerState, Reply), AskFault>
+pub fn ask(alloc: Global, ledger: LiveLedger, tx: &Tx) -> Result<(LiveLedger, Reply), AskFault>
     ensures reply { IfOk result (λ r. r.1 ≡ (tx_step ledger.ledger tx.now).1) }
     ensures ledger { IfOk result (λ r. r.0 ≡ on_ledger (λ l. (tx_step l tx.now).0) ledger) }
 {

@@ -12,7 +12,7 @@ mod transfer;
 use ask::{AskFault, ask};
 use coin_frac::NoMemory;
 use governance::{governance, hard_fork};
-use ledger_state::LedgerState;
+use live_ledger::LiveLedger;
 use report::reply_line;
 use start::ledger_of;
 use std::alloc::Global;
@@ -36,10 +36,10 @@ fn transaction(alloc: Global, question: u64) -> Result<Tx, NoMemory> {
 /// What the ledger answers to a question, as a line of text in place of what the buffer held; and the ledger after it.
 fn answer(
     alloc: Global,
-    ledger: LedgerState,
+    ledger: LiveLedger,
     question: u64,
     text: &mut Vec<u8>,
-) -> Result<LedgerState, AskFault> {
+) -> Result<LiveLedger, AskFault> {
     let (after, reply) = ask(alloc, ledger, &transaction(alloc, question)?)?;
     reply_line(text, question, &reply)?;
     Ok(after)

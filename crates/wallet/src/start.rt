@@ -2,8 +2,7 @@
 ghost use Rattle.std.specs.Prelude.{IfOk};
 ghost use Rattle.wallet.specs.Starts.{IsLedgerOf};
 
-use ledger_state::LedgerState;
-use live_ledger::GenesisFault;
+use live_ledger::{GenesisFault, LiveLedger};
 use record_read::{RecordFault, read_record};
 use std::alloc::Global;
 use tx_records::{GenesisRule, Record};
@@ -22,7 +21,7 @@ pub enum StartFault {
 }
 
 /// The ledger of a line that is a genesis. (Own)
-pub fn ledger_of(alloc: Global, line: &[u8]) -> Result<LedgerState, StartFault>
+pub fn ledger_of(alloc: Global, line: &[u8]) -> Result<LiveLedger, StartFault>
     ensures { IfOk result (IsLedgerOf line.now) }
 {
     let genesis = match read_record(alloc, line) {
@@ -30,7 +29,7 @@ pub fn ledger_of(alloc: Global, line: &[u8]) -> Result<LedgerState, StartFault>
         Ok(_) => return Err(StartFault::NoGenesis),
         Err(fault) => return Err(StartFault::Unreadable(fault)),
     };
-    match LedgerState::from_genesis(alloc, genesis.get(), 1) {
+    match LiveLedger::from_genesis(alloc, genesis.get()) {
         Ok(ledger) => Ok(ledger),
         Err(GenesisFault::Broken(rule)) => Err(StartFault::Broken(rule)),
         Err(GenesisFault::NoMemory) => Err(StartFault::NoMemory),
