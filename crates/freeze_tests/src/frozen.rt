@@ -3,6 +3,7 @@ ghost use Rattle.std.specs.Prelude.{◌≡◌, []};
 
 use accounts::{AccountBook, Entry, Registered};
 use cert_pool::PoolBook;
+use coin_frac::NoMemory;
 use freeze::{copied_proposals, deposits_by_account, deposits_by_pool, frozen_pools};
 use gov_actions::{Action, Proposal};
 use gov_ids::{Account, ActionId, CredKind, Credential, PoolId, TxId};
@@ -72,19 +73,43 @@ fn registered(pool: Option<PoolId>) -> Entry {
     }
 }
 
-#[test]
-fn freezes_proposals_and_pools(rt: HostRuntime) -> Result<(), Fail> {
-    let alloc = rt.alloc();
+/// The three proposals.
+fn three(rt: &impl Abort, alloc: Global) -> Result<ProposalStore, Fail> {
     let mut store = ProposalStore::new(alloc);
     for proposal in [(1, 10, 7), (2, 5, 8), (3, 7, 7)] {
-        add(&rt, alloc, &mut store, proposal)?;
+        add(rt, alloc, &mut store, proposal)?;
     }
+    Ok(store)
+}
+
+/// The two accounts, of which the first delegates to the pool.
+fn two(alloc: Global) -> Result<AccountBook, NoMemory> {
     let mut accounts = AccountBook::new(alloc);
     accounts.put(key(7), registered(Some(POOL)))?;
     accounts.put(key(8), registered(None))?;
-    assert!(rt; copied_proposals(alloc, &store)?.len() == 3);
-    let by_account = deposits_by_account(alloc, &store)?;
+    Ok(accounts)
+}
+
+#[test]
+fn copies_proposals(rt: HostRuntime) -> Result<(), Fail> {
+    let store = three(&rt, rt.alloc())?;
+    assert!(rt; copied_proposals(rt.alloc(), &store)?.len() == 3);
+    Ok(())
+}
+
+#[test]
+fn adds_up_deposits(rt: HostRuntime) -> Result<(), Fail> {
+    let store = three(&rt, rt.alloc())?;
+    let by_account = deposits_by_account(rt.alloc(), &store)?;
     assert!(rt; (by_account.get(&key(7)), by_account.get(&key(8))) == (17, 5));
+    Ok(())
+}
+
+#[test]
+fn freezes_pools(rt: HostRuntime) -> Result<(), Fail> {
+    let alloc = rt.alloc();
+    let store = three(&rt, alloc)?;
+    let accounts = two(alloc)?;
     let by_pool = deposits_by_pool(alloc, &store, &accounts)?;
     assert!(rt; by_pool.total() < 1000);
     let pools = PoolBook::new(alloc);
