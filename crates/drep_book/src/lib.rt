@@ -1,7 +1,7 @@
 //! The book of registered DReps, with the dormant count.
 #![tactic(auto)]
 
-ghost use Rattle.std.specs.Prelude.{◌≡◌, ◌+◌, ◌^◌, ◌<◌, [], map, option_map, IfOk, OnOk, OnErr, if◌then◌else◌};
+ghost use Rattle.std.specs.Prelude.{◌≡◌, ◌+◌, ◌-◌, ◌^◌, ◌<◌, ◌≤◌, [], map, option_map, IfOk, OnOk, OnErr, if◌then◌else◌};
 ghost use Rattle.gov_ids.specs.Orders.{credential_cmp};
 ghost use Rattle.maps.specs.Maps.{IsMap, value_at, with_value, without_key, entry_after};
 ghost use Rattle.maps.specs.Replaced.{with_option};
@@ -150,8 +150,9 @@ impl DrepBook {
 
 /// A DRep with the dormant epochs added, if by the epoch it has not expired with them. A sum that does not fit stops at the last number. (Own)
 pub fn with_dormant(d: DrepState, epoch: u64, dormant: u64) -> DrepState
-    ensures { d.expiry + dormant < 2 ^ 64 →
+    ensures fits { d.expiry + dormant < 2 ^ 64 →
         result ≡ (if is_kept_active epoch dormant d then extended dormant d else d) }
+    ensures stops { 2 ^ 64 ≤ d.expiry + dormant → result ≡ record d { expiry = 2 ^ 64 - 1 } }
 {
     let expiry = d.expiry.saturating_add(dormant);
     if expiry < epoch {

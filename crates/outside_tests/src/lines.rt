@@ -71,6 +71,26 @@ impl Write for Watched {
     }
 }
 
+/// A writer that takes all, counts its writes, and fails at the second alone.
+#[derive(Drop)]
+struct Stumbling {
+    calls: u8,
+}
+
+impl Write for Stumbling {
+    fn write(&mut self, buf: &[u8]) -> io::Result<usize> {
+        self.calls = self.calls.saturating_add(1);
+        if self.calls == 2 {
+            return Err(io::ErrorKind::Other.into());
+        }
+        Ok(buf.len())
+    }
+
+    fn flush(&mut self) -> io::Result<()> {
+        Ok(())
+    }
+}
+
 /// A reader that gives one byte at each read, fails at the second, and keeps how many it was asked for.
 #[derive(Drop)]
 struct Failing {
@@ -183,4 +203,15 @@ fn flushes_each_write(rt: HostRuntime) {
     assert!(rt; bytes.as_slice() == b"ab".as_slice());
     let mut stuck = WriterSink::new(Broken);
     puts(&rt, &mut stuck, [(b"ab".as_slice(), false)].as_slice());
+}
+
+/// A write that failed is a fault, and is not tried once more; the next one is.
+#[test]
+fn writes_each_piece_once(rt: HostRuntime) {
+    let mut stumbling = Stumbling { calls: 0 };
+    let mut sink = WriterSink::new(&mut stumbling);
+    let pieces = [(b"ab".as_slice(), true), (b"cd", false), (b"ef", true)];
+    puts(&rt, &mut sink, pieces.as_slice());
+    drop(sink);
+    assert!(rt; stumbling.calls == 3);
 }

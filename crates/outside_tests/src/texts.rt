@@ -94,10 +94,9 @@ fn lines_of_replies(rt: HostRuntime) -> Result<(), Fail> {
 }
 
 /// What follows the number of each rule, where it is broken at place 3 and keeps 7, or 7 and 8.
-static TEXTS: [(u16, &'static str); 61] = [
+static TEXTS: [(u16, &'static str); 60] = [
     (2, " TooLong at 3"),
     (3, " GenesisAgain at 3"),
-    (9, " NotBuilt at 3"),
     (10, " SlotNotLater at 3 last 7"),
     (11, " EpochSkipped at 3 now 7"),
     (12, " ZeroPulse at 3"),

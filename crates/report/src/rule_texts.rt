@@ -20,11 +20,10 @@ macro_rules! rule {
 }
 
 /// One line a rule.
-static RULE_TEXTS: [RuleText; 62] = [
+static RULE_TEXTS: [RuleText; 61] = [
     rule!(MALFORMED, "Malformed"),
     rule!(TOO_LONG, "TooLong"),
     rule!(GENESIS_AGAIN, "GenesisAgain"),
-    rule!(NOT_BUILT, "NotBuilt"),
     rule!(SLOT_NOT_LATER, "SlotNotLater", "last"),
     rule!(EPOCH_SKIPPED, "EpochSkipped", "now"),
     rule!(ZERO_PULSE, "ZeroPulse"),

@@ -7,8 +7,6 @@ pub const MALFORMED: u16 = 1;
 pub const TOO_LONG: u16 = 2;
 /// GenesisAgain: A second genesis.
 pub const GENESIS_AGAIN: u16 = 3;
-/// NotBuilt: The record is one, and a part of it is not built yet.
-pub const NOT_BUILT: u16 = 9;
 
 // Blocks.
 /// SlotNotLater: The slot is not above the last one. Keeps `last`.
