@@ -1,70 +1,172 @@
--- What is judged over the ledger is what the whole says of a World that holds it.
-use Rattle.std.proofs.Common.{◌≡◌, [], ◌∷◌, Option, Some, None, Ok, refl, ap, sym, ◌∙◌}
+-- What is judged of a record is what the definitions of the whole ledger say of it.
+use Rattle.std.proofs.Common.{◌≡◌, ℕ, ◌+◌, ◌/◌, ◌==◌, [], ◌∷◌, ◌++◌, List, Bool, true, false, Option, Some, None, Err, nat_le, nat_lt, refl, ap, sym, ◌∙◌, arith}
+use Rattle.std.proofs.lemmas.Bool.{eqb-true, le-ltb, ne_eqb}
 use Rattle.ledger_model.specs.Broken.{first_broken}
+use Rattle.ledger_model.specs.Checks.{breaks, breaks_keeping, first_among}
 use Rattle.ledger_model.specs.Ledger.{Ledger}
-use Rattle.ledger_model.specs.Transaction.{accepted_as, tx_step_by}
-use Rattle.live_ledger.specs.Standing.{Standing}
-use Rattle.run_model.specs.Step.{step_by, world_after_accepted}
-use Rattle.run_model.specs.World.{World}
-use Rattle.text_model.specs.Replies.{reply_words}
-use Rattle.text_model.specs.Runs.{lines_by}
-use Rattle.tx_records.specs.declared.record.Reading.{Reading}
-use Rattle.tx_records.specs.declared.record.Reading.TheVariants.{Read, Malformed, TooLong}
+use Rattle.ledger_model.specs.Supply.{pots_of}
+use Rattle.ledger_model.specs.Transaction.{accepted_as, tx_step, tx_step_by}
+use Rattle.ledger_state.proofs.Steps.{block_stays, not_entered, step_accepted, step_refused}
+use Rattle.ledger_state.specs.Blocks.{block_answer}
+use Rattle.run_laws.proofs.GoodBlock.{boundary_epoch, boundary_length, update_only}
+use Rattle.run_model.specs.Boundary.{world_after_boundary}
+use Rattle.run_model.specs.Report.{report_of}
+use Rattle.run_model.specs.Step.{block_checks, crossed, enters_next, epoch_at, pulsed, step, step_by, world_after_accepted, world_after_block}
+use Rattle.run_model.specs.World.{World, on_ledger}
+use Rattle.text_model.specs.EpochLines.{epoch_lines}
+use Rattle.text_model.specs.Replies.{block_words, reply_words}
+use Rattle.text_model.specs.Runs.{crossing_lines, lines_by, world_after_reading}
+use Rattle.text_model.specs.Words.{Text}
+use Rattle.tx_records.specs.declared.record.Reading.TheVariants.{Read}
 use Rattle.tx_records.specs.declared.record.Record.TheVariants as records
-use Rattle.tx_records.specs.declared.record.What.TheVariants.{Pots, State}
+use Rattle.tx_records.specs.declared.record.Rewards.{Rewards}
 use Rattle.tx_records.specs.declared.reply.Reply.{Reply}
 use Rattle.tx_records.specs.declared.reply.Reply.TheVariants.{Accepted, AcceptedFailedScripts, Refused}
 use Rattle.tx_records.specs.declared.reply.Rule.{Rule}
+use Rattle.tx_records.specs.declared.report.EpochReport.{EpochReport}
+use Rattle.tx_records.specs.declared.report.Pots.{Pots}
+use Rattle.tx_records.specs.declared.rules.TheConstants.{EPOCH_SKIPPED, SLOT_NOT_LATER, ZERO_PULSE}
 use Rattle.tx_records.specs.declared.tx.Tx.{Tx}
-use Rattle.commands.specs.Answers.{Judges, ledger_left, outcome_of}
-use Rattle.commands.specs.declared.outcome.Outcome.{Outcome}
-use Rattle.commands.specs.Outcomes.{outcome_lines}
-use Rattle.commands.specs.Runs.{answer_lines, world_left}
+use Rattle.commands.specs.Answers.{IsJudged}
+use Rattle.commands.specs.declared.outcome.Outcome.TheVariants.{Answered, Block, Crossed}
 
--- ---- the ledger
+-- ---- a transaction
 
-ledger_by : (found : Option Rule) (w : World) (tx : Tx) → (tx_step_by found w.ledger tx).0 ≡ (step_by found w (records.Tx tx)).0.ledger
-ledger_by (Some rule) w tx = refl
-ledger_by None w tx = refl
+world_by : (found : Option Rule) (w : World) (tx : Tx) → record w { ledger = (tx_step_by found w.ledger tx).0 } ≡ (step_by found w (records.Tx tx)).0
+world_by (Some rule) w tx = refl
+world_by None w tx = refl
 
-ledger_is : (w : World) (r : Reading) → ledger_left w.ledger r ≡ (world_left w r).ledger
-ledger_is w TooLong = refl
-ledger_is w (Malformed field place) = refl
-ledger_is w (Read (records.Genesis g)) = refl
-ledger_is w (Read (records.Block slot pulse)) = refl
-ledger_is w (Read (records.Rewards u)) = refl
-ledger_is w (Read (records.Tx tx)) = ledger_by (first_broken w.ledger tx) w tx
-ledger_is w (Read (records.Print Pots)) = refl
-ledger_is w (Read (records.Print State)) = refl
-
--- ---- the lines
-
--- a transaction is answered with one line, that of its reply
-one_line : (reply : Reply) (w v : World) (tx : Tx) → lines_by reply (records.Tx tx) w v ≡ reply_words reply ∷ []
-one_line Accepted w v tx = refl
-one_line AcceptedFailedScripts w v tx = refl
-one_line (Refused rule) w v tx = refl
+-- it is answered with one line, that of its reply
+line_of_tx : (reply : Reply) (w v : World) (tx : Tx) → lines_by reply (records.Tx tx) w v ≡ reply_words reply ∷ []
+line_of_tx Accepted w v tx = refl
+line_of_tx AcceptedFailedScripts w v tx = refl
+line_of_tx (Refused rule) w v tx = refl
 
 lines_of_tx : (found : Option Rule) (w : World) (tx : Tx)
     → lines_by (step_by found w (records.Tx tx)).1 (records.Tx tx) w (step_by found w (records.Tx tx)).0 ≡ reply_words (tx_step_by found w.ledger tx).1 ∷ []
 lines_of_tx (Some rule) w tx = refl
-lines_of_tx None w tx = one_line (accepted_as tx.scripts) w (world_after_accepted w (records.Tx tx)) tx
+lines_of_tx None w tx = line_of_tx (accepted_as tx.scripts) w (world_after_accepted w (records.Tx tx)) tx
 
-lines_are : (w : World) (r : Reading) → answer_lines w r ≡ outcome_lines (outcome_of w.ledger r)
-lines_are w TooLong = refl
-lines_are w (Malformed field place) = refl
-lines_are w (Read (records.Genesis g)) = refl
-lines_are w (Read (records.Block slot pulse)) = refl
-lines_are w (Read (records.Rewards u)) = refl
-lines_are w (Read (records.Tx tx)) = lines_of_tx (first_broken w.ledger tx) w tx
-lines_are w (Read (records.Print Pots)) = refl
-lines_are w (Read (records.Print State)) = refl
-
--- ---- both
-
-pub judged : (w : World) (l : Standing) (r : Reading) (after : Standing) (outcome : Outcome) → l.ledger ≡ w.ledger → Judges l r (Ok (after, outcome))
-    → (after.ledger ≡ (world_left w r).ledger) × (answer_lines w r ≡ outcome_lines outcome)
-judged w l r after outcome is judges = (
-  judges.0 ∙ ap (λ (m : Ledger). ledger_left m r) is ∙ ledger_is w r,
-  lines_are w r ∙ sym (ap outcome_lines (judges.1 ∙ ap (λ (m : Ledger). outcome_of m r) is)),
+pub tx_judged : (w : World) (tx : Tx) (after : World) (reply : Reply) → after ≡ on_ledger (λ l. (tx_step l tx).0) w → reply ≡ (tx_step w.ledger tx).1
+    → IsJudged w (Read (records.Tx tx)) (after, Answered reply)
+tx_judged w tx after reply is says = (
+  is ∙ world_by (first_broken w.ledger tx) w tx,
+  ap (λ (x : Reply). reply_words x ∷ []) says ∙ sym (lines_of_tx (first_broken w.ledger tx) w tx),
 )
+
+-- ---- a reward update
+
+line_of_rewards : (reply : Reply) (w v : World) (u : Rewards) → lines_by reply (records.Rewards u) w v ≡ reply_words reply ∷ []
+line_of_rewards Accepted w v u = refl
+line_of_rewards AcceptedFailedScripts w v u = refl
+line_of_rewards (Refused rule) w v u = refl
+
+pub rewards_judged : (w : World) (u : Rewards) (p : World × Reply) → p ≡ step w (records.Rewards u) → IsJudged w (Read (records.Rewards u)) (p.0, Answered p.1)
+rewards_judged w u p is = (
+  ap (λ (x : World × Reply). x.0) is,
+  ap (λ (x : World × Reply). reply_words x.1 ∷ []) is ∙ sym (line_of_rewards (step w (records.Rewards u)).1 w (step w (records.Rewards u)).0 u),
+)
+
+-- ---- a block that breaks a rule
+
+pub block_refused : (w : World) (slot pulse : ℕ) (rule : Rule) → Err rule ≡ block_answer w.ledger slot pulse → IsJudged w (Read (records.Block slot pulse)) (w, Answered (Refused rule))
+block_refused w slot pulse rule e =
+    let is = step_refused w (records.Block slot pulse) rule (not_entered (first_among (block_checks w.ledger slot pulse)) (enters_next w.ledger slot) rule e) in (
+      sym (ap (λ (x : World × Reply). x.0) is),
+      sym (ap (λ (x : World × Reply). lines_by x.1 (records.Block slot pulse) w x.0) is),
+    )
+
+-- ---- a block that breaks none
+
+-- by the World that it leaves and the lines of the boundary
+accepted_by : (w : World) (slot pulse : ℕ) (after : World) (first : List (List Text)) → first_among (block_checks w.ledger slot pulse) ≡ None
+    → after ≡ world_after_block w slot pulse → first ≡ crossing_lines (enters_next w.ledger slot) w
+    → (after ≡ world_after_reading w (Read (records.Block slot pulse)))
+    × (first ++ block_words after ∷ [] ≡ lines_by (step w (records.Block slot pulse)).1 (records.Block slot pulse) w (step w (records.Block slot pulse)).0)
+accepted_by w slot pulse after first none is lines =
+    let all = step_accepted w (records.Block slot pulse) none in (
+      is ∙ sym (ap (λ (x : World × Reply). x.0) all),
+      ap (λ (ls : List (List Text)). ls ++ block_words after ∷ []) lines
+          ∙ ap (λ (v : World). crossing_lines (enters_next w.ledger slot) w ++ block_words v ∷ []) is
+          ∙ sym (ap (λ (x : World × Reply). lines_by x.1 (records.Block slot pulse) w x.0) all),
+    )
+
+-- what it leaves where its slot is not in the next epoch
+left_by : (w : World) (slot pulse : ℕ) (p : World × Reply) → p ≡ step w (records.Block slot pulse) → first_among (block_checks w.ledger slot pulse) ≡ None → p.0 ≡ world_after_block w slot pulse
+left_by w slot pulse p is none = ap (λ (x : World × Reply). x.0) (is ∙ step_accepted w (records.Block slot pulse) none)
+
+pub within_judged : (w : World) (slot pulse : ℕ) (p : World × Reply) → p ≡ step w (records.Block slot pulse) → first_among (block_checks w.ledger slot pulse) ≡ None → enters_next w.ledger slot ≡ false
+    → IsJudged w (Read (records.Block slot pulse)) (p.0, Block)
+within_judged w slot pulse p is none stays =
+    accepted_by w slot pulse p.0 [] none (left_by w slot pulse p is none) (sym (ap (λ (b : Bool). crossing_lines b w) stays))
+
+-- ---- a block after the boundary of its epoch
+
+flags : (later skipped zero : Bool) (n m : ℕ) → first_among (breaks_keeping SLOT_NOT_LATER n later ∷ breaks_keeping EPOCH_SKIPPED m skipped ∷ breaks ZERO_PULSE zero ∷ []) ≡ None
+    → (later ≡ false) × (zero ≡ false)
+flags true skipped zero n m h = cc
+flags false true zero n m h = cc
+flags false false true n m h = cc
+flags false false false n m h = (refl, refl)
+
+unbroken : (later skipped zero : Bool) (n m : ℕ) → later ≡ false → skipped ≡ false → zero ≡ false
+    → first_among (breaks_keeping SLOT_NOT_LATER n later ∷ breaks_keeping EPOCH_SKIPPED m skipped ∷ breaks ZERO_PULSE zero ∷ []) ≡ None
+unbroken true skipped zero n m a b d = cc
+unbroken false true zero n m a b d = cc
+unbroken false false true n m a b d = cc
+unbroken false false false n m a b d = refl
+
+-- the ledger is of the epoch of this slot
+pub record IsJustBegun (l m : Ledger) (slot : ℕ) : Type 0 where
+  pub slot_stays : m.slot ≡ l.slot
+  pub is_of : epoch_at m slot ≡ m.epoch
+
+begun_flags : (l m : Ledger) (slot pulse : ℕ) → IsJustBegun l m slot → first_among (block_checks l slot pulse) ≡ None → first_among (block_checks m slot pulse) ≡ None
+begun_flags l m slot pulse begun none =
+    let f = flags (nat_le slot l.slot) (nat_lt (l.epoch + 1) (epoch_at l slot)) (pulse == 0) l.slot l.epoch none in
+    unbroken (nat_le slot m.slot) (nat_lt (m.epoch + 1) (epoch_at m slot)) (pulse == 0) m.slot m.epoch
+    (ap (λ (n : ℕ). nat_le slot n) begun.slot_stays ∙ f.0)
+    (le-ltb (m.epoch + 1) (epoch_at m slot) (omega (arith, begun.is_of)))
+    f.1
+
+begun_stays : (l m : Ledger) (slot : ℕ) → IsJustBegun l m slot → enters_next m slot ≡ false
+begun_stays l m slot begun = ne_eqb (epoch_at m slot) (m.epoch + 1) (λ e. omega (arith, begun.is_of, e))
+
+just_begun : (w : World) (slot : ℕ) → enters_next w.ledger slot ≡ true → IsJustBegun w.ledger (world_after_boundary w).ledger slot
+just_begun w slot enters = record {
+  slot_stays = ap (λ (l : Ledger). l.slot) (sym (update_only w.pending w.ledger));
+  is_of = ap (λ (n : ℕ). slot / n) (boundary_length w) ∙ eqb-true (epoch_at w.ledger slot) (w.ledger.epoch + 1) enters ∙ sym (boundary_epoch w);
+}
+
+-- the block of the next epoch breaks no rule after the boundary, and begins no epoch then
+pub stays_after : (w v : World) (slot pulse : ℕ) → v ≡ world_after_boundary w → enters_next w.ledger slot ≡ true → enters_next v.ledger slot ≡ false
+stays_after w v slot pulse is enters =
+    ap (λ (x : World). enters_next x.ledger slot) is ∙ begun_stays w.ledger (world_after_boundary w).ledger slot (just_begun w slot enters)
+
+-- so it leaves what it leaves of the World before
+left_after : (w v : World) (slot pulse : ℕ) (p : World × Reply) → p ≡ step v (records.Block slot pulse) → first_among (block_checks v.ledger slot pulse) ≡ None → enters_next v.ledger slot ≡ false
+    → v ≡ world_after_boundary w → enters_next w.ledger slot ≡ true → p.0 ≡ world_after_block w slot pulse
+left_after w v slot pulse p is none stays begun enters =
+    left_by v slot pulse p is none
+    ∙ block_stays v slot pulse stays
+    ∙ ap (λ (x : World). pulsed slot pulse x) begun
+    ∙ sym (ap (λ (b : Bool). pulsed slot pulse (crossed b w)) enters)
+
+crossing_are : (w v : World) (slot : ℕ) (report : EpochReport) (pots : Pots) → v ≡ world_after_boundary w → report ≡ report_of w → pots ≡ pots_of v.ledger → enters_next w.ledger slot ≡ true
+    → epoch_lines report pots ≡ crossing_lines (enters_next w.ledger slot) w
+crossing_are w v slot report pots is reports hold enters =
+    ap (λ (x : EpochReport). epoch_lines x pots) reports
+    ∙ ap (λ (x : Pots). epoch_lines (report_of w) x) (hold ∙ ap (λ (x : World). pots_of x.ledger) is)
+    ∙ sym (ap (λ (b : Bool). crossing_lines b w) enters)
+
+pub crossing_judged : (w v : World) (slot pulse : ℕ) (report : EpochReport) (pots : Pots) (p : World × Reply)
+    → v ≡ world_after_boundary w → report ≡ report_of w → pots ≡ pots_of v.ledger → p ≡ step v (records.Block slot pulse)
+    → first_among (block_checks w.ledger slot pulse) ≡ None → enters_next w.ledger slot ≡ true
+    → IsJudged w (Read (records.Block slot pulse)) (p.0, Crossed report pots)
+crossing_judged w v slot pulse report pots p is reports hold stepped none enters =
+    let begun = just_begun w slot enters in
+    let after_none : first_among (block_checks v.ledger slot pulse) ≡ None =
+    ap (λ (x : World). first_among (block_checks x.ledger slot pulse)) is ∙ begun_flags w.ledger (world_after_boundary w).ledger slot pulse begun none in
+    accepted_by w slot pulse p.0 (epoch_lines report pots) none
+    (left_after w v slot pulse p stepped after_none (stays_after w v slot pulse is enters) is enters)
+    (crossing_are w v slot report pots is reports hold enters)

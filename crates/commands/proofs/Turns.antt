@@ -1,6 +1,6 @@
 -- From one record to the next, and how a run ends.
 use Rattle.std.proofs.Common.{◌≡◌, ◌≢◌, ℕ, ◌<◌, ◌≤◌, ◌⊎◌, ◌↔◌, List, [], ◌∷◌, ◌++◌, Option, Some, None, Ok, Err, length, take, drop, refl, sym, ap, subst, ◌∙◌, arith, append_assoc, inl, inr}
-use Rattle.std.specs.Prelude.{option_map, unwrap_or, if◌then◌else◌, Bool, true, false}
+use Rattle.std.specs.Prelude.{option_map, unwrap_or}
 use Rattle.std.specs.Io.KnownBytes.{append_known}
 use Rattle.std.proofs.lemmas.List.{append-nil, take-append-drop, take_all}
 use Rattle.byte_lines.specs.Pieces.{whole_of}
@@ -10,10 +10,9 @@ use Rattle.byte_lines.specs.declared.lines.LineFault.{LineFault}
 use Rattle.byte_lines.specs.declared.lines.LineFault.TheVariants as line_faults
 use Rattle.byte_lines.specs.declared.sink.SinkFault.{SinkFault}
 use Rattle.byte_lines.specs.declared.sink.SinkFault.TheVariants as sink_faults
-use Rattle.live_ledger.specs.Standing.{Standing}
 use Rattle.run_model.specs.Genesis.{genesis_fault, world_of_genesis}
 use Rattle.run_model.specs.World.{World}
-use Rattle.text_model.specs.Runs.{text_of_lines}
+use Rattle.text_model.specs.Runs.{reading_lines, text_from, text_of_genesis, text_of_lines, text_of_readings, world_after_reading}
 use Rattle.text_model.specs.Words.{Text}
 use Rattle.tx_records.specs.declared.genesis.Genesis.{Genesis}
 use Rattle.tx_records.specs.declared.genesis.GenesisRule.{GenesisRule}
@@ -21,9 +20,10 @@ use Rattle.tx_records.specs.declared.limits.TheConstants.{LINE_LIMIT, STREAM_LIM
 use Rattle.tx_records.specs.declared.record.Reading.{Reading}
 use Rattle.tx_records.specs.declared.record.Reading.TheVariants as readings
 use Rattle.tx_records.specs.declared.record.Record.TheVariants as kinds
-use Rattle.commands.specs.Answers.{Answers}
+use Rattle.commands.specs.Answers.{Answers, genesis_lines}
 use Rattle.commands.specs.declared.fault.AnswerFault.{AnswerFault}
 use Rattle.commands.specs.declared.fault.AnswerFault.TheVariants as answer_faults
+use Rattle.commands.specs.declared.fault.ReplayFault.{ReplayFault}
 use Rattle.commands.specs.declared.outcome.Outcome.{Outcome}
 use Rattle.commands.specs.declared.status.GenesisCause.{GenesisCause}
 use Rattle.commands.specs.declared.status.GenesisCause.TheVariants as causes
@@ -32,12 +32,11 @@ use Rattle.commands.specs.declared.status.Status.TheVariants as statuses
 use Rattle.commands.specs.Endings.{BrokenOff, IsDecided, IsFront, IsMissingOnly, IsPartOfText, IsReplayed}
 use Rattle.record_stream.specs.Come.{HasCome}
 use Rattle.record_stream.specs.Heard.{AreAll, Begin, HasHeard, HearsNext, StandFirst}
-use Rattle.commands.specs.Outcomes.{outcome_text}
+use Rattle.commands.specs.Outcomes.{outcome_lines, outcome_text}
 use Rattle.record_stream.specs.Records.{records_of}
-use Rattle.commands.specs.Runs.{answer_lines, genesis_cause, genesis_lines, reading_fault, start_fault, text_by_cause, text_from, text_of_records, text_so_far, world_left}
+use Rattle.commands.specs.Runs.{reading_fault, start_fault, text_so_far}
 use Rattle.commands.specs.Statuses.{fault_of_answer, fault_of_line, fault_of_sink, status_of_fault}
-use Rattle.commands.specs.Turns.{Leaves, Stands, Writes}
-use Rattle.commands.proofs.Judging.{judged}
+use Rattle.commands.specs.Turns.{IsNotTold, IsTaken, Leaves, Stands, Writes}
 
 -- ---- what a sink took
 
@@ -53,62 +52,72 @@ took_both (Some xs) now has written more first next =
 -- ---- the text of records
 
 -- records that have a text begin with a genesis to begin with
-by_fault : (fault : Option GenesisCause) (n : ℕ) (r : Reading) (rs : List (ℕ × Reading)) (t : Text) → text_by_cause fault n r rs ≡ Some t → fault ≡ None
-by_fault None n r rs t e = refl
-by_fault (Some cause) n r rs t e = cc
+by_rule : (found : Option GenesisRule) (n : ℕ) (g : Genesis) (rs : List (ℕ × Reading)) (t : Text) → text_of_genesis n g found rs ≡ Some t → option_map causes.Broken found ≡ None
+by_rule None n g rs t e = refl
+by_rule (Some rule) n g rs t e = cc
 
-starts_well : (rs : List (ℕ × Reading)) (t : Text) → text_of_records rs ≡ Some t → start_fault rs ≡ None
+starts_well : (rs : List (ℕ × Reading)) (t : Text) → text_of_readings rs ≡ Some t → start_fault rs ≡ None
 starts_well [] t e = cc
-starts_well ((n, r) ∷ rs) t e = by_fault (reading_fault r) n r rs t e
+starts_well ((n, readings.TooLong) ∷ rs) t e = cc
+starts_well ((n, readings.Malformed field place) ∷ rs) t e = cc
+starts_well ((n, readings.Read (kinds.Genesis g)) ∷ rs) t e = by_rule (genesis_fault g) n g rs t e
+starts_well ((n, readings.Read (kinds.Block slot pulse)) ∷ rs) t e = cc
+starts_well ((n, readings.Read (kinds.Rewards u)) ∷ rs) t e = cc
+starts_well ((n, readings.Read (kinds.Tx tx)) ∷ rs) t e = cc
+starts_well ((n, readings.Read (kinds.Print _)) ∷ rs) t e = cc
 
 -- records that leave a ledger begin well, whatever comes next
 leaves_well : (records : List (ℕ × Reading)) (w : World) (written : Text) → Leaves records w written → (more : List (ℕ × Reading)) → start_fault (records ++ more) ≡ None
 leaves_well records w written leaves more = starts_well (records ++ more) _ (leaves more)
 
 -- what was written is a front of their text, whatever comes next
-writes_front : (records : List (ℕ × Reading)) (ledger : Option Standing) (written : Text) → Writes records ledger written → (more : List (ℕ × Reading)) → IsFront written (text_so_far (records ++ more))
+writes_front : (records : List (ℕ × Reading)) (ledger : Option World) (written : Text) → Writes records ledger written → (more : List (ℕ × Reading)) → IsFront written (text_so_far (records ++ more))
 writes_front records None written writes more = (text_so_far (records ++ more), ap (λ (t : Text). t ++ text_so_far (records ++ more)) (sym writes.1))
-writes_front records (Some l) written writes more = (text_from writes.0 more, ap (λ (t : Option Text). unwrap_or t []) (writes.2 more))
+writes_front records (Some w) written writes more = (text_from w more, ap (λ (t : Option Text). unwrap_or t []) (writes more))
 
 -- and it is their text
-writes_now : (records : List (ℕ × Reading)) (ledger : Option Standing) (written : Text) → Writes records ledger written → (written ≡ text_so_far records) × IsMissingOnly (start_fault records)
+writes_now : (records : List (ℕ × Reading)) (ledger : Option World) (written : Text) → Writes records ledger written → (written ≡ text_so_far records) × IsMissingOnly (start_fault records)
 writes_now records None written writes =
     (writes.1 ∙ ap (λ (rs : List (ℕ × Reading)). text_so_far rs) (sym writes.0), subst (λ (rs : List (ℕ × Reading)). IsMissingOnly (start_fault rs)) (sym writes.0) tt)
-writes_now records (Some l) written writes =
+writes_now records (Some w) written writes =
     let all : records ++ [] ≡ records = append-nil records in (
-      sym (ap (λ (rs : List (ℕ × Reading)). text_so_far rs) (sym all) ∙ ap (λ (t : Option Text). unwrap_or t []) (writes.2 []) ∙ append-nil written),
-      subst (λ (f : Option GenesisCause). IsMissingOnly f) (sym (ap (λ (rs : List (ℕ × Reading)). start_fault rs) (sym all) ∙ leaves_well records writes.0 written writes.2 [])) tt,
+      sym (ap (λ (rs : List (ℕ × Reading)). text_so_far rs) (sym all) ∙ ap (λ (t : Option Text). unwrap_or t []) (writes []) ∙ append-nil written),
+      subst (λ (f : Option GenesisCause). IsMissingOnly f) (sym (ap (λ (rs : List (ℕ × Reading)). start_fault rs) (sym all) ∙ leaves_well records w written writes [])) tt,
     )
 
 -- the genesis
-text_of_first : (n : ℕ) (g : Genesis) (fault : Option GenesisCause) → fault ≡ None → (more : List (ℕ × Reading))
-    → text_by_cause fault n (readings.Read (kinds.Genesis g)) more ≡ Some (text_of_lines n (genesis_lines g) ++ text_from (world_of_genesis g) more)
+text_of_first : (n : ℕ) (g : Genesis) (found : Option GenesisRule) → found ≡ None → (more : List (ℕ × Reading))
+    → text_of_genesis n g found more ≡ Some (text_of_lines n (genesis_lines g) ++ text_from (world_of_genesis g) more)
 text_of_first n g None e more = refl
-text_of_first n g (Some cause) e more = cc
+text_of_first n g (Some rule) e more = cc
+
+-- what is answered to it is its text
+leaves_first : (n : ℕ) (g : Genesis) (after : World) (outcome : Outcome) → genesis_fault g ≡ None → after ≡ world_of_genesis g → outcome_lines after outcome ≡ genesis_lines g
+    → Leaves ((n, readings.Read (kinds.Genesis g)) ∷ []) after (outcome_text n after outcome)
+leaves_first n g after outcome none is lines more =
+    text_of_first n g (genesis_fault g) none more
+    ∙ ap (λ (ls : List (List Text)). Some (text_of_lines n ls ++ text_from (world_of_genesis g) more)) (sym lines)
+    ∙ ap (λ (w : World). Some (outcome_text n after outcome ++ text_from w more)) (sym is)
+
+-- what is answered to a further record is its text
+leaves_more : (records : List (ℕ × Reading)) (w : World) (written : Text) (n : ℕ) (r : Reading) (after : World) (outcome : Outcome)
+    → Leaves records w written → after ≡ world_after_reading w r → outcome_lines after outcome ≡ reading_lines w r → Leaves (records ++ (n, r) ∷ []) after (written ++ outcome_text n after outcome)
+leaves_more records w written n r after outcome leaves is lines more =
+    ap (λ (rs : List (ℕ × Reading)). text_of_readings rs) (append_assoc records ((n, r) ∷ []) more)
+    ∙ leaves ((n, r) ∷ more)
+    ∙ ap Some (sym (append_assoc written (text_of_lines n (reading_lines w r)) (text_from (world_after_reading w r) more)))
+    ∙ ap (λ (ls : List (List Text)). Some ((written ++ text_of_lines n ls) ++ text_from (world_after_reading w r) more)) (sym lines)
+    ∙ ap (λ (v : World). Some ((written ++ outcome_text n after outcome) ++ text_from v more)) (sym is)
 
 -- one record more: its text follows
-pub writes_more : (records : List (ℕ × Reading)) (ledger : Option Standing) (written : Text) (n : ℕ) (r : Reading) (after : Standing) (outcome : Outcome)
-    → Writes records ledger written → Answers ledger r (Ok (after, outcome)) → Writes (records ++ (n, r) ∷ []) (Some after) (written ++ outcome_text n outcome)
-writes_more records None written n r after outcome writes answers = (
-  world_of_genesis answers.0,
-  answers.2.1,
-  subst (λ (rs : List (ℕ × Reading)). Leaves (rs ++ (n, r) ∷ []) (world_of_genesis answers.0) (written ++ outcome_text n outcome)) (sym writes.0)
-      (subst (λ (t : Text). Leaves ((n, r) ∷ []) (world_of_genesis answers.0) (t ++ outcome_text n outcome)) (sym writes.1)
-      (subst (λ (x : Reading). Leaves ((n, x) ∷ []) (world_of_genesis answers.0) (outcome_text n outcome)) (sym answers.1)
-      (λ more. text_of_first n answers.0 (genesis_cause answers.0) answers.2.0 more
-      ∙ ap (λ (ls : List (List Text)). Some (text_of_lines n ls ++ text_from (world_of_genesis answers.0) more)) (sym answers.2.2)))),
-)
-writes_more records (Some l) written n r after outcome writes answers =
-    let w : World = writes.0 in
-    let is = judged w l r after outcome writes.1 answers in (
-      world_left w r,
-      is.0,
-      λ more.
-          ap (λ (rs : List (ℕ × Reading)). text_of_records rs) (append_assoc records ((n, r) ∷ []) more)
-          ∙ writes.2 ((n, r) ∷ more)
-          ∙ ap Some (sym (append_assoc written (text_of_lines n (answer_lines w r)) (text_from (world_left w r) more)))
-          ∙ ap (λ (ls : List (List Text)). Some ((written ++ text_of_lines n ls) ++ text_from (world_left w r) more)) is.1,
-    )
+pub writes_more : (records : List (ℕ × Reading)) (ledger : Option World) (written : Text) (n : ℕ) (r : Reading) (after : World) (outcome : Outcome)
+    → Writes records ledger written → Answers ledger r (Ok (after, outcome)) → Writes (records ++ (n, r) ∷ []) (Some after) (written ++ outcome_text n after outcome)
+writes_more records None written n r after outcome writes answers =
+    subst (λ (rs : List (ℕ × Reading)). Leaves (rs ++ (n, r) ∷ []) after (written ++ outcome_text n after outcome)) (sym writes.0)
+    (subst (λ (t : Text). Leaves ((n, r) ∷ []) after (t ++ outcome_text n after outcome)) (sym writes.1)
+    (subst (λ (x : Reading). Leaves ((n, x) ∷ []) after (outcome_text n after outcome)) (sym answers.1)
+    (leaves_first n answers.0 after outcome answers.2.0 answers.2.1 answers.2.2)))
+writes_more records (Some w) written n r after outcome writes answers = leaves_more records w written n r after outcome writes answers.0 answers.1
 
 -- ---- fronts
 
@@ -149,7 +158,7 @@ abbrev all_come : (bytes : List ℕ) (left : Option (List ℕ)) (records : List 
 all_come bytes left records all = record { came = bytes; rest = []; cut = sym (append-nil bytes); told = all.told }
 
 -- a run that stands, and reads on
-module _ (bytes : List ℕ) (old : Reader) (before : Option (List ℕ)) (ledger : Option Standing) (had now : Option (List ℕ)) (stands : Stands bytes old before ledger had now)
+module _ (bytes : List ℕ) (old : Reader) (before : Option (List ℕ)) (ledger : Option World) (had now : Option (List ℕ)) (stands : Stands bytes old before ledger had now)
     (new : Reader) (left : Option (List ℕ)) where
   -- memory ran out, and of a further text a front was taken
   without_memory : (records : List (ℕ × Reading)) (has : Option (List ℕ)) (front : Text) → has ≡ append_known now front
@@ -190,22 +199,22 @@ module _ (bytes : List ℕ) (old : Reader) (before : Option (List ℕ)) (ledger 
       (λ more. subst (λ (t : Text). IsFront t (text_so_far (stands.records ++ more))) (sym (append-nil stands.written)) (writes_front stands.records ledger stands.written stands.writes more)) heard
 
   -- the end came
-  pub ends_done : (l : Standing) → ledger ≡ Some l → AreAll bytes left stands.records → IsReplayed statuses.Done bytes left had now
+  pub ends_done : (l : World) → ledger ≡ Some l → AreAll bytes left stands.records → IsReplayed statuses.Done bytes left had now
   ends_done l is all =
-      let writes : Writes stands.records (Some l) stands.written = subst (λ (o : Option Standing). Writes stands.records o stands.written) is stands.writes in record {
+      let writes : Writes stands.records (Some l) stands.written = subst (λ (o : Option World). Writes stands.records o stands.written) is stands.writes in record {
         come = all_come bytes left stands.records all;
         written = stands.written;
         wrote = stands.wrote;
         ending = record {
           read = refl;
-          text = ap (λ (rs : List (ℕ × Reading)). text_of_records rs) (sym all.all ∙ sym (append-nil stands.records)) ∙ writes.2 [] ∙ ap Some (append-nil stands.written);
+          text = ap (λ (rs : List (ℕ × Reading)). text_of_readings rs) (sym all.all ∙ sym (append-nil stands.records)) ∙ writes [] ∙ ap Some (append-nil stands.written);
         };
         too_much = not_over statuses.Done bytes (λ e. cc) all.within;
       }
 
   pub ends_missing : ledger ≡ None → AreAll bytes left stands.records → IsReplayed (statuses.BadGenesis causes.Missing) bytes left had now
   ends_missing is all =
-      let writes : Writes stands.records None stands.written = subst (λ (o : Option Standing). Writes stands.records o stands.written) is stands.writes in
+      let writes : Writes stands.records None stands.written = subst (λ (o : Option World). Writes stands.records o stands.written) is stands.writes in
       let fault : start_fault (records_of bytes) ≡ Some causes.Missing = ap (λ (rs : List (ℕ × Reading)). start_fault rs) (sym all.all ∙ writes.0) in record {
         come = all_come bytes left stands.records all;
         written = stands.written;
@@ -248,7 +257,7 @@ module _ (bytes : List ℕ) (old : Reader) (before : Option (List ℕ)) (ledger 
     }
 
     -- there is no answer
-    ends_by : (o : Option Standing) → Writes stands.records o stands.written → (fault : AnswerFault) → Answers o r (Err fault) → IsReplayed (status_of_fault (fault_of_answer fault)) bytes left had now
+    ends_by : (o : Option World) → Writes stands.records o stands.written → (fault : AnswerFault) → Answers o r (Err fault) → IsReplayed (status_of_fault (fault_of_answer fault)) bytes left had now
     ends_by None none (answer_faults.BadGenesis cause) answers = bad_start cause none.0 none.1 answers
     ends_by None none answer_faults.NoMemory answers = without_memory upto now [] (took_nothing now) front_before heard.first
     ends_by (Some l) some (answer_faults.BadGenesis cause) answers = absurd answers
@@ -257,9 +266,9 @@ module _ (bytes : List ℕ) (old : Reader) (before : Option (List ℕ)) (ledger 
     pub ends_at_answer : (fault : AnswerFault) → Answers ledger r (Err fault) → IsReplayed (status_of_fault (fault_of_answer fault)) bytes left had now
     ends_at_answer fault answers = ends_by ledger stands.writes fault answers
 
-    module _ (after : Standing) (outcome : Outcome) (answers : Answers ledger r (Ok (after, outcome))) where
+    module _ (after : World) (outcome : Outcome) (answers : Answers ledger r (Ok (after, outcome))) where
       abbrev line : Text
-      line = outcome_text new.number outcome
+      line = outcome_text new.number after outcome
 
       more_written : Writes upto (Some after) (stands.written ++ line)
       more_written = writes_more stands.records ledger stands.written new.number r after outcome stands.writes answers
@@ -282,7 +291,7 @@ module _ (bytes : List ℕ) (old : Reader) (before : Option (List ℕ)) (ledger 
           read = heard.read;
           after = (take k line, ap (λ (t : Text). t ++ take k line) (writes_now stands.records ledger stands.written stands.writes).0);
           before = subst (λ (rs : List (ℕ × Reading)). IsFront (stands.written ++ take k line) (text_so_far rs)) (append-nil upto) (front_within k []);
-          start = ap (λ (rs : List (ℕ × Reading)). start_fault rs) heard.first.stream.1 ∙ leaves_well upto more_written.0 (stands.written ++ line) more_written.2 heard.first.stream.0;
+          start = ap (λ (rs : List (ℕ × Reading)). start_fault rs) heard.first.stream.1 ∙ leaves_well upto after (stands.written ++ line) more_written heard.first.stream.0;
         };
         too_much = not_over statuses.WriteFault heard.first.come.came (λ e. cc) heard.first.within;
       }
@@ -296,6 +305,18 @@ module _ (bytes : List ℕ) (old : Reader) (before : Option (List ℕ)) (ledger 
         writes = more_written;
         wrote = took_both had now has stands.written line stands.wrote took;
       }
+
+    -- the turn of the record ended with a fault
+    pub ends_at_turn : (has : Option (List ℕ)) (fault : ReplayFault) → IsNotTold ledger r new.number now has fault → IsReplayed (status_of_fault fault) bytes left had has
+    ends_at_turn has fault (inl none) =
+        subst (λ (f : ReplayFault). IsReplayed (status_of_fault f) bytes left had has) (sym none.is)
+        (subst (λ (t : Option (List ℕ)). IsReplayed (status_of_fault (fault_of_answer none.cause)) bytes left had t) (sym none.nothing) (ends_at_answer none.cause none.answers))
+    ends_at_turn has fault (inr part) =
+        subst (λ (f : ReplayFault). IsReplayed (status_of_fault f) bytes left had has) (sym part.is) (ends_at_sink part.after part.outcome part.answers has part.cause part.size part.part)
+
+    -- or the record was told
+    pub goes_on_told : (has : Option (List ℕ)) (after : World) → IsTaken ledger r new.number now has after → Stands bytes new left (Some after) had has
+    goes_on_told has after told = goes_on after told.outcome told.answers has told.all
 
 -- nothing was read yet
 pub stands_first : (bytes : List ℕ) (r : Reader) (left had : Option (List ℕ)) → left ≡ Some bytes → HasRead bytes r (Some bytes) [] → r.line_max ≡ LINE_LIMIT → r.stream_max ≡ STREAM_LIMIT

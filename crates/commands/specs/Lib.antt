@@ -1,4 +1,3 @@
-pub mod Built
 pub mod Runs
 pub mod Laws
 pub mod Commands

@@ -1,5 +1,5 @@
 ghost use Rattle.std.specs.Prelude.{◌≡◌, true};
-ghost use Rattle.commands.specs.Answers.{Answers, Begins, BeginsWith, Judges};
+ghost use Rattle.commands.specs.Answers.{Begins, BeginsWith, Judges};
 ghost use Rattle.record_stream.specs.Records.{is_within};
 ghost use Rattle.tx_records.specs.GenesisLimits as genesis_limits;
 ghost use Rattle.tx_records.specs.RecordLimits.{is_within_limits};
@@ -8,29 +8,36 @@ ghost use Rattle.text_model.specs.Runs.{line_rule};
 ghost use Rattle.tx_records.specs.declared.record.Reading.TheVariants.{Read};
 ghost use Rattle.tx_records.specs.Rules.{plain_rule};
 
+use crate::blocks::judge_block;
 use crate::fault::AnswerFault;
 use crate::outcome::Outcome;
 use crate::status::GenesisCause;
 use coin_frac::NoMemory;
-use live_ledger::LiveLedger;
+use ledger_state::LedgerState;
 use report::PotsWord;
 use std::alloc::Global;
-use tx_records::rules::{GENESIS_AGAIN, MALFORMED, NOT_BUILT, TOO_LONG};
-use tx_records::{FieldName, Genesis, Reading, Record, Reply, Rule, Tx, What};
+use tx_records::rules::{GENESIS_AGAIN, MALFORMED, TOO_LONG};
+use tx_records::{FieldName, Genesis, Reading, Record, Reply, Rewards, Rule, Tx, What};
 use tx_rule::apply_tx;
 
+/// How many workers count an epoch's entries.
+const ONE_WORKER: u32 = 1;
+
 /// The ledger of a genesis and its pots, where it breaks no rule.
-fn begin(alloc: Global, genesis: &Genesis) -> Result<(LiveLedger, Outcome), AnswerFault>
+fn begin(alloc: Global, genesis: &Genesis) -> Result<(LedgerState, Outcome), AnswerFault>
     requires within { genesis_limits.is_within_limits genesis.now ≡ true }
     ensures { Begins genesis.now result }
 {
-    let ledger = LiveLedger::from_genesis(alloc, genesis)?;
+    let ledger = LedgerState::from_genesis(alloc, genesis, ONE_WORKER)?;
     let pots = ledger.pots();
     Ok((ledger, Outcome::Pots(PotsWord::Genesis, pots)))
 }
 
-/// The same of what was read first.
-fn begin_with(alloc: Global, reading: &Reading) -> Result<(LiveLedger, Outcome), AnswerFault>
+/// The same of what was read first, or why there is no ledger to begin with.
+pub(crate) fn begin_with(
+    alloc: Global,
+    reading: &Reading,
+) -> Result<(LedgerState, Outcome), AnswerFault>
     requires within { is_within reading.now ≡ true }
     ensures { BeginsWith reading.now result }
 {
@@ -67,7 +74,7 @@ fn malformed(what: FieldName, place: Option<u32>) -> Outcome
 }
 
 /// The ledger after a transaction, and its reply.
-fn judge_tx(alloc: Global, ledger: LiveLedger, tx: &Tx) -> Result<(LiveLedger, Outcome), NoMemory>
+fn judge_tx(alloc: Global, ledger: LedgerState, tx: &Tx) -> Result<(LedgerState, Outcome), NoMemory>
     requires within { tx_limits.is_within_limits tx.now ≡ true }
     ensures { Judges ledger (Read (Record.Tx tx.now)) result }
 {
@@ -75,34 +82,52 @@ fn judge_tx(alloc: Global, ledger: LiveLedger, tx: &Tx) -> Result<(LiveLedger, O
     Ok((after, Outcome::Answered(reply)))
 }
 
+/// The ledger after a reward update, and its reply.
+fn judge_rewards(ledger: LedgerState, update: &Rewards) -> Result<(LedgerState, Outcome), NoMemory>
+    requires within { is_within_limits (Record.Rewards update.now) ≡ true }
+    ensures { Judges ledger (Read (Record.Rewards update.now)) result }
+{
+    let (after, reply) = ledger.rewards(update)?;
+    Ok((after, Outcome::Answered(reply)))
+}
+
+/// What a print comes to; it changes nothing.
+fn judge_print(ledger: LedgerState, what: What) -> (LedgerState, Outcome)
+    ensures { Judges ledger (Read (Record.Print what)) (Ok result) }
+{
+    match what {
+        What::Pots => {
+            let pots = ledger.pots();
+            (ledger, Outcome::Pots(PotsWord::Pots, pots))
+        }
+        What::State => (ledger, Outcome::State),
+    }
+}
+
 /// The ledger after a record, and what it comes to.
 fn judge_record(
     alloc: Global,
-    ledger: LiveLedger,
+    ledger: LedgerState,
     found: &Record,
-) -> Result<(LiveLedger, Outcome), NoMemory>
+) -> Result<(LedgerState, Outcome), NoMemory>
     requires within { is_within_limits found.now ≡ true }
     ensures { Judges ledger (Read found.now) result }
 {
     match found {
         Record::Genesis(_) => Ok((ledger, refused(GENESIS_AGAIN))),
+        Record::Block { slot, pulse } => judge_block(alloc, ledger, *slot, *pulse),
+        Record::Rewards(update) => judge_rewards(ledger, update),
         Record::Tx(tx) => judge_tx(alloc, ledger, tx.get()),
-        Record::Print(What::Pots) => {
-            let pots = ledger.pots();
-            Ok((ledger, Outcome::Pots(PotsWord::Pots, pots)))
-        }
-        Record::Block { .. } | Record::Rewards(_) | Record::Print(What::State) => {
-            Ok((ledger, refused(NOT_BUILT)))
-        }
+        Record::Print(what) => Ok(judge_print(ledger, *what)),
     }
 }
 
 /// The ledger after what was read of a line, and what that comes to.
-fn judge(
+pub(crate) fn judge(
     alloc: Global,
-    ledger: LiveLedger,
+    ledger: LedgerState,
     reading: &Reading,
-) -> Result<(LiveLedger, Outcome), NoMemory>
+) -> Result<(LedgerState, Outcome), NoMemory>
     requires within { is_within reading.now ≡ true }
     ensures { Judges ledger reading.now result }
 {
@@ -110,20 +135,5 @@ fn judge(
         Reading::Read(record) => judge_record(alloc, ledger, record),
         Reading::Malformed { what, place } => Ok((ledger, malformed(*what, *place))),
         Reading::TooLong => Ok((ledger, refused(TOO_LONG))),
-    }
-}
-
-/// The ledger after what was read of a line, and what that comes to; before the genesis there is no ledger.
-pub fn answer(
-    alloc: Global,
-    ledger: Option<LiveLedger>,
-    reading: Reading,
-) -> Result<(LiveLedger, Outcome), AnswerFault>
-    requires within { is_within reading ≡ true }
-    ensures { Answers ledger reading result }
-{
-    match ledger {
-        None => begin_with(alloc, &reading),
-        Some(ledger) => Ok(judge(alloc, ledger, &reading)?),
     }
 }

@@ -1,12 +1,10 @@
-ghost use Rattle.commands.specs.Laws.{LinesAreWithin, LinesReach, RefusedChangesNothing, RunsAreOfTheWhole, SupplyStays, TextIsOfTheWhole};
+ghost use Rattle.commands.specs.Laws.{LinesAreWithin, LinesReach, RefusedChangesNothing, SupplyStays};
 
 use record_read::lines_read_within_limits;
 use run_laws::supply_stays;
 
 /// What holds of every run. It does nothing.
 pub fn laws()
-    ensures runs { RunsAreOfTheWhole }
-    ensures text { TextIsOfTheWhole }
     ensures within { LinesAreWithin }
     ensures reached { LinesReach }
     ensures supply { SupplyStays }

@@ -95,6 +95,17 @@ impl From<AnswerFault> for ReplayFault {
     }
 }
 
+impl From<NoMemory> for ReplayFault {
+    ghost use Rattle.std.specs.Prelude.{◌≡◌};
+    ghost use Rattle.commands.specs.declared.fault.ReplayFault.TheVariants as faults;
+
+    ghost from_gives = { λ _ f. f ≡ faults.NoMemory };
+
+    fn from(_error: NoMemory) -> ReplayFault {
+        ReplayFault::NoMemory
+    }
+}
+
 impl From<ReplayFault> for Status {
     ghost use Rattle.std.specs.Prelude.{◌≡◌};
     ghost use Rattle.commands.specs.Statuses.{status_of_fault};

@@ -3,6 +3,7 @@
 #![tactic(auto)]
 
 mod answer;
+mod blocks;
 mod command;
 mod dispatch;
 mod every_run;
@@ -10,6 +11,8 @@ mod exit;
 mod fault;
 mod outcome;
 mod replay;
+mod run_state;
+mod shown;
 mod status;
 
 pub use dispatch::run;

@@ -1,46 +1,110 @@
-ghost use Rattle.std.specs.Prelude.{◌≡◌, ℕ, OnOk, OnErr, take, Err};
+ghost use Rattle.std.specs.Prelude.{◌≡◌, ◌++◌, ◌∷◌, [], ℕ, OnOk, OnErr, take, Err};
 ghost use Rattle.std.specs.Io.KnownBytes.{append_known};
 ghost use Rattle.byte_lines.specs.Faults.{CountsFaults};
-ghost use Rattle.commands.specs.Outcomes.{outcome_text};
+ghost use Rattle.commands.specs.Outcomes.{outcome_lines, outcome_text};
+ghost use Rattle.report.specs.Taking.{HasPut};
+ghost use Rattle.text_model.specs.EpochLines.{epoch_lines};
+ghost use Rattle.text_model.specs.Replies.{block_words, reply_words};
 
-use byte_lines::{Sink, SinkFault, put_all};
-use coin_frac::NoMemory;
-use report::{PotsWord, pots_line, reply_line};
-use tx_records::{Pots, Reply};
+use crate::shown::{BlockLine, view_of};
+use byte_lines::{Sink, SinkFault};
+use ledger_state::LedgerState;
+use report::{LineTaker, PotsWord, put_epoch, put_one, reply_line};
+use state_print::put_state;
+use tx_records::{EpochReport, Pots, Reply};
 
-/// What a record comes to, told in lines of its own.
+/// What a record comes to, told in lines of its own over the ledger after it.
 #[derive(Drop)]
 pub enum Outcome {
-    /// The reply to a transaction, and every refusal: one line.
+    /// The reply to a transaction or a reward update, and every refusal: one line.
     Answered(Reply),
     /// The pots after a genesis or for a print, in lovelace: one line.
     Pots(PotsWord, Pots),
+    /// A block of the current epoch: one line.
+    Block,
+    /// A boundary, with the pots after it in lovelace, and then the line of the block.
+    Crossed(EpochReport, Pots),
+    /// A print of the state: all its lines.
+    State,
+}
+
+/// Hands over the line of a reply.
+fn put_reply<T: LineTaker>(
+    to: &mut T,
+    text: &mut Vec<u8>,
+    line: u64,
+    reply: &Reply,
+) -> Result<(), SinkFault>
+    ensures { HasPut T.with_line T.IsPart line (T.taken to.old) (reply_words reply.now ∷ []) (T.taken to.new)
+        (T.faults to.old) (T.faults to.new) result }
+{
+    reply_line(text, line, reply)?;
+    to.take(text.as_slice())
+}
+
+/// Hands over the line of an accepted block that left this ledger.
+fn put_block<T: LineTaker>(
+    to: &mut T,
+    text: &mut Vec<u8>,
+    line: u64,
+    state: &LedgerState,
+) -> Result<(), SinkFault>
+    ensures { HasPut T.with_line T.IsPart line (T.taken to.old) (block_words state.now ∷ []) (T.taken to.new)
+        (T.faults to.old) (T.faults to.new) result }
+{
+    put_one(to, text, line, &BlockLine { state })
+}
+
+/// Hands over the lines of a boundary, and then that of the block.
+fn put_crossing<T: LineTaker>(
+    to: &mut T,
+    text: &mut Vec<u8>,
+    line: u64,
+    state: &LedgerState,
+    report: &EpochReport,
+    pots: &Pots,
+) -> Result<(), SinkFault>
+    ensures { HasPut T.with_line T.IsPart line (T.taken to.old) (epoch_lines report.now pots.now ++ block_words state.now ∷ [])
+        (T.taken to.new) (T.faults to.old) (T.faults to.new) result }
+{
+    put_epoch(to, text, line, report, pots)?;
+    put_block(to, text, line, state)
 }
 
 impl Outcome {
-    /// Its text, in place of what the buffer held.
-    fn text(&self, number: u64, text: &mut Vec<u8>) -> Result<(), NoMemory>
-        ensures { OnOk result (text.new.items ≡ outcome_text number self.now) }
+    /// Hands over its lines, in order, each made in the buffer in place of what that held.
+    fn put<T: LineTaker>(
+        &self,
+        state: &LedgerState,
+        line: u64,
+        text: &mut Vec<u8>,
+        to: &mut T,
+    ) -> Result<(), SinkFault>
+        ensures { HasPut T.with_line T.IsPart line (T.taken to.old) (outcome_lines state.now self.now) (T.taken to.new)
+            (T.faults to.old) (T.faults to.new) result }
     {
         match self {
-            Outcome::Answered(reply) => reply_line(text, number, reply),
-            Outcome::Pots(word, pots) => pots_line(text, number, *word, pots),
+            Outcome::Answered(reply) => put_reply(to, text, line, reply),
+            Outcome::Pots(word, pots) => put_one(to, text, line, &(*word, *pots)),
+            Outcome::Block => put_block(to, text, line, state),
+            Outcome::Crossed(report, pots) => put_crossing(to, text, line, state, report, pots),
+            Outcome::State => put_state(to, text, line, &view_of(state)),
         }
     }
 
-    /// Writes its text, through a buffer that is used again for the next.
+    /// Writes its text over the ledger after the record, line by line, through a buffer that is used again for the next.
     pub fn write<K: Sink>(
         self,
+        state: &LedgerState,
         number: u64,
         text: &mut Vec<u8>,
         sink: &mut K,
     ) -> Result<(), SinkFault>
-        ensures ok { OnOk result (K.taken sink.new ≡ append_known (K.taken sink.old) (outcome_text number self)) }
+        ensures ok { OnOk result (K.taken sink.new ≡ append_known (K.taken sink.old) (outcome_text number state.now self)) }
         ensures err { OnErr result ((k : ℕ) ×
-            (K.taken sink.new ≡ append_known (K.taken sink.old) (take k (outcome_text number self)))) }
+            (K.taken sink.new ≡ append_known (K.taken sink.old) (take k (outcome_text number state.now self)))) }
         ensures counts { CountsFaults (result ≡ Err SinkFault.WriteFault) (K.faults sink.old) (K.faults sink.new) }
     {
-        self.text(number, text)?;
-        put_all(sink, text.as_slice())
+        self.put(state, number, text, sink)
     }
 }

@@ -11,7 +11,7 @@ use std::test::Fail;
 use tx_records::{FieldName, GenesisRule};
 
 /// Shapes of streams, how each ends, and what was written: that of the worked row; line ends, blank lines, a float that
-/// nobody names, two equal names, of which the later counts, and prints; streams that make no ledger, each with its cause.
+/// nobody names, two equal names, of which the later counts, a block, and prints; streams that make no ledger, each with its cause.
 fn rows() -> [(&'static str, Status, &'static str); 13] {
     [
         (ROW, Status::Done, ROW_TEXT),
@@ -36,9 +36,9 @@ fn rows() -> [(&'static str, Status, &'static str); 13] {
             "1 genesis outputs 200 deposits 0 rewards 0 fees 0 donations 0 treasury 100 reserves 700 supply 1000\n2 accepted\n3 pots outputs 180 deposits 0 rewards 0 fees 15 donations 5 treasury 100 reserves 700 supply 1000\n",
         ),
         (
-            "g\ns\n",
+            "g\nb\n",
             Status::Done,
-            "1 genesis outputs 0 deposits 0 rewards 0 fees 0 donations 0 treasury 0 reserves 9 supply 9\n2 refused 9 NotBuilt\n",
+            "1 genesis outputs 0 deposits 0 rewards 0 fees 0 donations 0 treasury 0 reserves 9 supply 9\n2 block slot 1 epoch 0 counted 0 of 0\n",
         ),
         (
             "g\n2",

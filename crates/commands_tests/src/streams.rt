@@ -28,6 +28,10 @@ fn genesis_head(letter: u8) -> Option<&'static [u8]> {
         b'f' => Some(
             b"{\"kind\":\"genesis\",\"network\":1,\"x\":1.5,\"slot\":0,\"epochLength\":10,\"version\":[10,0],\"supply\":9,\"reserves\":9,\"treasury\":0,\"params\":",
         ),
+        // accounts and a DRep, for the motion below
+        b'E' => Some(
+            b"{\"kind\":\"genesis\",\"network\":1,\"slot\":0,\"epochLength\":10,\"version\":[10,0],\"supply\":1000,\"reserves\":749,\"treasury\":100,\"params\":",
+        ),
         // two equal names: the later one counts
         b'e' => Some(
             b"{\"kind\":\"genesis\",\"network\":1,\"slot\":0,\"epochLength\":10,\"version\":[10,0],\"supply\":9,\"supply\":7,\"reserves\":7,\"treasury\":0,\"params\":",
@@ -41,6 +45,9 @@ fn genesis_tail(letter: u8) -> &'static [u8] {
     match letter {
         b'G' => {
             b",\"document\":\"0000000000000000000000000000000000000000000000000000000000000001\",\"outputs\":[[\"0000000000000000000000000000000000000000000000000000000000000001#0\",\"1k00000000000000000000000000000000000000000000000000000001\",160],[\"0000000000000000000000000000000000000000000000000000000000000001#2\",\"1k00000000000000000000000000000000000000000000000000000001\",20],[\"0000000000000000000000000000000000000000000000000000000000000001#4\",\"1k00000000000000000000000000000000000000000000000000000001\",20]],\"accounts\":[],\"pools\":[],\"dreps\":[]}"
+        }
+        b'E' => {
+            b",\"document\":\"0000000000000000000000000000000000000000000000000000000000000001\",\"outputs\":[[\"0000000000000000000000000000000000000000000000000000000000000001#2\",\"1k00000000000000000000000000000000000000000000000000000001\",20],[\"0000000000000000000000000000000000000000000000000000000000000001#3\",\"1k00000000000000000000000000000000000000000000000000000001\",20]],\"accounts\":[[\"k00000000000000000000000000000000000000000000000000000010\",2,67,null,\"k00000000000000000000000000000000000000000000000000000030\"],[\"k00000000000000000000000000000000000000000000000000000011\",2,33,null,null],[\"k00000000000000000000000000000000000000000000000000000012\",2,0,null,null]],\"pools\":[],\"dreps\":[[\"k00000000000000000000000000000000000000000000000000000030\",5,20]]}"
         }
         _ => NO_OUTPUTS,
     }
@@ -62,8 +69,19 @@ fn piece(letter: u8) -> Option<&'static [u8]> {
         b'5' => Some(
             b"{\"kind\":\"tx\",\"id\":\"0000000000000000000000000000000000000000000000000000000000000005\",\"inputs\":[\"0000000000000000000000000000000000000000000000000000000000000001#2\"],\"outputs\":[],\"fee\":15,\"size\":0,\"treasury\":100,\"donation\":5}",
         ),
-        b'p' => Some(b"{\"kind\":\"print\",\"what\":\"pots\"}"),
+        // a motion of no confidence, and a vote for it
+        b'm' => Some(
+            b"{\"kind\":\"tx\",\"id\":\"0000000000000000000000000000000000000000000000000000000000000002\",\"inputs\":[\"0000000000000000000000000000000000000000000000000000000000000001#2\"],\"outputs\":[],\"fee\":10,\"size\":0,\"proposals\":[{\"deposit\":10,\"return\":\"1k00000000000000000000000000000000000000000000000000000012\",\"action\":{\"type\":\"NoConfidence\"}}]}",
+        ),
+        b'v' => Some(
+            b"{\"kind\":\"tx\",\"id\":\"0000000000000000000000000000000000000000000000000000000000000003\",\"inputs\":[\"0000000000000000000000000000000000000000000000000000000000000001#3\"],\"outputs\":[],\"fee\":20,\"size\":0,\"votes\":[{\"voter\":\"drep:k00000000000000000000000000000000000000000000000000000030\",\"action\":\"0000000000000000000000000000000000000000000000000000000000000002#0\",\"vote\":\"yes\"}]}",
+        ),
+        // blocks that enter epochs 1 and 2
+        b't' => Some(b"{\"kind\":\"block\",\"slot\":10,\"pulse\":1}"),
+        b'u' => Some(b"{\"kind\":\"block\",\"slot\":20,\"pulse\":1}"),
         b's' => Some(b"{\"kind\":\"print\",\"what\":\"state\"}"),
+        b'p' => Some(b"{\"kind\":\"print\",\"what\":\"pots\"}"),
+        b'b' => Some(b"{\"kind\":\"block\",\"slot\":1,\"pulse\":1}"),
         _ => None,
     }
 }
@@ -92,9 +110,28 @@ pub const ROW: &str = "G\n2\n2\n3\n4\np\n";
 pub const ROW_TEXT: &str =
     "1 genesis outputs 200 deposits 0 rewards 0 fees 0 donations 0 treasury 100 reserves 700 supply 1000\n2 accepted\n3 refused 30 TxIdUsed\n4 refused 33 InputMissing at 0\n5 refused 110 NotBalanced consumed 20 produced 21\n6 pots outputs 200 deposits 0 rewards 0 fees 0 donations 0 treasury 100 reserves 700 supply 1000\n";
 
+/// The shape of a motion that is ratified, enacted and printed: two boundaries, and a state.
+pub const MOTION: &str = "E\nm\nv\nt\nu\ns\n";
+
+/// Its text.
+pub const MOTION_TEXT: &str =
+    "1 genesis outputs 40 deposits 11 rewards 100 fees 0 donations 0 treasury 100 reserves 749 supply 1000\n2 accepted\n3 accepted\n4 epoch 1 frozen 3 dormant 0\n4 stake k00000000000000000000000000000000000000000000000000000030 67\n4 pots outputs 0 deposits 21 rewards 100 fees 30 donations 0 treasury 100 reserves 749 supply 1000\n4 block slot 10 epoch 1 counted 1 of 3\n5 epoch 2 frozen 3 dormant 1\n5 stake k00000000000000000000000000000000000000000000000000000030 67\n5 tally 0000000000000000000000000000000000000000000000000000000000000002#0 NoConfidence committee 0/0 need none drep 67/67 need 67/100 pool 0/0 need 0/1 ratified\n5 removed 0000000000000000000000000000000000000000000000000000000000000002#0 enacted refund 10 1k00000000000000000000000000000000000000000000000000000012\n5 pots outputs 0 deposits 11 rewards 110 fees 30 donations 0 treasury 100 reserves 749 supply 1000\n5 block slot 20 epoch 2 counted 1 of 3\n6 now slot 20 epoch 2 version 10.0 dormant 1\n6 constitution 0000000000000000000000000000000000000000000000000000000000000001 none\n6 committee none\n6 enacted committee 0000000000000000000000000000000000000000000000000000000000000002#0 constitution none hardfork none parameters none\n6 param maxBlockBodySize 90112\n6 param maxTxSize 16384\n6 param maxBlockHeaderSize 1100\n6 param maxValueSize 5000\n6 param maxTxExUnits 1000 1000\n6 param maxBlockExUnits 1000 1000\n6 param maxCollateralInputs 3\n6 param minFeeA 0\n6 param minFeeB 0\n6 param keyDeposit 2\n6 param poolDeposit 5\n6 param rho 0/1\n6 param tau 0/1\n6 param minPoolCost 0\n6 param coinsPerUTxOByte 0\n6 param prices 0/1 0/1\n6 param minFeeRefScriptCostPerByte 15/1\n6 param a0 0/1\n6 param eMax 18\n6 param nOpt 500\n6 param costModels 0000000000000000000000000000000000000000000000000000000000000000\n6 param collateralPercentage 150\n6 param poolVotingThresholds 0/1 0/1 0/1 0/1 0/1\n6 param drepVotingThresholds 67/100 67/100 67/100 67/100 67/100 67/100 67/100 67/100 67/100 67/100\n6 param govActionLifetime 2\n6 param govActionDeposit 10\n6 param drepDeposit 5\n6 param drepActivity 20\n6 param committeeMinSize 0\n6 param committeeMaxTermLength 100\n6 drep k00000000000000000000000000000000000000000000000000000030 deposit 5 expiry 20\n6 account k00000000000000000000000000000000000000000000000000000010 stake 0 deposit 2 rewards 67 pool none drep k00000000000000000000000000000000000000000000000000000030\n6 account k00000000000000000000000000000000000000000000000000000011 stake 0 deposit 2 rewards 33 pool none drep none\n6 account k00000000000000000000000000000000000000000000000000000012 stake 0 deposit 2 rewards 10 pool none drep none\n6 snapshot fees 30\n6 pending none\n6 pots outputs 0 deposits 11 rewards 110 fees 30 donations 0 treasury 100 reserves 749 supply 1000\n";
+
 /// How many lines of these bytes are whole.
 pub fn whole_lines(bytes: &[u8]) -> usize {
     bytes.iter().filter(|byte| **byte == b'\n').count()
+}
+
+/// What a text answers to the first lines of a stream of at most nine.
+pub fn answers_to(text: &[u8], count: usize) -> &[u8] {
+    let mut begins = true;
+    for (at, byte) in text.iter().enumerate() {
+        if begins && usize::from(byte.wrapping_sub(b'0')) > count {
+            return text.get(..at).unwrap_or(text);
+        }
+        begins = *byte == b'\n';
+    }
+    text
 }
 
 /// The first lines of a text, or all of it where it has fewer.

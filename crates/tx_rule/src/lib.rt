@@ -8,8 +8,8 @@ ghost use Rattle.ledger_model.specs.Draft.{last_draft};
 ghost use Rattle.ledger_model.specs.Transaction.{accepted_as, tx_step};
 ghost use Rattle.ledger_model.specs.UtxoRules.{unless_failed};
 ghost use Rattle.live_ledger.specs.Drafts.{draft_at, draft_of};
-ghost use Rattle.live_ledger.specs.Standing.{on_ledger};
 ghost use Rattle.rule_checks.specs.Answered.{IsAnswered};
+ghost use Rattle.run_model.specs.World.{on_ledger};
 ghost use Rattle.tx_records.specs.TxLimits.{is_within_limits};
 ghost use Rattle.tx_rule.specs.Judged.{IsJudged};
 
@@ -22,20 +22,21 @@ use cert_deleg::withdraw;
 use coin_frac::NoMemory;
 use draft_changes::Changes;
 use govcert::refresh;
+use ledger_state::LedgerState;
 use live_ledger::{Draft, LiveLedger};
 use rule_checks::as_fault;
 use std::alloc::Global;
 use tx_records::{Reply, Rule, Scripts, Tx, TxFault};
 use utxo_rules::check;
 
-/// Judges a transaction, and applies it where it breaks no rule; the ledger of a refused one is the one that was given, and what was frozen stays. After want of memory there is no ledger. (LEDGER of the formal specification)
-pub fn apply_tx(alloc: Global, s: LiveLedger, tx: &Tx) -> Result<(LiveLedger, Reply), NoMemory>
+/// Judges a transaction, and applies it where it breaks no rule; the state of a refused one is the one that was given, and all that epochs add stays. After want of memory there is no state. (LEDGER of the formal specification)
+pub fn apply_tx(alloc: Global, s: LedgerState, tx: &Tx) -> Result<(LedgerState, Reply), NoMemory>
     requires within { is_within_limits tx.now ≡ true }
     ensures ledger { IfOk result (λ r. r.0 ≡ on_ledger (λ l. (tx_step l tx.now).0) s) }
     ensures reply { IfOk result (λ r. r.1 ≡ (tx_step s.ledger tx.now).1) }
     ensures kept { (rule : Rule) → IfOk result (λ r. r.1 ≡ Reply.Refused rule → r.0 ≡ s) }
 {
-    match judge(alloc, &s, tx) {
+    match judge(alloc, s.live(), tx) {
         Ok(changes) => Ok((s.commit(changes, tx)?, accepted_as(tx.scripts))),
         Err(TxFault::Refused(rule)) => Ok((s, Reply::Refused(rule))),
         Err(TxFault::NoMemory) => Err(NoMemory),

@@ -9,10 +9,9 @@ mod parts;
 mod start;
 mod transfer;
 
-use ask::{AskFault, ask};
+use ask::{AskFault, Asked};
 use coin_frac::NoMemory;
 use governance::{governance, hard_fork};
-use live_ledger::LiveLedger;
 use report::reply_line;
 use start::ledger_of;
 use std::alloc::Global;
@@ -33,33 +32,39 @@ fn transaction(alloc: Global, question: u64) -> Result<Tx, NoMemory> {
     }
 }
 
-/// What the ledger answers to a question, as a line of text in place of what the buffer held; and the ledger after it.
-fn answer(
+/// What is answered to a question, as a line of text in place of what the buffer held; and what is to be asked next.
+fn answer<A: Asked + Drop>(
     alloc: Global,
-    ledger: LiveLedger,
+    asked: A,
     question: u64,
     text: &mut Vec<u8>,
-) -> Result<LiveLedger, AskFault> {
-    let (after, reply) = ask(alloc, ledger, &transaction(alloc, question)?)?;
+) -> Result<A, AskFault> {
+    let tx = transaction(alloc, question)?;
+    let (next, reply) = asked.answer(alloc, &tx)?;
     reply_line(text, question, &reply)?;
-    Ok(after)
+    Ok(next)
+}
+
+/// Asks about each transaction in turn, and prints what is answered.
+fn ask_all<A: Asked + Drop>(rt: &HostRuntime, first: A) -> io::Result<()> {
+    let mut asked = first;
+    let mut text = Vec::new(rt.alloc());
+    for question in 1..=QUESTIONS {
+        match answer(rt.alloc(), asked, question, &mut text) {
+            Ok(next) => asked = next,
+            Err(fault) => return println!(rt; "not judged: {fault:?}"),
+        }
+        rt.stdout().write_all(&text)?;
+    }
+    Ok(())
 }
 
 fn main(rt: HostRuntime) -> io::Result<()> {
     let Some(line) = rt.lines(rt.alloc()).next() else {
         return println!(rt; "no line");
     };
-    let mut ledger = match ledger_of(rt.alloc(), line?.as_bytes()) {
-        Ok(ledger) => ledger,
-        Err(fault) => return println!(rt; "no ledger: {fault:?}"),
-    };
-    let mut text = Vec::new(rt.alloc());
-    for question in 1..=QUESTIONS {
-        match answer(rt.alloc(), ledger, question, &mut text) {
-            Ok(after) => ledger = after,
-            Err(fault) => return println!(rt; "not judged: {fault:?}"),
-        }
-        rt.stdout().write_all(&text)?;
+    match ledger_of(rt.alloc(), line?.as_bytes()) {
+        Ok(ledger) => ask_all(&rt, ledger),
+        Err(fault) => println!(rt; "no ledger: {fault:?}"),
     }
-    Ok(())
 }

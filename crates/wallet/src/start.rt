@@ -1,8 +1,8 @@
 //! The ledger to ask.
-ghost use Rattle.std.specs.Prelude.{IfOk};
-ghost use Rattle.wallet.specs.Starts.{IsLedgerOf};
+ghost use Rattle.wallet.specs.Starts.{Starts};
 
-use live_ledger::{GenesisFault, LiveLedger};
+use ledger_state::LedgerState;
+use live_ledger::GenesisFault;
 use record_read::{RecordFault, read_record};
 use std::alloc::Global;
 use tx_records::{GenesisRule, Record};
@@ -10,7 +10,7 @@ use tx_records::{GenesisRule, Record};
 /// Why a line gives no ledger. (Own)
 #[derive(Clone, Copy, Debug, PartialEq, Eq)]
 pub enum StartFault {
-    /// The line is no record: what of it is wrong.
+    /// The line is no record: what of it is wrong, or memory ran out before it was read.
     Unreadable(RecordFault),
     /// It is a record of another kind.
     NoGenesis,
@@ -21,15 +21,16 @@ pub enum StartFault {
 }
 
 /// The ledger of a line that is a genesis. (Own)
-pub fn ledger_of(alloc: Global, line: &[u8]) -> Result<LiveLedger, StartFault>
-    ensures { IfOk result (IsLedgerOf line.now) }
+pub fn ledger_of(alloc: Global, line: &[u8]) -> Result<LedgerState, StartFault>
+    ensures { Starts line.now result }
 {
     let genesis = match read_record(alloc, line) {
         Ok(Record::Genesis(genesis)) => genesis,
-        Ok(_) => return Err(StartFault::NoGenesis),
+        Ok(Record::Block { .. } | Record::Rewards(_) | Record::Tx(_) | Record::Print(_)) =>
+            return Err(StartFault::NoGenesis),
         Err(fault) => return Err(StartFault::Unreadable(fault)),
     };
-    match LiveLedger::from_genesis(alloc, genesis.get()) {
+    match LedgerState::from_genesis(alloc, genesis.get(), 1) {
         Ok(ledger) => Ok(ledger),
         Err(GenesisFault::Broken(rule)) => Err(StartFault::Broken(rule)),
         Err(GenesisFault::NoMemory) => Err(StartFault::NoMemory),

@@ -1,0 +1,176 @@
+//! Faults and cuts of a stream with two boundaries, a pass that enacts, and a print of the state.
+ghost use Rattle.std.specs.Prelude.{◌<◌};
+
+use crate::memory::{ran, replayed_in_memory};
+use crate::streams::{MOTION, MOTION_TEXT, answers_to, first_lines, stream, whole_lines};
+use byte_lines::{FaultySink, FaultySource, MemorySink, MemorySource};
+use coin_frac::NoMemory;
+use commands::Status;
+use std::alloc::Global;
+use std::process::Abort;
+use std::test::Fail;
+
+/// The whole text, in parts of several sizes.
+#[test]
+fn enacts_a_motion(rt: HostRuntime) -> Result<(), Fail> {
+    let bytes = stream(rt.alloc(), MOTION)?;
+    for part in [1, 7, 65_536] {
+        let (status, sink) = replayed_in_memory(rt.alloc(), bytes.as_slice(), part)?;
+        assert_eq!(rt;
+            (status, sink.as_slice()),
+            (Status::Done, MOTION_TEXT.as_bytes()),
+            "in parts of {part}"
+        );
+    }
+    Ok(())
+}
+
+/// How the run ends where read k, of 64 bytes at most, fails, and what it wrote.
+fn with_failing_read(
+    alloc: Global,
+    bytes: &[u8],
+    k: u64,
+) -> Result<(Status, MemorySink), NoMemory> {
+    let failing = [k];
+    let mut source = FaultySource::new(bytes, 64, &failing);
+    let mut sink = MemorySink::new(alloc);
+    let status = ran(alloc, "replay", &mut source, &mut sink)?;
+    Ok((status, sink))
+}
+
+/// Read k fails: the answers to the lines that came whole were written, those of a boundary and of a state whole. Past the
+/// end no read comes.
+#[test]
+fn each_read_fails(rt: HostRuntime) -> Result<(), Fail> {
+    let bytes = stream(rt.alloc(), MOTION)?;
+    for k in 0..60u64 {
+        let (status, sink) = with_failing_read(rt.alloc(), bytes.as_slice(), k)?;
+        let came = bytes.get(..64 * k as usize).unwrap_or(bytes.as_slice());
+        let text = answers_to(MOTION_TEXT.as_bytes(), whole_lines(came));
+        let want = if k as usize > bytes.len().div_ceil(64) {
+            Status::Done
+        } else {
+            Status::ReadFault
+        };
+        assert_eq!(rt; (status, sink.as_slice()), (want, text), "read {k}");
+    }
+    Ok(())
+}
+
+/// How the run ends where write k, of `part` bytes at most, fails, and what it wrote.
+fn with_failing_write(
+    alloc: Global,
+    bytes: &[u8],
+    part: usize,
+    k: u64,
+) -> Result<(Status, Vec<u8>), NoMemory>
+    requires { 0 < part }
+{
+    let failing = [k];
+    let mut source = MemorySource::new(bytes, 65_536);
+    let mut sink = FaultySink::new(alloc, part, &failing);
+    let status = ran(alloc, "replay", &mut source, &mut sink)?;
+    let mut written = Vec::new(alloc);
+    written.extend_from_slice(sink.as_slice())?;
+    Ok((status, written))
+}
+
+/// The end that is wanted where this front of the text was written.
+fn end_after(written: &[u8]) -> Status {
+    if written.len() == MOTION_TEXT.len() {
+        Status::Done
+    } else {
+        Status::WriteFault
+    }
+}
+
+/// The write of line k fails: the lines before it were written.
+#[test]
+fn each_line_fails(rt: HostRuntime) -> Result<(), Fail> {
+    let bytes = stream(rt.alloc(), MOTION)?;
+    for k in 0..60usize {
+        let text = first_lines(MOTION_TEXT.as_bytes(), k);
+        let (status, written) = with_failing_write(rt.alloc(), bytes.as_slice(), 65_536, k as u64)?;
+        assert_eq!(rt;
+            (status, written.as_slice()),
+            (end_after(text), text),
+            "line {k}"
+        );
+    }
+    Ok(())
+}
+
+/// A write of a byte fails: the bytes before it were written. Each tenth of them is tried.
+#[test]
+fn bytes_fail(rt: HostRuntime) -> Result<(), Fail> {
+    let bytes = stream(rt.alloc(), MOTION)?;
+    for tenth in 0..280usize {
+        let text = MOTION_TEXT
+            .as_bytes()
+            .get(..10 * tenth)
+            .unwrap_or(MOTION_TEXT.as_bytes());
+        let (status, written) = with_failing_write(
+            rt.alloc(),
+            bytes.as_slice(),
+            1,
+            10 * tenth as u64,
+        )?;
+        assert_eq!(rt;
+            (status, written.as_slice()),
+            (end_after(text), text),
+            "byte {}",
+            10 * tenth
+        );
+    }
+    Ok(())
+}
+
+/// What is written of a stream whose first lines came whole, and then a piece of one, if any, which is no record.
+fn cut_text(alloc: Global, count: usize, piece: bool) -> Result<Vec<u8>, NoMemory> {
+    let mut text = Vec::new(alloc);
+    text.extend_from_slice(answers_to(MOTION_TEXT.as_bytes(), count))?;
+    if piece && let Some(digit) = b"123456".get(count) {
+        text.push(*digit)?;
+        text.extend_from_slice(b" refused 1 Malformed json\n")?;
+    }
+    Ok(text)
+}
+
+/// The run of whole lines and of a line that is cut after `end` bytes writes what is wanted.
+fn is_cut(
+    rt: &impl Abort,
+    alloc: Global,
+    front: &[u8],
+    line: &[u8],
+    end: usize,
+) -> Result<(), Fail> {
+    let mut bytes = Vec::new(alloc);
+    bytes.extend_from_slice(front)?;
+    bytes.extend_from_slice(line.get(..end).unwrap_or(line))?;
+    let whole = whole_lines(front).saturating_add(usize::from(end == line.len()));
+    let want = cut_text(alloc, whole, 0 < end && end < line.len())?;
+    let (status, sink) = replayed_in_memory(alloc, bytes.as_slice(), 65_536)?;
+    assert_eq!(rt;
+        (status, sink.as_slice()),
+        (Status::Done, want.as_slice()),
+        "{end} bytes"
+    );
+    Ok(())
+}
+
+/// Input that is cut after each byte of one line: the proposal, the block that enacts it, the print.
+#[test]
+fn each_cut(rt: HostRuntime) -> Result<(), Fail> {
+    for (before, line) in [
+        ("E\n", "m"),
+        ("E\nm\nv\nt\n", "u"),
+        ("E\nm\nv\nt\nu\n", "s"),
+    ] {
+        let front = stream(rt.alloc(), before)?;
+        let line = stream(rt.alloc(), line)?;
+        for end in 0..=line.len() {
+            is_cut(&rt, rt.alloc(), front.as_slice(), line.as_slice(), end)?;
+        }
+    }
+    Ok(())
+}
