@@ -1,7 +1,8 @@
-"""Streams of the further commands as rows of further_rows: what each command writes for a stream, and what a checkpoint is of.
+"""Streams of the further commands as rows of further_rows: what each command writes for a stream, and what a checkpoint or a
+certificate is of.
 
-The terms of records are those of written.py. A World is written as the checkpoint that shows it: its parts in the order of its
-lines."""
+The terms of records are those of written.py. A World is written as the checkpoint that shows it, and a snapshot as the
+certificate that does: its parts in the order of its lines."""
 
 import json
 import re
@@ -14,6 +15,7 @@ from written import (
     action,
     action_id,
     address,
+    boolean,
     credential,
     drep,
     field_of,
@@ -46,7 +48,9 @@ FURTHER = {
     "Rattle.checkpoint_model.specs.Resumable": "IsResumable are_chained delegates_to_registered has_form holds_supply is_counted_entry "
     "is_covered is_timed is_within_dormant_bound is_within_supply uses_ids",
     "Rattle.checkpoint_model.specs.Resumed": "checkpoint_of_readings text_of_resume",
+    "Rattle.certificate_model.specs.Certificate": "certificate_text",
     "Rattle.certificate_model.specs.Checked": "certificates_of_readings",
+    "Rattle.certificate_model.specs.Fits": "Fits",
     "Rattle.shortfall_model.specs.ShortLines": "shortfall_of_readings",
     "Rattle.follow_model.specs.FollowLines": "follow_of_readings",
     "Rattle.follow_records.specs.declared.record.FollowReading": "FollowReading",
@@ -55,9 +59,9 @@ FURTHER = {
     "Rattle.gov_actions.specs.declared.action.Proposal": "Proposal",
     "Rattle.gov_actions.specs.declared.state.EnactState": "EnactState",
     "Rattle.gov_actions.specs.declared.state.HotState.TheVariants": "Hot Resigned",
-    "Rattle.gov_model.specs.Snapshot": "entry_count",
+    "Rattle.gov_model.specs.Snapshot": "Snapshot entry_count",
     "Rattle.run_model.specs.World": "World",
-    "Rattle.further_rows.proofs.Texts": "is_text",
+    "Rattle.further_rows.proofs.Texts": "is_text refuted",
     "Rattle.maps.specs.Words": "none_or",
     "Rattle.std.specs.List": "list_all",
 }
@@ -202,7 +206,7 @@ class Checkpoint:
         members = listed([f"({credential(it[1])}, {it[3]})" for it in self.all_of("member")])
         committee = "None" if threshold[1] == "none" else f"(Some {record(('threshold', fraction(threshold[2])), ('members', members))})"
         last = record(*((name, after(enacted, name, action_id)) for name in ("committee", "constitution", "hardfork", "parameters")))
-        version = behind(self.one("now"), "version").split(".")
+        version = self.version()
         return record(
             ("params", params({words[1]: param_value(words[1], words[2:]) for words in self.all_of("param")})),
             ("version", f"({version[0]}, {version[1]})"),
@@ -210,8 +214,14 @@ class Checkpoint:
             ("document", hash_of(self.one("constitution")[1])),
             ("script", option(hash_of)(None if self.one("constitution")[2] == "none" else self.one("constitution")[2])),
             ("last", last),
-            ("treasury", behind(self.one("pots"), "treasury")),
+            ("treasury", self.treasury()),
         )
+
+    def version(self):
+        return behind(self.one("now"), "version").split(".")
+
+    def treasury(self):
+        return behind(self.one("pots"), "treasury")
 
     def hot(self):
         entries = [(it[1], it[5]) for it in self.all_of("member") if it[5] != "none"] + [(it[1], it[2]) for it in self.all_of("hot")]
@@ -292,10 +302,9 @@ class Checkpoint:
             ("start", f"(record {self.name}_state {{ treasury = {self.frozen('treasury')[0][1]} }})"),
         )
 
-    def definitions(self):
-        """The World, and what it is made of."""
+    def world(self):
         (fees,) = (it[2] for it in self.all_of("snapshot") if it[1] == "fees")
-        world = record(
+        return record(
             ("ledger", self.ledger()),
             ("pending", self.pending()),
             ("counted", behind(self.one("checkpoint"), "counted")),
@@ -303,9 +312,15 @@ class Checkpoint:
             ("noted_fees", fees),
             ("frozen", self.snapshot()),
         )
+
+    def whole(self):
+        return "world", "World", self.world()
+
+    def definitions(self):
+        """The whole, and what it is made of."""
         parts = [("state", "EnactState", self.state())]
         parts += ((f"proposal_{place}", "Proposal", term) for place, term in enumerate(self.proposals()))
-        parts.append(("world", "World", world))
+        parts.append(self.whole())
         return "".join(f"\nabbrev {self.name}_{part} : {kind}\n{self.name}_{part} = {term}\n" for part, kind, term in parts)
 
 
@@ -358,6 +373,54 @@ def refused_row(name, lines, test):
     return row + claim(name, f"({TESTS[test].format(w=f'{name}_world')}) ≡ false")
 
 
+# ---- the snapshot of a certificate
+
+
+class Certificate(Checkpoint):
+    """The lines of a certificate, and the snapshot that they show."""
+
+    def version(self):
+        return behind(self.one("certificate"), "version").split(".")
+
+    def treasury(self):
+        return behind(self.one("certificate"), "treasury")
+
+    def snapshot(self):
+        accounts = [f"({pool(it[1])}, {account(it[3])})" for it in self.all_of("pool") if it[3] != "none"]
+        return record(
+            ("epoch", behind(self.one("certificate"), "epoch")),
+            ("entries", listed([entry(it) for it in self.all_of("account")])),
+            ("dreps", listed([f"({credential(it[1])}, {it[3]})" for it in self.all_of("drep")])),
+            ("mark", listed([f"({pool(it[1])}, {it[2]})" for it in self.all_of("mark")])),
+            ("pool_accounts", listed(accounts)),
+            ("hot", self.hot()),
+            ("proposals", listed([f"{self.name}_proposal_{place}" for place, _ in enumerate(self.all_of("proposal"))])),
+            ("start", f"{self.name}_state"),
+        )
+
+    def whole(self):
+        return "snapshot", "Snapshot", self.snapshot()
+
+
+# what is asked of a snapshot that fits, but for its text
+FITTING = "form epoch held mark short"
+
+
+def checked_row(name, lines, text, test):
+    """The snapshot of a certificate; that it fits and has this certificate, or what of it does not fit, or that its certificate is another one."""
+    if text != ["1 no" if test else "1 yes"]:
+        raise ValueError(f"{name} is not answered so")
+    row = Certificate(name, lines).definitions()
+    fits, opened = f"Fits {name}_snapshot", "unfolding digits encode_with\n"
+    if test in FITTING.split():
+        return row + f"\npub {name} : {fits} → ⊥\n{opened}{name} h = refuted h.{test}\n"
+    row += claim(f"{name}_shown", f"is_text (Some (certificate_text {name}_snapshot)) (\n{said(lines)}    []) ≡ {boolean(not test)}")
+    if test:
+        return row
+    proof = "; ".join(f"{it} = refl" for it in FITTING.split())
+    return row + f"\npub {name}_fits : {fits}\n{opened}{name}_fits = record {{ {proof} }}\n"
+
+
 def further_module(about, command, streams):
     """A module of the rows of these streams, each a file with what it is refused for, if it is."""
     rows = ""
@@ -365,6 +428,8 @@ def further_module(about, command, streams):
         name, lines = stream.stem, lines_of(stream)
         if command == "resume":
             rows += refused_row(name, lines, test) if test else resume_row(name, lines, lines_of(stream.with_suffix(".out")))
+        elif command == "check":
+            rows += checked_row(name, lines, lines_of(stream.with_suffix(".out")), test)
         else:
             rows += text_row(name, command, lines, lines_of(stream.with_suffix(".out")))
     return f"-- {about}\n{''.join(imports(rows, KNOWN))}{rows}"

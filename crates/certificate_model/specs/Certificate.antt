@@ -1,17 +1,10 @@
 -- The text of a certificate: what was frozen, the stakes of DReps, and for each proposal who counted for what and what came of it. (Own)
-use Rattle.std.specs.Prelude.{ℕ, not, List, [], ◌∷◌, ◌++◌, codes, decimal, filter, flat_map, map, zip}
-use Rattle.maps.specs.Maps.{value_at}
-use Rattle.gov_ids.specs.declared.Credential.{Credential}
+use Rattle.std.specs.Prelude.{ℕ, List, [], ◌∷◌, ◌++◌, codes, decimal, flat_map, map, zip}
 use Rattle.gov_ids.specs.declared.PoolId.{PoolId}
-use Rattle.gov_ids.specs.Orders.{credential_cmp}
-use Rattle.gov_ids.specs.Spelling.{action_id_text, credential_text, hash_text, pool_text}
+use Rattle.gov_ids.specs.Spelling.{action_id_text, pool_text}
 use Rattle.gov_actions.specs.declared.action.Proposal.{Proposal}
-use Rattle.gov_actions.specs.declared.state.EnactState.{EnactState}
-use Rattle.gov_actions.specs.declared.state.HotState.{HotState}
 use Rattle.gov_actions.specs.declared.tally.Tally.{Tally}
-use Rattle.gov_model.specs.Hot.{is_member}
 use Rattle.gov_model.specs.Ratified.{order_of, ratified_of, tallies_of}
-use Rattle.gov_model.specs.Sides.{members_of}
 use Rattle.gov_model.specs.Snapshot.{Snapshot}
 use Rattle.run_model.specs.Report.{stakes_of}
 use Rattle.text_forms.specs.Lines.{text_of_bare}
@@ -19,8 +12,8 @@ use Rattle.text_forms.specs.Snapshots.{action_words, expiry_words, pool_account_
 use Rattle.text_model.specs.ActionWords.{kind_text, verdict_text}
 use Rattle.text_model.specs.EpochLines.{role_texts, role_words, stake_words}
 use Rattle.text_model.specs.ParamLines.{param_lines}
-use Rattle.text_model.specs.StateLines.{account_words, committee_words, hot_text, hot_words, proposal_lines}
-use Rattle.text_model.specs.Words.{Text, or_none, version_text}
+use Rattle.text_model.specs.StateLines.{account_words, committee_lines, proposal_lines, words_of_constitution, words_of_enacted}
+use Rattle.text_model.specs.Words.{Text, version_text}
 use Rattle.certificate_model.specs.Parts.{part_words, parts_of}
 
 -- ---- the snapshot
@@ -30,29 +23,6 @@ abbrev pub certificate_words : Snapshot → List Text
 certificate_words f =
     codes "certificate" ∷ codes "epoch" ∷ decimal f.epoch ∷ codes "version" ∷ version_text f.start.version ∷
     codes "treasury" ∷ decimal f.start.treasury ∷
-    []
-
--- the constitution
-abbrev pub constitution_words : EnactState → List Text
-constitution_words s = codes "constitution" ∷ hash_text s.document ∷ or_none hash_text s.script ∷ []
-
--- a member with its hot key at the freeze
-abbrev pub member_words : Snapshot → Credential × ℕ → List Text
-member_words f m =
-    codes "member" ∷ credential_text m.0 ∷ codes "term" ∷ decimal m.1 ∷ codes "hot" ∷ hot_text (value_at credential_cmp f.hot m.0) ∷ []
-
--- the entries of keys that are not members
-abbrev pub outside_hot : Snapshot → List (Credential × HotState)
-outside_hot f = filter (λ h. not (is_member f.start.committee h.0)) f.hot
-
--- the last enacted ids
-abbrev pub enacted_words : EnactState → List Text
-enacted_words s =
-    codes "enacted" ∷
-    codes "committee" ∷ or_none action_id_text s.last.committee ∷
-    codes "constitution" ∷ or_none action_id_text s.last.constitution ∷
-    codes "hardfork" ∷ or_none action_id_text s.last.hardfork ∷
-    codes "parameters" ∷ or_none action_id_text s.last.parameters ∷
     []
 
 -- the stake of a pool of mark
@@ -66,10 +36,9 @@ whole_proposal_lines p = proposal_lines p ++ action_words p ∷ []
 -- the snapshot, part after part
 abbrev pub snapshot_lines : Snapshot → List (List Text)
 snapshot_lines f =
-    certificate_words f ∷ constitution_words f.start ∷ committee_words f.start.committee ∷ []
-    ++ map (member_words f) (members_of f.start.committee)
-    ++ map hot_words (outside_hot f)
-    ++ enacted_words f.start ∷ []
+    certificate_words f ∷ words_of_constitution f.start.document f.start.script ∷ []
+    ++ committee_lines f.start.committee f.hot
+    ++ words_of_enacted f.start.last ∷ []
     ++ param_lines f.start.params
     ++ map expiry_words f.dreps
     ++ map (pool_account_words f) f.mark

@@ -1,5 +1,5 @@
 -- The laws over certificates, each proved where a public call cites it. (Own)
-use Rattle.std.specs.Prelude.{◌≡◌, ℕ, not, List, filter, sum_by}
+use Rattle.std.specs.Prelude.{◌≡◌, ℕ, not, Bool, List, filter, sum_by, true}
 use Rattle.gov_ids.specs.declared.ActionId.{ActionId}
 use Rattle.gov_actions.specs.declared.action.Proposal.{Proposal}
 use Rattle.gov_actions.specs.declared.action.Vote.{Vote}
@@ -8,6 +8,12 @@ use Rattle.gov_actions.specs.Voting.{is_abstain, is_yes}
 use Rattle.gov_model.specs.Ratified.{IsRatified, ratified_of}
 use Rattle.gov_model.specs.Sides.{vote_count}
 use Rattle.gov_model.specs.Snapshot.{Snapshot}
+use Rattle.run_model.specs.Runs.{IsReached}
+use Rattle.run_model.specs.World.{World}
+use Rattle.text_forms.specs.Lines.{are_short_lines, joined_lines}
+use Rattle.text_forms.specs.Snapshots.{is_snapshot}
+use Rattle.certificate_model.specs.Certificate.{certificate_lines}
+use Rattle.certificate_model.specs.Checked.{Answers}
 use Rattle.certificate_model.specs.Fits.{Fits}
 use Rattle.certificate_model.specs.Parts.{Part, committee_parts, drep_parts, pool_parts, weighty}
 
@@ -30,3 +36,8 @@ PartsAreTheCounts = (f : Snapshot) (a : Proposal) →
 abbrev pub VerdictsAreOfOneList : Type 0
 VerdictsAreOfOneList = (f : Snapshot) → Fits f →
     IsRatified f (ratified_of f) × ((others : List ActionId) → IsRatified f others → others ≡ ratified_of f)
+
+-- a checker answers yes to the certificate of what is frozen of every World that records reach, where that has the form of the formats and no line is too long
+abbrev pub ReachedIsCertified : Type 0
+ReachedIsCertified = (w : World) → IsReached w → is_snapshot w.frozen ≡ true → are_short_lines (certificate_lines w.frozen) ≡ true →
+    (answer : Bool) → Answers (joined_lines (certificate_lines w.frozen)) answer → answer ≡ true

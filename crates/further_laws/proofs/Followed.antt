@@ -38,7 +38,7 @@ all_split p (x ∷ xs) ys h =
     let rest = all_split p xs ys (right_of _ _ h) in
     (and_from (p x) (list_all p xs) (left_of _ _ h) rest.0, rest.1)
 
-all_join : {A : Type 0} (p : A → Bool) (xs ys : List A) → list_all p xs ≡ true → list_all p ys ≡ true → list_all p (xs ++ ys) ≡ true
+pub all_join : {A : Type 0} (p : A → Bool) (xs ys : List A) → list_all p xs ≡ true → list_all p ys ≡ true → list_all p (xs ++ ys) ≡ true
 all_join p [] ys h k = k
 all_join p (x ∷ xs) ys h k = and_from (p x) (list_all p (xs ++ ys)) (left_of _ _ h) (all_join p xs ys (right_of _ _ h) k)
 
@@ -173,7 +173,7 @@ follow_is_replay g rs h =
 
 -- ---- a followed World is sound
 
-sound_all : (rs : List Record) (w : World) → IsSoundWorld w → list_all record_limits.is_within_limits rs ≡ true → IsSoundWorld (world_after_all w rs)
+pub sound_all : (rs : List Record) (w : World) → IsSoundWorld w → list_all record_limits.is_within_limits rs ≡ true → IsSoundWorld (world_after_all w rs)
 sound_all [] w s h = s
 sound_all (r ∷ rs) w s h = sound_all rs (step w r).0 (records_keep_sound w r s (left_of _ _ h)) (right_of _ _ h)
 

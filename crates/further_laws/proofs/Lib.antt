@@ -4,3 +4,14 @@ pub mod Resumed
 pub mod Parts
 pub mod Verdicts
 pub mod Reached
+pub mod Fronts
+pub mod Fewest
+pub mod Sound
+pub mod Fronted
+pub mod Kept
+pub mod Delegations
+pub mod Chained
+pub mod ChainedRuns
+pub mod Proposed
+pub mod Widths
+pub mod Lengths

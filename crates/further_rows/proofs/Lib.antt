@@ -5,6 +5,7 @@ pub mod ResumeStreams
 pub mod LaterResumeStreams
 pub mod ForgedResumeStreams
 pub mod CertificateStreams
+pub mod CheckedStreams
 pub mod EnactedCertificateStreams
 pub mod ThresholdCertificateStreams
 pub mod ShortfallStreams
