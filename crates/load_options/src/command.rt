@@ -1,0 +1,50 @@
+ghost use Rattle.std.specs.Prelude.{◌≡◌, IfSome};
+ghost use Rattle.load_options.specs.Command.{IsWithin, load_command_of, value_of};
+ghost use Rattle.load_options.specs.Options.{options_of};
+
+use crate::number::number_in;
+use crate::options::{are_known, number_after};
+
+/// How many accounts there may be.
+pub const MOST_ACCOUNTS: u32 = 1_000_000;
+/// How many epochs there may be.
+pub const MOST_EPOCHS: u32 = 100;
+
+/// What the command `load` asks for: the stream that is made of these three numbers. (Own)
+#[derive(Clone, Copy, Debug, PartialEq, Eq)]
+pub struct LoadCommand {
+    pub seed: u64,
+    /// 1 to `MOST_ACCOUNTS`.
+    pub accounts: u32,
+    /// 1 to `MOST_EPOCHS`.
+    pub epochs: u32,
+}
+
+/// The number after a name, where the name stands once among the options that the words are, and the number is from `low`
+/// to `high`.
+fn value_after(words: &[String], name: &str, low: u64, high: u64) -> Option<u64>
+    ensures { result ≡ value_of name.now low high (options_of words.now) }
+{
+    number_in(number_after(words, name)?, low, high)
+}
+
+/// What words ask for, where they are the word `load` and then `--seed S`, `--accounts A` and `--epochs E`, each once and
+/// in any order. An option may be one word, as `--seed=S`. A number is 1 to 20 decimal digits: S is below 2^64, A 1 to
+/// `MOST_ACCOUNTS` and E 1 to `MOST_EPOCHS`. (Own)
+pub fn load_command(words: &[String]) -> Option<LoadCommand>
+    ensures command { result ≡ load_command_of words.now }
+    ensures within { IfSome result IsWithin }
+{
+    let (word, options) = words.split_first()?;
+    if word.as_str() != "load" || !are_known(options) {
+        return None;
+    }
+    let seed = value_after(options, "--seed", 0, u64::MAX)?;
+    let accounts = value_after(options, "--accounts", 1, u64::from(MOST_ACCOUNTS))?;
+    let epochs = value_after(options, "--epochs", 1, u64::from(MOST_EPOCHS))?;
+    Some(LoadCommand {
+        seed,
+        accounts: accounts as u32,
+        epochs: epochs as u32,
+    })
+}
