@@ -1,6 +1,6 @@
 """What a case is, and the words of the answers. The cases stand in tests/tables.
 
-The wanted texts follow from docs/formats.md and the rules that it states, never from what the program wrote."""
+The wanted texts follow from docs/rules.md and docs/formats.md, never from what the program wrote."""
 
 from typing import NamedTuple
 
@@ -13,7 +13,6 @@ NO_JSON = "refused 1 Malformed json"
 NO_RECORD = "refused 1 Malformed kind"
 TOO_LONG = "refused 2 TooLong"
 AGAIN = "refused 3 GenesisAgain"
-NOT_BUILT = "refused 9 NotBuilt"
 USED = "refused 30 TxIdUsed"
 NOT_WITNESSED = "refused 31 NotWitnessed"
 NO_INPUTS = "refused 32 NoInputs"
@@ -60,8 +59,9 @@ class Case(NamedTuple):
 
 
 def text_of(answers):
-    """The text of a run whose lines, from 1, are answered so; a blank line is not."""
-    return "".join(f"{number} {answer}\n" for number, answer in enumerate(answers, 1) if answer is not BLANK)
+    """The text of a run whose lines, from 1, are answered so, each by one line or by a list of them; a blank line is not."""
+    lines = [[] if it is BLANK else [it] if isinstance(it, str) else it for it in answers]
+    return "".join(f"{number} {line}\n" for number, answer in enumerate(lines, 1) for line in answer)
 
 
 def answered(name, *lines, first=genesis(), start=START, end=b"\n"):

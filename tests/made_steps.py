@@ -1,15 +1,18 @@
-"""Streams of transactions at random, each of a genesis and of records that know the ledger before them.
+"""Streams at random, each of a genesis and of records that know the ledger before them: transactions, blocks, reward updates and prints.
 
 A transaction is made of items at random out of few names, of which those are kept that the plain program takes; then its inputs
 and outputs are made to balance. After that none, one or two of the rules are broken: of the rules on one item an item is looked
 for that breaks it, and for the others something is changed."""
 
+from typing import NamedTuple
+
+from plain_counts import P1, P2B
+from plain_epochs import after_record, begun
 from plain_steps import (
     NAMES,
     PURPOSES,
     Broken,
     act,
-    applied,
     begun_draft,
     broken_by_cert,
     broken_by_proposal,
@@ -18,8 +21,8 @@ from plain_steps import (
     filled,
     least_fee,
     least_output,
-    ledger_of,
     live,
+    pots,
     sums_of,
 )
 from records import GREATEST, PARAMS, credential, genesis_record, hash28, ref, tx_id
@@ -33,18 +36,13 @@ POOLS = [hash28(n) for n in (50, 51, 52, 10)]
 PAYERS = [credential(1), credential(2), credential(10), credential(3, "s")]
 SCRIPTS = [None, hash28(98), hash28(99)]
 CERTS = ["account-reg", "account-unreg", "delegate", "pool-reg", "pool-retire", "drep-reg", "drep-unreg", "drep-update", "hot-auth", "hot-resign"]
-# parameters and pools more often than others, since each of 30 parameters is for pools to vote on or not
-ACTIONS = [*PURPOSES, *["ParameterChange"] * 3, "TreasuryWithdrawals", "Info"]
+# parameters and pools more often than others, since each of 30 parameters is for pools to vote on or not; withdrawals, since few are ratified
+ACTIONS = [*PURPOSES, *["ParameterChange"] * 3, *["TreasuryWithdrawals"] * 3, "Info"]
 ROLES = ["committee", "drep", "pool", "pool"]
 SIZES = (0, 29, 57, 65)
+VOTES = ["yes", "yes", "no", "abstain"]
 # how often an item is made until one is as it is asked for
 TRIES = 200
-# records that are read and not built yet
-NOT_BUILT = [
-    {"kind": "print", "what": "state"},
-    {"kind": "block", "slot": 60, "pulse": 1},
-    {"kind": "rewards", "epoch": 0, "fromReserves": 0, "fromFees": 0, "toTreasury": 0, "rewards": []},
-]
 
 
 # ---- the genesis
@@ -59,8 +57,19 @@ def an_address(r, network):
     return f"{network}{r.choice(PAYERS)}" + r.choice(["", "", f"+{r.choice(ACCOUNTS)}"])
 
 
-def params_of(r):
+def threshold(r, lenient):
+    """A fraction up to 1; where all is to pass easily, mostly 0."""
+    return [0, 1] if lenient and r.random() < 0.8 else r.choice([[0, 1], [1, 100], [1, 3], [1, 2], [2, 4], [2, 3], [67, 100], [1, 1]])
+
+
+def params_of(r, long):
+    """Those of a long stream let pools retire, proposals live, and withdrawals and changes pass more easily than what delays them."""
+    lenient = long or r.random() < 0.7
     return {
+        "poolVotingThresholds": [threshold(r, lenient) for _ in range(5)],
+        "drepVotingThresholds": [[1, 1] if long and place == P1 else threshold(r, lenient and (place > P2B or not long)) for place in range(10)],
+        "committeeMinSize": 0 if lenient else r.randrange(3),
+        "committeeMaxTermLength": r.choice([4, 9, 100]),
         "maxTxSize": r.choice([400, 16384]),
         "maxCollateralInputs": r.choice([0, 1, 2, 3, 3]),
         "minFeeA": r.choice([0, 1]),
@@ -69,9 +78,9 @@ def params_of(r):
         "poolDeposit": r.choice([0, 5, 50]),
         "minPoolCost": r.choice([0, 34, 340]),
         "coinsPerUTxOByte": r.choice([0, 1, 1]),
-        "eMax": r.choice([0, 1, 18]),
+        "eMax": r.choice([1, 18] if long else [0, 1, 18]),
         "collateralPercentage": r.choice([0, 100, 150]),
-        "govActionLifetime": r.choice([0, 2, 6]),
+        "govActionLifetime": r.choice([2, 6] if long else [0, 2, 6]),
         "govActionDeposit": r.choice([0, 10, 100]),
         "drepDeposit": r.choice([0, 5, 50]),
         "drepActivity": r.choice([0, 20]),
@@ -80,16 +89,18 @@ def params_of(r):
 
 def a_committee(r):
     members = [[cold, r.randrange(9), r.choice([None, *HOT])] for cold in some(r, COLD[:4])]
-    return r.choice([None, *[{"threshold": [1, 2], "members": members}] * 5])
+    return r.choice([None, *[{"threshold": r.choice([[0, 1], [1, 2]]), "members": members}] * 5])
 
 
-def a_genesis(r):
-    """A genesis that breaks no rule of one. What is deposited is not always what is asked for now."""
-    network, params = r.choice([0, 1, 1, 1]), params_of(r)
+def a_genesis(r, shape):
+    """A genesis that breaks no rule of one. What is deposited is not always what is asked for now. A long stream has all that it spends."""
+    network, params = r.choice([0, 1, 1, 1]), params_of(r, shape.long)
     pools, dreps = some(r, POOLS, 1), some(r, DREPS, 1)
-    outputs = [[ref(r.choice([1, 9]), i), an_address(r, network), r.randrange(400, 6000)] for i in range(r.randrange(8, 20))]
+    often, much = (4, 10**9) if shape.long else (1, 1)
+    outputs = [[ref(r.choice([1, 9]), i), an_address(r, network), much * r.randrange(400, 6000)] for i in range(often * r.randrange(8, 20))]
     fields = {
-        "slot": r.choice([0, 5, 39, 50]),
+        "slot": 0 if shape.long else r.choice([0, 5, 39, 50]),
+        "epochLength": 10 * shape.records if shape.long else 10,
         "version": [r.choice([10, 11]), r.randrange(3)],
         "script": r.choice(SCRIPTS),
         "committee": a_committee(r),
@@ -100,8 +111,8 @@ def a_genesis(r):
         ],
         "pools": [[pool, r.choice([params["poolDeposit"], 4]), r.randrange(99), 0, [1, 9], f"{network}{r.choice(ACCOUNTS)}"] for pool in pools],
         "dreps": [[cred, r.choice([params["drepDeposit"], 6]), r.randrange(30)] for cred in dreps],
-        "treasury": r.choice([0, 100, 5000]),
-        "reserves": r.choice([0, 700]),
+        "treasury": much * r.choice([100, 5000] if shape.long else [0, 100, 5000]),
+        "reserves": much * r.choice([0, 700]),
     }
     held = sum(it[2] for it in outputs) + sum(it[1] + it[2] for it in fields["accounts"]) + sum(it[1] for it in fields["pools"] + fields["dreps"])
     return genesis_record(network=network, supply=held + fields["treasury"] + fields["reserves"], **fields, **params)
@@ -120,10 +131,10 @@ def near(r, n):
 
 
 class Maker:
-    """Makes a transaction with an id, by the ledger before it."""
+    """Makes a transaction with an id, by the ledger before it. In a long stream few transactions propose, and fees are small."""
 
-    def __init__(self, r, ledger, tx):
-        self.r, self.ledger, self.tx = r, ledger, tx
+    def __init__(self, r, ledger, tx, long=False):
+        self.r, self.ledger, self.tx, self.long = r, ledger, tx, long
 
     def no_action(self):
         """An action that is not live: mostly none at all, or one of this transaction."""
@@ -187,14 +198,15 @@ class Maker:
         )
 
     def previous(self, kind):
-        """None, a live proposal of the purpose, another one, or none that there is."""
+        """The last enacted one, a live proposal of the purpose, another one, or none that there is."""
         same = [it["id"] for it in self.ledger["proposals"] if PURPOSES.get(it["action"]["type"]) == PURPOSES[kind]]
         others = [self.no_action(), *(it["id"] for it in self.ledger["proposals"])]
-        return self.r.choice([None, None, *[self.r.choice(same or [None])] * 3, self.r.choice(others)])
+        last = self.ledger["enacted"][PURPOSES[kind]]
+        return self.r.choice([None, last, last, last, *[self.r.choice(same or [last])] * 3, self.r.choice(others)])
 
     def version(self, previous):
         """Mostly one that may follow."""
-        parent = live(self.ledger, previous)
+        parent = live(self.ledger, previous) if previous else None
         major, minor = parent["action"]["version"] if parent and "version" in parent["action"] else self.ledger["version"]
         return self.r.choice([[major + 1, 0], [major, minor + 1], [major, minor + 1], [major, minor], [major + 1, minor + 1], [major + 2, 0]])
 
@@ -202,8 +214,16 @@ class Maker:
         """Some parameters, of which a number may be 0, and one may be null."""
         params = self.ledger["params"]
         chosen = self.r.sample([*PARAMS], self.r.choice([0, 1, 1, 1, 2, 4]))
-        values = {name: params[name] if isinstance(params[name], (list, str)) else self.r.choice([0, 1, 2, 9]) for name in chosen}
+        values = {name: self.value_of(name, params[name]) for name in chosen}
         return {**values, **self.r.choice([{}, {}, {"nOpt": None}, {"minFeeA": None}])}
+
+    def value_of(self, name, value):
+        """A new value of a parameter. The greatest size of a transaction is not made too small for those that come, and no confidence is not made easier."""
+        if name.endswith("VotingThresholds"):
+            return [value[0], *(threshold(self.r, True) for _ in value[1:])]
+        if isinstance(value, (list, str)):
+            return value
+        return self.r.choice([0, 400, 16384] if name == "maxTxSize" else [0, 1, 2, 9])
 
     def action(self):
         r, kind = self.r, self.r.choice(ACTIONS)
@@ -218,7 +238,7 @@ class Maker:
             "NewConstitution": {"document": tx_id(r.randrange(9)), "script": r.choice(SCRIPTS)},
             "HardForkInitiation": {"version": self.version(previous)},
             "ParameterChange": {"update": self.update(), "policy": policy},
-            "TreasuryWithdrawals": {"targets": [[it, r.choice([0, 0, 5, 99])] for it in self.accounts(r.randrange(4))], "policy": policy},
+            "TreasuryWithdrawals": {"targets": [[it, r.choice([0, 0, 5, 99, self.ledger["treasury"]])] for it in self.accounts(r.randrange(4))], "policy": policy},
         }.get(kind, {})
         return {"type": kind, **but_absent({"previous": previous, **fields})}
 
@@ -230,13 +250,13 @@ class Maker:
         voters = {"committee": HOT, "drep": DREPS, "pool": POOLS}
         role, ids = self.r.choice(ROLES), [it["id"] for it in self.ledger["proposals"]]
         action = self.r.choice([*ids, *ids, *ids, self.no_action()])
-        return {"voter": f"{role}:{self.r.choice(voters[role])}", "action": action, "vote": self.r.choice(["yes", "no", "abstain"])}
+        return {"voter": f"{role}:{self.r.choice(voters[role])}", "action": action, "vote": self.r.choice(VOTES)}
 
     # ---- a transaction that is to be accepted
 
     def found(self, make, judge, rule=None):
         """An item that breaks this rule first, or none of them, if one comes up."""
-        for _ in range(TRIES):
+        for _ in range(TRIES // 5 if self.long else TRIES):
             it = make()
             if next(judge(it), Broken(None)).rule == rule:
                 return [it]
@@ -258,8 +278,12 @@ class Maker:
                     certs.append(cert)
         return certs
 
+    def how_many(self):
+        """How many proposals it has."""
+        return self.r.choice([0, 0, 1, 1, 2, 3]) if not self.long or self.r.random() < 0.06 else 0
+
     def proposals_and_votes(self, tx):
-        draft, counts = draft_after(self.ledger, tx, len(tx["certs"])), (self.r.choice([0, 0, 1, 1, 2, 3]), self.r.choice([0, 0, 1, 3, 6]))
+        draft, counts = draft_after(self.ledger, tx, len(tx["certs"])), (self.how_many(), self.r.choice([0, 0, 1, 3, 6]))
         propose = lambda: self.found(self.proposal, lambda it: broken_by_proposal(self.ledger, draft, it))
         vote = lambda: self.found(self.vote, lambda it: broken_by_vote(self.ledger, draft, it))
         return [it for _ in range(counts[0]) for it in propose()], [it for _ in range(counts[1]) for it in vote()]
@@ -271,14 +295,15 @@ class Maker:
         """Gives it inputs, and outputs of all that is left. What no output may hold joins the fee."""
         free = [*self.ledger["outputs"]]
         self.r.shuffle(free)
-        tx["inputs"] = [free.pop() for _ in range(min(len(free), self.r.choice([1, 1, 2, 3])))]
+        tx["inputs"] = [free.pop() for _ in range(min(len(free), self.r.choice([1, 1, 2, 3] if len(free) < 99 else [3, 4])))]
         tx["fee"] = least_fee(self.ledger, tx) + self.r.choice([0, 0, 9])
         while free and sums_of(self.ledger, tx)[0] < sums_of(self.ledger, tx)[1]:
             tx["inputs"].append(free.pop())
         consumed, produced = sums_of(self.ledger, tx)
         left = max(0, consumed - produced)
-        for _ in range(self.r.choice([1, 2, 2, 3, 4])):
-            it = self.output(left // self.r.choice([1, 2, 3]))
+        parts = [self.r.choice([1, 2, 3]) for _ in range(self.r.choice([1, 2, 2, 3, 4]))]
+        for part in [*parts, 1] if self.long else parts:
+            it = self.output(left // part)
             if it[1] >= least_output(self.ledger, it[2]):
                 tx["outputs"].append(it)
                 left -= it[1]
@@ -305,7 +330,7 @@ class Maker:
     def good(self):
         """A transaction that breaks no rule, where there are outputs enough."""
         r, slot = self.r, self.ledger["slot"]
-        tx = filled({"kind": "tx", "id": self.tx, "inputs": [], "outputs": [], "fee": 0, "size": r.choice([r.randrange(400), r.randrange(400), 400])})
+        tx = filled({"kind": "tx", "id": self.tx, "inputs": [], "outputs": [], "fee": 0, "size": min(self.ledger["params"]["maxTxSize"], r.choice([r.randrange(400), r.randrange(400), 400]))})
         tx["scriptFee"], tx["donation"] = r.choice([0, 0, 0, 5]), r.choice([0, 0, 0, 30])
         tx["from"], tx["until"] = r.choice([None, None, slot, max(0, slot - 1)]), r.choice([None, None, slot + 1, slot + 9])
         tx["treasury"] = r.choice([None, None, None, self.ledger["treasury"]])
@@ -329,7 +354,7 @@ class Maker:
 
     def missing(self):
         """A reference of no output: one that is spent, one of this transaction, or one that never was."""
-        ids = [*self.ledger["used"], self.tx, tx_id(98)]
+        ids = [*self.ledger["used"][-20:], self.tx, tx_id(98)]
         return self.r.choice([it for it in (f"{tx}#{place}" for tx in ids for place in range(4)) if it not in self.ledger["outputs"]])
 
     def has_scripts(self, tx):
@@ -435,28 +460,88 @@ def short(tx):
     return {name: it for name, it in tx.items() if name not in usual or it != usual[name]}
 
 
-def a_stream(r):
-    """A genesis, some 20 to 40 transactions, and other records between them."""
-    genesis = a_genesis(r)
-    records, ledger = [genesis], ledger_of(genesis)
-    number = 10
-    for _ in range(r.randrange(20, 41)):
-        if r.random() < 0.1:
-            records.append({"kind": "print", "what": "pots"})
-        if r.random() < 0.02:
-            records.append(r.choice([genesis, *NOT_BUILT]))
-        maker = Maker(r, ledger, tx_id(number))
-        tx = maker.good()
-        for rule in r.sample([*NAMES], r.choice([0, 0, 1, 1, 2])):
-            maker.break_one(tx, rule)
-        if r.random() < 0.05:
-            maker.break_any(tx)
-        if tx["scripts"] == "failed" and r.random() < 0.5:
-            # the rules that are not asked then
-            maker.break_one(tx, 45)
-            maker.break_any(tx)
-        records.append(short(tx))
-        ledger, broken, _ = applied(ledger, tx)
+class Shape(NamedTuple):
+    """How many records a stream has; a long one crosses a boundary after each twentieth of them."""
+
+    records: int
+    long: bool = False
+
+
+EPOCHS = 20
+
+
+def short_shape(r):
+    return Shape(r.randrange(30, 60))
+
+
+def a_block(r, ledger, crosses):
+    """A block of this epoch or the next one, now and then one that breaks a rule."""
+    slot, length = ledger["slot"], ledger["length"]
+    begins, later = (ledger["epoch"] + 1) * length, slot + r.choice([1, 1, 2, 3])
+    usual = begins + r.randrange(min(length, 3)) if crosses else min(later, begins - 1)
+    wrong = [slot, max(0, slot - 1), begins + length, begins + 5 * length]
+    return {"kind": "block", "slot": r.choice(wrong) if r.random() < 0.1 else usual, "pulse": r.choice([0, *[1, 1, 2, 3, 9, 2**32 - 1] * 4])}
+
+
+def a_reward_update(r, ledger):
+    """A reward update, of which every third breaks a rule."""
+    some_of = lambda most: r.choice([0, most, r.randrange(most + 1), r.randrange(most // 20 + 1)])
+    reserves, fees = some_of(ledger["reserves"] // 4), some_of(ledger["fees"])
+    if r.random() < 0.1:
+        reserves, fees = r.choice([(ledger["reserves"] + 1, fees), (reserves, ledger["fees"] + 1), (GREATEST, 0)])
+    left, rewards = reserves + fees, []
+    for cred in some(r, ACCOUNTS):
+        rewards.append([cred, min(left, GREATEST, r.choice([0, 1, left // 2]))])
+        left -= rewards[-1][1]
+    off = r.choice([1, -1]) if r.random() < 0.1 else 0
+    epoch = max(0, ledger["epoch"] + r.choice([-1, 1])) if r.random() < 0.1 else ledger["epoch"]
+    treasury = min(GREATEST, max(0, left + off))
+    return {"kind": "rewards", "epoch": epoch, "fromReserves": reserves, "fromFees": fees, "toTreasury": treasury, "rewards": rewards}
+
+
+def a_transaction(r, ledger, number, long):
+    """Accepted, or with one or two rules broken, or more of them."""
+    maker = Maker(r, ledger, tx_id(number), long)
+    tx = maker.good()
+    for rule in r.sample([*NAMES], r.choice([0, 0, 1, 1, 2])):
+        maker.break_one(tx, rule)
+    if r.random() < 0.05:
+        maker.break_any(tx)
+    if tx["scripts"] == "failed" and r.random() < 0.5:
+        # the rules that are not asked then
+        maker.break_one(tx, 45)
+        maker.break_any(tx)
+    return short(tx)
+
+
+def other_record(r, genesis, ledger, shape):
+    """A record that is no transaction, or None: in a long stream mostly none."""
+    kinds = {
+        "block": lambda: a_block(r, ledger, not shape.long and r.random() < 0.5),
+        "rewards": lambda: a_reward_update(r, ledger),
+        "pots": lambda: {"kind": "print", "what": "pots"},
+        "state": lambda: {"kind": "print", "what": "state"},
+        "genesis": lambda: genesis,
+        "no kind": lambda: {"kind": r.choice(["Block", "rollback", "", "transaction"])},
+    }
+    weights = [0.05, 0.01, 0.01, 0.001, 0.001, 0.002] if shape.long else [0.25, 0.06, 0.04, 0.03, 0.01, 0.01]
+    kind = r.choices([None, *kinds], [1 - sum(weights), *weights])[0]
+    return kinds[kind]() if kind else None
+
+
+def a_stream(r, shape=None):
+    """A genesis, and transactions with other records between them; its records and the lines that answer each, by the plain program."""
+    shape = shape or short_shape(r)
+    genesis = a_genesis(r, shape)
+    records, ledger, number = [genesis], begun(genesis), 10
+    answers = [[f"genesis {pots(ledger)}"]]
+    for place in range(1, shape.records):
+        crosses = shape.long and place % (shape.records // EPOCHS) == 0
+        record = a_block(r, ledger, True) if crosses else other_record(r, genesis, ledger, shape)
+        record = record or a_transaction(r, ledger, number, shape.long)
+        ledger, lines = after_record(ledger, record)
+        records.append(record)
+        answers.append(lines)
         # the id of a refused transaction may come again
-        number += broken is None or r.random() < 0.5
-    return records
+        number += record["kind"] == "tx" and (lines[0].startswith("accepted") or r.random() < 0.5)
+    return records, answers

@@ -1,4 +1,5 @@
 """A plain program of the rules of a transaction: ledgers of lists and maps, written from docs/rules.md and docs/formats.md alone.
+The rest of the rules stands in plain_counts.py, plain_epochs.py and plain_states.py.
 
 It knows nothing of the definitions and of the crates, and looks everything up anew. A ledger is a map; of its parts `outputs`,
 `accounts`, `pools`, `dreps` and `hot` are maps by name, `proposals` is a list in order of submission. Records are as
@@ -187,8 +188,9 @@ def fresh_expiry(draft):
 
 def begun_draft(ledger, tx):
     """After the withdrawals and the refresh. It shares the outputs with the ledger."""
-    kept = ("accounts", "pools", "dreps", "hot", "proposals")
-    draft = {**ledger, **{name: deepcopy(ledger[name]) for name in kept}}
+    entries = {name: {it: dict(entry) for it, entry in ledger[name].items()} for name in ("accounts", "pools", "dreps")}
+    proposals = [{**it, "votes": dict(it["votes"])} for it in ledger["proposals"]]
+    draft = {**ledger, **entries, "hot": dict(ledger["hot"]), "proposals": proposals}
     for account, _ in tx["withdrawals"]:
         if account[1:] in draft["accounts"]:
             draft["accounts"][account[1:]]["balance"] = 0
@@ -604,26 +606,3 @@ def applied(ledger, tx):
         return after(ledger, tx), None, "accepted failed-scripts" if tx["scripts"] == "failed" else "accepted"
     place = "" if broken.place is None else f" at {broken.place}"
     return ledger, broken.rule, f"refused {broken.rule} {NAMES[broken.rule]}{place} {broken.kept}".rstrip()
-
-
-def answer_to(ledger, record):
-    """The ledger after a record past the genesis, and the answer to it."""
-    if record["kind"] == "genesis":
-        return ledger, "refused 3 GenesisAgain"
-    if record["kind"] == "tx":
-        ledger, _, answer = applied(ledger, record)
-        return ledger, answer
-    if record["kind"] == "print" and record["what"] == "pots":
-        return ledger, f"pots {pots(ledger)}"
-    # blocks, reward updates and prints of the state are read and not built yet
-    return ledger, "refused 9 NotBuilt"
-
-
-def answers(records):
-    """The text of a stream: a genesis that breaks no rule of one, then further records."""
-    ledger = ledger_of(records[0])
-    lines = [f"1 genesis {pots(ledger)}\n"]
-    for number, it in enumerate(records[1:], 2):
-        ledger, answer = answer_to(ledger, it)
-        lines.append(f"{number} {answer}\n")
-    return "".join(lines)

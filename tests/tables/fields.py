@@ -4,7 +4,7 @@ import json
 from os.path import commonprefix
 from typing import NamedTuple
 
-from cases import AGAIN, NOT_BUILT, USED, begins, malformed, missing, no_genesis, over_small, pots, printed
+from cases import AGAIN, USED, begins, malformed, missing, no_genesis, over_small, pots, printed
 from records import ref, small, tx_id
 from tables import kinds
 from tables.kinds import ADDRESS, HASH28, HASH32, ONE_NAME, REF, SLOT, U32, U64, UNIT, VALUES, Kind, entry, listing, or_null, spelled, thing, without
@@ -66,6 +66,10 @@ OPTIONAL = {"genesis": {"script", "committee"}, "tx": {*RECORDS["tx"]} - {"id", 
 
 # a value that no field takes
 BAD = "{}"
+# the last slot that there can be, and its epoch: where the genesis stands there, each block and each reward update that reads is
+# refused by the first rule on it
+LAST_SLOT = 2**62 - 1
+LAST_EPOCH = LAST_SLOT // 10
 
 
 def is_optional(record, name):
@@ -85,7 +89,19 @@ def answer_of(record, name, value):
         return AGAIN
     if record == "tx":
         return missing() if name == "id" else USED
-    return printed(200, 100, 700, 1000) if record == "print" and value != '"state"' else NOT_BUILT
+    if record == "print":
+        return printed(200, 100, 700, 1000)
+    return f"refused 10 SlotNotLater last {LAST_SLOT}" if record == "block" else f"refused 20 WrongEpoch now {LAST_EPOCH}"
+
+
+def over(record, name, *lines):
+    """The lines after a small genesis, for blocks and reward updates one at the last slot."""
+    return over_small(name, *lines, **({"slot": LAST_SLOT} if record in ("block", "rewards") else {}))
+
+
+def readable(record, kind):
+    """Texts of a field that read; a print of the state has many lines, and stands in tests/streams/whole."""
+    return [it for it in good_values(kind) if record != "print" or it != '"state"']
 
 
 def good_values(kind):
@@ -124,14 +140,14 @@ def lines_of(record, name, kind):
         return spelled({**base, name: value}).encode(), answer, f"{record} with {name} {unlike(value, sample)}"
 
     yield spelled(without(base, name)).encode(), answer_of(record, name, "null") if can_miss else malformed(name), f"{record} without {name}"
-    yield from (line(it, answer_of(record, name, it)) for it in good_values(kind) + ["null"] * can_miss)
+    yield from (line(it, answer_of(record, name, it)) for it in readable(record, kind) + ["null"] * can_miss)
     yield from (line(it, malformed(name, place)) for it, place in bad_values(kind) if not (can_miss and it == "null"))
 
 
 def each_field():
     for record, fields in RECORDS.items():
         for name, kind in fields.items():
-            yield over_small(f"{record}: {name}", *lines_of(record, name, kind))
+            yield over(record, f"{record}: {name}", *lines_of(record, name, kind))
 
 
 def first_bad():
@@ -144,7 +160,7 @@ def first_bad():
             lines.append((spelled({**base, **later}).encode(), malformed(name), f"bad from {name}"))
             lines.append((spelled({**later, **base, name: BAD}).encode(), malformed(name), f"{name} behind fields that are good"))
         lines.append((spelled({name: base[name] for name in reversed(base)}).encode(), answer_of(record, "", "")))
-        yield over_small(f"{record}: the first bad field", *lines)
+        yield over(record, f"{record}: the first bad field", *lines)
 
 
 def other_names():
@@ -157,7 +173,7 @@ def other_names():
             for other in (name.upper(), name + " ", " " + name):
                 if not is_optional(record, name):
                     lines.append((spelled({**without(base, name), other: base[name]}).encode(), malformed(name), f"{other!r} for {name!r}"))
-        yield over_small(f"{record}: other names", *lines)
+        yield over(record, f"{record}: other names", *lines)
 
 
 def first_records():

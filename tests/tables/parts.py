@@ -1,6 +1,6 @@
 """Withdrawals, certificates, proposals and votes of a transaction: what reads, names that stand twice, and when their rules are asked."""
 
-from cases import ACCEPTED, FAILED_SCRIPTS, NOT_BUILT, NOT_WITNESSED, USED, answered, malformed, missing, unbalanced
+from cases import ACCEPTED, FAILED_SCRIPTS, NOT_WITNESSED, USED, answered, malformed, missing, unbalanced
 from records import credential, hash28, key, ref, script, text, transfer, tx_id
 from tables.accounts import refused
 from tables.proposals import over_accounts
@@ -114,7 +114,7 @@ def repetitions():
         (withdrawing(key(1), script(1), key(1, network=0), script(1, network=0)), refused("51 WithdrawalNoAccount")),
         (rewarding(credential(1), credential(2), credential(2)), malformed("rewards", 2)),
         (rewarding("s" + low, "s" + up), malformed("rewards", 1)),
-        (rewarding(credential(1), credential(1, "s")), NOT_BUILT),
+        (rewarding(credential(1), credential(1, "s")), "refused 22 RewardsNotBalanced in 0 out 1"),
         (committee([credential(1), credential(1)], []), bad),
         (committee(["k" + low, credential(1), "k" + up], []), bad),
         (committee([], [credential(1), credential(2), credential(1)]), bad),

@@ -1,5 +1,5 @@
 -- Worked rows on definitions that no text shows: what flows between pots, what was counted, every rule that is broken, what expires, what goes back to what.
-use Rattle.std.specs.Prelude.{ℕ, ◌≡◌, List, [], ◌∷◌, Option, Some, None, false, filter, map, refl}
+use Rattle.std.specs.Prelude.{ℕ, ◌≡◌, ◌^◌, List, [], ◌∷◌, Option, Some, None, false, filter, map, refl}
 use Rattle.gov_ids.specs.declared.Drep.TheVariants as drep
 use Rattle.gov_ids.specs.declared.Voter.TheVariants as voter
 use Rattle.gov_actions.specs.declared.action.Action.{Action}
@@ -18,6 +18,7 @@ use Rattle.run_model.specs.BoundaryFlows.{flows_of, flows_of_targets}
 use Rattle.run_model.specs.Runs.{counted_of}
 use Rattle.run_model.specs.World.{World}
 use Rattle.tx_records.specs.declared.record.Record.TheVariants as records
+use Rattle.tx_records.specs.declared.limits.TheConstants.{LINE_LIMIT, STREAM_LIMIT, SUPPLY_LIMIT, SLOT_LIMIT, NETWORK_LIMIT, LEAST_MAJOR, OUTPUT_LIMIT, TX_LIST_LIMIT, LIST_LIMIT}
 use Rattle.tx_records.specs.declared.tx.Scripts.TheVariants as scripts
 use Rattle.ledger_model.specs.Ledger.{Ledger}
 use Rattle.ledger_model.specs.Transaction.{tx_step}
@@ -26,6 +27,14 @@ use Rattle.tx_records.specs.declared.cert.Cert.TheVariants as certs
 use Rattle.tx_records.specs.declared.reply.Rule.{Rule}
 use Rattle.tx_records.specs.declared.tx.Tx.{Tx}
 use Rattle.ledger_rows.proofs.Base.{h32, base, key, account_on, address_with, action, ref, spend, paying, proposing}
+
+-- a stream has at most 2^48 bytes, a line 16,777,216; a transaction 65,535 outputs and 65,536 entries in each other list, and every other list 16,777,216 entries
+pub limits_of_lengths : STREAM_LIMIT ∷ LINE_LIMIT ∷ OUTPUT_LIMIT ∷ TX_LIST_LIMIT ∷ LIST_LIMIT ∷ [] ≡ 2 ^ 48 ∷ 16777216 ∷ 65535 ∷ 65536 ∷ 16777216 ∷ []
+limits_of_lengths = refl
+
+-- the supply is at most 45,000,000,000,000,000 lovelace, a slot below 2^62, a network below 2, a major version at least 10
+pub limits_of_numbers : SUPPLY_LIMIT ∷ SLOT_LIMIT ∷ NETWORK_LIMIT ∷ LEAST_MAJOR ∷ [] ≡ 45000000000000000 ∷ 2 ^ 62 ∷ 2 ∷ 10 ∷ []
+limits_of_numbers = refl
 
 abbrev pots : List Pot
 pots = outputs ∷ deposits ∷ rewards ∷ fees ∷ donations ∷ treasury ∷ reserves ∷ hand ∷ []
