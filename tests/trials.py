@@ -35,7 +35,7 @@ DEFINITIONS = (
 )
 WITH_TYPES = ("book_records", "shortfall_model")
 # the crates whose laws are tried where no row refuses
-LAWS = ("gov_model", "tx_balance", "epoch_balance", "dormant_laws", "run_laws", "further_laws")
+LAWS = ("gov_model", "tx_balance", "epoch_balance", "dormant_laws", "run_laws", "further_laws", "text_laws")
 REFERENCE = re.compile(rf"Rattle\.({'|'.join(DEFINITIONS)})\.specs\.(?!declared\b)(\w+)|Rattle\.(?:ledger|further)_rows\.proofs\.(\w+)")
 ERROR = re.compile(r"\./(specs|proofs)/(?:t(\d+)_)?(\S+?)\.antt\S*: error: (.*)")
 
