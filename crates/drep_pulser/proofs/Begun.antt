@@ -1,5 +1,5 @@
 -- A count with no entry visited.
-use Rattle.std.proofs.Common.{◌≡◌, ℕ, List, [], ◌∷◌, Bool, true, false, cond, ◌||◌, map, length, Option, Some, None, is_some, unwrap_or, refl, ap, sym, ◌∙◌, arith}
+use Rattle.std.proofs.Common.{◌≡◌, ℕ, List, [], ◌∷◌, Bool, true, false, cond, ◌||◌, map, length, Option, Some, None, is_some, unwrap_or, IfOk, Result, Ok, Err, refl, ap, sym, subst, ◌∙◌, arith}
 use Rattle.std.specs.Ordering.{eq_by_cmp}
 use Rattle.std.specs.Map.{keys_of}
 use Rattle.gov_ids.specs.declared.Credential.{Credential}
@@ -14,7 +14,7 @@ use Rattle.maps.proofs.Several.{has_key-with_values}
 use Rattle.maps.specs.Maps.{value_at, has_key, has_member, with_value, with_values}
 use Rattle.gov_model.specs.Snapshot.{Snapshot}
 use Rattle.gov_model.specs.Stake.{is_frozen_drep}
-use Rattle.drep_pulser.specs.Count.{sum_for, no_sums}
+use Rattle.drep_pulser.specs.Count.{Count, sum_for, no_sums}
 use Rattle.drep_pulser.specs.Facts.{AreDeposits, AreDreps, IsCountable, IsCountIn, IsCountOf}
 
 abbrev pub at_none : Credential × DrepState → Drep × ℕ
@@ -48,9 +48,9 @@ no_cond true = refl
 no_cond false = refl
 
 module _ (ds : List (Credential × DrepState)) where
-  pub begun_in : (es : List (Credential × Entry)) (total : ℕ) (deposits : List (Credential × ℕ)) → total ≡ length es → IsCountable es deposits
-      → IsCountIn es (record { cursor = None; done = 0; total = total; sums = no_sums ds; deposits = deposits })
-  begun_in es total deposits n c = record {
+  pub begun_in : (es : List (Credential × Entry)) (total workers : ℕ) (deposits : List (Credential × ℕ)) → total ≡ length es → IsCountable es deposits
+      → IsCountIn es (record { cursor = None; done = 0; total = total; workers = workers; sums = no_sums ds; deposits = deposits })
+  begun_in es total workers deposits n c = record {
     total = n;
     done = omega arith;
     cursor = refl;
@@ -64,6 +64,11 @@ module _ (ds : List (Credential × DrepState)) where
     has_sums drep.Abstain = has_key-with_values drep_total (map at_none ds) (no_sums []) drep.Abstain
     has_sums drep.NoConfidence = has_key-with_values drep_total (map at_none ds) (no_sums []) drep.NoConfidence
 
-    pub begun : (total : ℕ) (deposits : List (Credential × ℕ)) → total ≡ length f.entries → AreDeposits f deposits → IsCountable f.entries deposits
-        → IsCountOf f (record { cursor = None; done = 0; total = total; sums = no_sums ds; deposits = deposits })
-    begun total deposits n d c = record { counts = begun_in f.entries total deposits n c; dreps = has_sums; deposits = d }
+    pub begun : (total workers : ℕ) (deposits : List (Credential × ℕ)) → total ≡ length f.entries → AreDeposits f deposits → IsCountable f.entries deposits
+        → IsCountOf f (record { cursor = None; done = 0; total = total; workers = workers; sums = no_sums ds; deposits = deposits })
+    begun total workers deposits n d c = record { counts = begun_in f.entries total workers deposits n c; dreps = has_sums; deposits = d }
+
+-- what holds of a count holds of a result that is one
+pub counts_if : {E : Type 0} (P : Count → Type 0) (r : Result Count E) (c : Count) → IfOk r (λ k. k ≡ c) → P c → IfOk r P
+counts_if P (Ok k) c e h = subst P (sym e) h
+counts_if P (Err none) c e h = tt

@@ -1,10 +1,11 @@
 -- What the entries weigh is within what they hold and all deposits.
-use Rattle.std.proofs.Common.{◌≡◌, ℕ, ◌+◌, ◌≤◌, List, [], ◌∷◌, ◌++◌, Bool, true, false, cond, filter, take, drop, Option, Some, None, unwrap_or, sum_by, refl, ap, ◌∙◌, arith}
-use Rattle.std.specs.declared.cmp.Ordering.TheVariants.{Less}
-use Rattle.std.specs.Ordering.{is_eq}
+use Rattle.std.proofs.Common.{◌≡◌, ℕ, ◌+◌, ◌^◌, ◌<◌, ◌≤◌, List, [], ◌∷◌, ◌++◌, Bool, true, false, cond, filter, take, drop, Some, unwrap_or, sum_by, refl, ap, ◌∙◌, arith}
+use Rattle.std.specs.declared.cmp.Ordering.TheVariants.{Less, Equal}
+use Rattle.std.specs.Ordering.{eq_by_cmp, is_eq}
 use Rattle.std.specs.List.{AllByRecursion}
 use Rattle.std.specs.List.Sorted.{IsStrictlySortedBy}
-use Rattle.std.specs.Map.{keys_of}
+use Rattle.std.specs.Map.{keys_of, values_of}
+use Rattle.std.proofs.lemmas.Cmp.{eq_by_cmp_equiv}
 use Rattle.std.proofs.lemmas.List.Sums.{sum_by-cons, sum_by-append}
 use Rattle.std.proofs.lemmas.List.{take-append-drop}
 use Rattle.std.proofs.lemmas.List.Elements.{filter-append}
@@ -15,58 +16,77 @@ use Rattle.book_records.specs.declared.Entry.{Entry}
 use Rattle.book_records.specs.declared.Registered.{Registered}
 use Rattle.coin_frac.specs.Totals.{total_of}
 use Rattle.maps.proofs.Credits.{sum_by-plus}
-use Rattle.maps.proofs.Kept.{IsMap-without_key}
-use Rattle.maps.proofs.Lookups.{value_at-without_key, without_key_absent}
-use Rattle.maps.proofs.Sums.{sum_values-without_key}
-use Rattle.maps.specs.Maps.{IsMap, value_at, without_key}
+use Rattle.maps.proofs.Ties.{is_equal, all_tied}
+use Rattle.maps.specs.Maps.{IsMap, value_at}
 use Rattle.maps.specs.Words.{amount}
-use Rattle.drep_pulser.specs.Facts.{held_by, weight_by, IsCountable}
+use Rattle.drep_pulser.specs.Facts.{weight_by, IsCountable}
 
 abbrev pub at : List (Credential × ℕ) → Credential → ℕ
 at deposits c = unwrap_or (value_at credential_cmp deposits c) 0
 
-without_total : (deposits : List (Credential × ℕ)) (c : Credential) → total_of (without_key credential_cmp c deposits) + at deposits c ≡ total_of deposits
-without_total deposits c =
-    elim (value_at credential_cmp deposits c) as (λ x. value_at credential_cmp deposits c ≡ x → total_of (without_key credential_cmp c deposits) + unwrap_or x 0 ≡ total_of deposits) [
-      | None ↦ λ m. omega (arith, ap (λ (l : List (Credential × ℕ)). total_of l) (without_key_absent credential_cmp c deposits m))
-      | Some n ↦ λ m. sum_values-without_key (λ n. n) credential_cmp c n deposits m
-    ] refl
+-- keys above another one are not that one
+none_at : (k : Credential) (n : ℕ) (es : List (Credential × Entry)) → AllByRecursion (λ q. credential_cmp k q ≡ Less) (keys_of es)
+    → sum_by (λ (e : Credential × Entry). cond (eq_by_cmp credential_cmp e.0 k) n 0) es ≡ 0
+none_at k n [] above = refl
+none_at k n (e ∷ es) above =
+    let other : eq_by_cmp credential_cmp e.0 k ≡ false = (eq_by_cmp_equiv credential_total).symm e.0 k ∙ ap is_eq above.0 in
+    let here : cond (eq_by_cmp credential_cmp e.0 k) n 0 ≡ 0 = ap (λ b. cond b n 0) other in
+    omega (arith, here, none_at k n es above.1, sum_by-cons (λ (e : Credential × Entry). cond (eq_by_cmp credential_cmp e.0 k) n 0) e es)
 
--- an amount that goes is none of the others'
-same_at : (deposits : List (Credential × ℕ)) (c : Credential) (es : List (Credential × Entry)) → IsMap credential_cmp deposits → AllByRecursion (λ q. credential_cmp c q ≡ Less) (keys_of es)
-    → sum_by (λ (e : Credential × Entry). at (without_key credential_cmp c deposits) e.0) es ≡ sum_by (λ (e : Credential × Entry). at deposits e.0) es
-same_at deposits c [] h below = refl
-same_at deposits c (e ∷ es) h below =
-    let here : at (without_key credential_cmp c deposits) e.0 ≡ at deposits e.0 =
-    ap (λ (x : Option ℕ). unwrap_or x 0) (value_at-without_key credential_total c deposits e.0 h ∙ ap (λ b. cond b None (value_at credential_cmp deposits e.0)) (ap is_eq below.0)) in
+-- one entry at most stands at a key
+one_at : (k : Credential) (n : ℕ) (es : List (Credential × Entry)) → IsMap credential_cmp es
+    → sum_by (λ (e : Credential × Entry). cond (eq_by_cmp credential_cmp e.0 k) n 0) es ≤ n
+unfolding IsStrictlySortedBy
+one_at k n [] h = omega arith
+one_at k n (e ∷ es) h =
+    let front = sum_by-cons (λ (e : Credential × Entry). cond (eq_by_cmp credential_cmp e.0 k) n 0) e es in
+    let rest = sum_by (λ (e : Credential × Entry). cond (eq_by_cmp credential_cmp e.0 k) n 0) es in
+    let together : cond (eq_by_cmp credential_cmp e.0 k) n 0 + rest ≤ n =
+    elim (eq_by_cmp credential_cmp e.0 k) as (λ b. eq_by_cmp credential_cmp e.0 k ≡ b → cond b n 0 + rest ≤ n) [
+      | true ↦ λ t.
+          let tied : credential_cmp k e.0 ≡ Equal = is_equal _ ((eq_by_cmp_equiv credential_total).symm k e.0 ∙ t) in
+          omega (arith, none_at k n es (all_tied credential_total k e.0 (keys_of es) tied h.0))
+      | false ↦ λ t. omega (arith, one_at k n es h.1)
+    ] refl in
+    omega (arith, front, together)
+
+more_at : (d : Credential × ℕ) (deposits : List (Credential × ℕ)) (es : List (Credential × Entry))
+    → sum_by (λ (e : Credential × Entry). at (d ∷ deposits) e.0) es
+    ≤ sum_by (λ (e : Credential × Entry). cond (eq_by_cmp credential_cmp e.0 d.0) d.1 0) es + sum_by (λ (e : Credential × Entry). at deposits e.0) es
+more_at d deposits [] = omega arith
+more_at d deposits (e ∷ es) =
+    let here : at (d ∷ deposits) e.0 ≤ cond (eq_by_cmp credential_cmp e.0 d.0) d.1 0 + at deposits e.0 =
+    elim (eq_by_cmp credential_cmp e.0 d.0) as (λ b. unwrap_or (cond b (Some d.1) (value_at credential_cmp deposits e.0)) 0 ≤ cond b d.1 0 + at deposits e.0) [
+      | true ↦ omega arith
+      | false ↦ omega arith
+    ] in
     omega (
       arith,
       here,
-      same_at deposits c es h below.1,
-      sum_by-cons (λ (e : Credential × Entry). at (without_key credential_cmp c deposits) e.0) e es,
+      more_at d deposits es,
+      sum_by-cons (λ (e : Credential × Entry). at (d ∷ deposits) e.0) e es,
+      sum_by-cons (λ (e : Credential × Entry). cond (eq_by_cmp credential_cmp e.0 d.0) d.1 0) e es,
       sum_by-cons (λ (e : Credential × Entry). at deposits e.0) e es,
     )
 
-pub covered : (es : List (Credential × Entry)) (deposits : List (Credential × ℕ)) → IsMap credential_cmp es → IsMap credential_cmp deposits → sum_by (λ (e : Credential × Entry). at deposits e.0) es ≤ total_of deposits
-unfolding IsStrictlySortedBy
-covered [] deposits h g = omega arith
-covered (e ∷ es) deposits h g =
-    omega (
-      arith,
-      covered es (without_key credential_cmp e.0 deposits) h.1 (IsMap-without_key credential_cmp e.0 deposits g),
-      same_at deposits e.0 es g h.0,
-      without_total deposits e.0,
-      sum_by-cons (λ (e : Credential × Entry). at deposits e.0) e es,
-    )
+no_deposits : (es : List (Credential × Entry)) → sum_by (λ (e : Credential × Entry). at [] e.0) es ≡ 0
+no_deposits [] = refl
+no_deposits (e ∷ es) = no_deposits es
+
+-- the deposits of accounts that stand once each are within all deposits
+pub covered : (es : List (Credential × Entry)) (deposits : List (Credential × ℕ)) → IsMap credential_cmp es → sum_by (λ (e : Credential × Entry). at deposits e.0) es ≤ total_of deposits
+covered es [] h = omega (arith, no_deposits es)
+covered es (d ∷ deposits) h =
+    omega (arith, more_at d deposits es, one_at d.0 d.1 es h, covered es deposits h, sum_by-cons (λ (n : ℕ). n) d.1 (values_of deposits))
 
 abbrev holds_of : Credential × Entry → ℕ
 holds_of e = e.1.stake + amount (λ (r : Registered). r.rewards) e.1.registered
 
-pub weighed : (es : List (Credential × Entry)) (deposits : List (Credential × ℕ)) → IsMap credential_cmp deposits → IsCountable es deposits → sum_by (weight_by deposits) es ≤ held_by es + total_of deposits
-weighed es deposits g h = omega (arith, sum_by-plus holds_of (λ (e : Credential × Entry). at deposits e.0) es, covered es deposits h.in_order g)
+pub weighed : (es : List (Credential × Entry)) (deposits : List (Credential × ℕ)) → IsCountable es deposits → sum_by (weight_by deposits) es < 2 ^ 64
+weighed es deposits h = omega (arith, sum_by-plus holds_of (λ (e : Credential × Entry). at deposits e.0) es, covered es deposits h.in_order, h.room)
 
 module _ {A : Type 0} (w : A → ℕ) where
-  filtered_le : (p : A → Bool) (xs : List A) → sum_by w (filter p xs) ≤ sum_by w xs
+  pub filtered_le : (p : A → Bool) (xs : List A) → sum_by w (filter p xs) ≤ sum_by w xs
   filtered_le p [] = omega arith
   filtered_le p (x ∷ xs) =
       elim (p x) as (λ b. sum_by w (cond b (x ∷ filter p xs) (filter p xs)) ≤ sum_by w (x ∷ xs)) [

@@ -15,6 +15,8 @@ pub record Count : Type 0 where
   pub done : ℕ
   -- how many there are
   pub total : ℕ
+  -- how many workers may share those that are left
+  pub workers : ℕ
   -- the sum of each DRep over the entries visited, in the order of DReps
   pub sums : List (Drep × ℕ)
   -- the deposits of proposals by the credential that they go back to

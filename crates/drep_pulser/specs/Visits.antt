@@ -24,6 +24,7 @@ visited e c = record {
   cursor = Some e.0;
   done = c.done + 1;
   total = c.total;
+  workers = c.workers;
   sums = with_more (drep_of e.1) (weight_by c.deposits e) c.sums;
   deposits = c.deposits;
 }

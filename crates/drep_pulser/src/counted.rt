@@ -1,11 +1,13 @@
-ghost use Rattle.std.specs.Prelude.{◌≡◌};
+ghost use Rattle.std.specs.Prelude.{◌≡◌, IfOk};
 ghost use Rattle.gov_model.specs.Snapshot.{Snapshot};
 ghost use Rattle.gov_model.specs.Stake.{drep_stake};
 ghost use Rattle.drep_pulser.specs.Count.{sum_for};
 ghost use Rattle.drep_pulser.specs.Facts.{IsCountedOf};
 
 use crate::sums::Sums;
+use coin_frac::NoMemory;
 use gov_ids::Drep;
+use std::alloc::Global;
 use std::marker::Model;
 
 /// A count that has ended. (the DRep pulser of cardano-ledger)
@@ -24,6 +26,16 @@ impl Model for Counted {
 }
 
 impl Counted {
+    /// The same count once more. (Own)
+    pub fn copied(&self, alloc: Global) -> Result<Counted, NoMemory>
+        ensures { IfOk result (λ copy. copy ≡ self.now) }
+    {
+        Ok(Counted {
+            total: self.total,
+            sums: self.sums.copied(alloc)?,
+        })
+    }
+
     /// The stake of a DRep in lovelace, 0 of one that was not registered. (the DRep distribution of cardano-ledger's DRep pulser)
     pub fn stake(&self, d: &Drep) -> u64
         ensures sum { result ≡ sum_for self.now.sums d.now }

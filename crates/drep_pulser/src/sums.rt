@@ -1,8 +1,10 @@
-ghost use Rattle.std.specs.Prelude.{◌≡◌, ◌+◌, ◌^◌, ◌<◌, None, map, IfSome, IfNone, IfOk};
+ghost use Rattle.std.specs.Prelude.{◌≡◌, ◌+◌, ◌^◌, ◌<◌, None, length, map, IfSome, IfNone, IfOk};
+ghost use Rattle.gov_ids.specs.declared.Drep.{Drep};
 ghost use Rattle.gov_ids.specs.declared.Drep.TheVariants.{Registered};
 ghost use Rattle.gov_ids.specs.Orders.{drep_cmp};
 ghost use Rattle.maps.specs.Maps.{IsMap, value_at, changed_at};
 ghost use Rattle.drep_pulser.specs.Count.{sum_for, no_sums};
+ghost use Rattle.drep_pulser.specs.Parts.{by_drep, no_part, with_part};
 ghost use Rattle.drep_pulser.specs.Places.{IsPlaceOf};
 
 use coin_frac::NoMemory;
@@ -42,6 +44,31 @@ impl Sums {
         Ok(Sums { amounts })
     }
 
+    // The same sums once more.
+    pub(crate) fn copied(&self, alloc: Global) -> Result<Sums, NoMemory>
+        ensures { IfOk result (λ copy. copy ≡ self.now) }
+    {
+        Ok(Sums {
+            amounts: self.amounts.iter().copied().collect(alloc)?,
+        })
+    }
+
+    // A 0 for each sum.
+    pub(crate) fn zeros(&self, alloc: Global) -> Result<Vec<u64>, NoMemory>
+        ensures { IfOk result (λ v. v.items ≡ no_part self.now) }
+    {
+        Ok(self.amounts.iter().map(|_| 0).collect(alloc)?)
+    }
+
+    // Where the sum of a DRep stands, none where there is none.
+    pub(crate) fn place(&self, d: &Drep) -> Option<usize>
+        ensures there { IfSome result (IsPlaceOf self.now d.now) }
+        ensures absent { IfNone result (value_at drep_cmp self.now d.now ≡ None) }
+        ensures in_order { IsMap drep_cmp self.now }
+    {
+        place_of(self.amounts.as_slice(), d)
+    }
+
     // The sum of a DRep, 0 where there is none.
     pub(crate) fn get(&self, d: &Drep) -> u64
         ensures { result ≡ sum_for self.now d.now }
@@ -59,6 +86,17 @@ impl Sums {
     {
         if let Some(place) = place_of(self.amounts.as_slice(), d) {
             self.amounts[place].1 += n;
+        }
+    }
+
+    // Each sum with that of a part, in order. It takes no memory.
+    pub(crate) fn gather(&mut self, part: &[u64])
+        requires length { length part.now ≡ length self.old }
+        requires fits { (d : Drep) → sum_for self.old d + sum_for (by_drep self.old part.now) d < 2 ^ 64 }
+        ensures { self.new ≡ with_part part.now self.old }
+    {
+        for place in 0..part.len() {
+            self.amounts[place].1 += part[place];
         }
     }
 }

@@ -12,6 +12,7 @@ mod proposals;
 mod shown;
 mod starts;
 mod stop;
+mod tallied;
 
 use checked::check;
 use counts::counted;
@@ -21,16 +22,19 @@ use ratify::ratify;
 use shown::{show_counts, show_outcome, show_stakes};
 use std::alloc::Global;
 use std::io;
+use std::thread::Threads;
 use stop::Result;
+use tallied::tallied;
 
-fn row(rt: &impl Print, alloc: Global, line: &str) -> Result<()> {
+fn row<R: Print + Threads + Sync>(rt: &R, alloc: Global, line: &str) -> Result<()> {
     let mut n = Numbers::of_line(alloc, line)?;
     let f = frozen(alloc, &mut n)?;
     let c = counted(alloc, f.dreps.as_slice(), &mut n)?;
     n.end()?;
     check(&f, &c)?;
     show_stakes(rt, &c)?;
-    show_counts(rt, &f, &c)?;
+    let cells = tallied(rt, alloc, &f, &c)?;
+    show_counts(rt, &f, cells.as_slice())?;
     let o = ratify(alloc, &f, &c)?;
     Ok(show_outcome(rt, &o)?)
 }

@@ -1,6 +1,4 @@
 //! What is printed of a snapshot and of the pass over it.
-ghost use Rattle.tally.specs.Counted.{CanBeCounted};
-
 use crate::numbers::key;
 use coin_frac::Unit;
 use drep_pulser::Counted;
@@ -10,7 +8,7 @@ use listed::Listed;
 use ratify::Outcome;
 use snapshots::Frozen;
 use std::io;
-use tally::{committee_count, drep_count, need, pool_count};
+use tally::{TallyCell, need};
 
 fn show_id(rt: &impl Print, id: ActionId) -> io::Result<()> {
     let byte = id.tx.0[0];
@@ -53,11 +51,9 @@ pub(crate) fn show_stakes(rt: &impl Print, c: &Counted) -> io::Result<()> {
 }
 
 // Each proposal as it counts, and what it needs by the state from which the pass starts.
-pub(crate) fn show_counts(rt: &impl Print, f: &Frozen, c: &Counted) -> io::Result<()>
-    requires { CanBeCounted f.now c.now }
-{
-    for a in f.proposals.as_slice() {
-        let counts = [committee_count(f, a), drep_count(f, c, a), pool_count(f, a)];
+pub(crate) fn show_counts(rt: &impl Print, f: &Frozen, cells: &[TallyCell]) -> io::Result<()> {
+    for (a, cell) in f.proposals.as_slice().iter().zip(cells) {
+        let counts = [cell.committee, cell.drep, cell.pool];
         print!(rt; "counts")?;
         show_id(rt, a.id)?;
         show_parts(rt, &counts, &needs(f, a))?;

@@ -15,8 +15,8 @@ use Rattle.gov_actions.specs.declared.action.Purpose.{Purpose}
 use Rattle.gov_actions.specs.declared.action.Purpose.TheVariants as purpose
 use Rattle.gov_actions.specs.declared.state.EnactState.{EnactState}
 use Rattle.gov_actions.specs.declared.state.LastIds.{LastIds}
-use Rattle.gov_actions.specs.Kinds.{is_delaying, last_of, purpose_of, same_purpose}
-use Rattle.gov_model.specs.Enacted.{committee_after, document_after, script_after, version_after, enacted_after, enacted_from, last_id_after, last_ids_after, update_of, withdrawn_by}
+use Rattle.gov_actions.specs.Kinds.{is_delaying, purpose_of, same_purpose}
+use Rattle.gov_model.specs.Enacted.{committee_after, document_after, script_after, version_after, enacted_after, enacted_from, last_ids_after, update_of, withdrawn_by}
 use Rattle.gov_model.specs.Ready.{goes_on_after}
 use Rattle.gov_model.specs.Snapshot.{Snapshot}
 

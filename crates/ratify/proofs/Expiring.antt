@@ -1,5 +1,5 @@
 -- Among items with keys of their own, the key of one is among those that pass exactly where it passes.
-use Rattle.std.proofs.Common.{◌≡◌, List, [], ◌∷◌, Bool, true, false, cond, ◌||◌, filter, map, refl, ap, sym, ◌∙◌}
+use Rattle.std.proofs.Common.{◌≡◌, List, [], ◌∷◌, Bool, true, false, cond, ◌||◌, filter, map, refl, ap, ◌∙◌}
 use Rattle.std.specs.List.{AllByRecursion, IsDistinct, list_any}
 
 module _ {A K : Type 0} (key : A → K) (same : K → K → Bool) (itself : (k : K) → same k k ≡ true) (back : (k q : K) → same k q ≡ same q k) where

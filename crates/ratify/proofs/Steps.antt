@@ -1,26 +1,26 @@
 -- A proposal that is looked at.
-use Rattle.std.proofs.Common.{◌≡◌, ℕ, List, [], ◌∷◌, ◌++◌, Bool, true, false, not, ◌&&◌, cond, map, refl, ap, sym, ◌∙◌, append_assoc}
-use Rattle.std.proofs.lemmas.List.{map-append}
+use Rattle.std.proofs.Common.{◌≡◌, ℕ, ◌<◌, List, [], ◌∷◌, ◌++◌, Bool, true, false, not, ◌&&◌, cond, get_or, length, map, refl, ap, sym, ◌∙◌, append_assoc}
+use Rattle.std.proofs.lemmas.List.{get_or-map, map-append}
 use Rattle.std.proofs.lemmas.List.Folds.{list_all-append}
-use Rattle.maps.specs.Words.{fronts_from, with_fronts}
+use Rattle.maps.specs.Words.{with_fronts}
 use Rattle.gov_actions.specs.declared.action.Proposal.{Proposal}
 use Rattle.gov_actions.specs.declared.tally.Need.{Need}
 use Rattle.gov_actions.specs.declared.tally.Verdict.{Verdict}
 use Rattle.gov_actions.specs.declared.tally.Role.TheVariants as role
 use Rattle.gov_actions.specs.Kinds.{is_delaying}
-use Rattle.gov_model.specs.Enacted.{enacted_after, enacted_from}
+use Rattle.gov_model.specs.Enacted.{enacted_after}
 use Rattle.gov_model.specs.Need.{need_of}
 use Rattle.gov_model.specs.Ratified.{ids_of, roles}
 use Rattle.gov_model.specs.Ready.{follows_last, goes_on_after, has_allowed_terms, is_covered, is_met, is_ready}
 use Rattle.gov_model.specs.Sides.{vote_count}
 use Rattle.gov_model.specs.Snapshot.{Snapshot}
-use Rattle.drep_pulser.specs.Count.{Ended}
 use Rattle.snapshots.specs.declared.frozen.Frozen.{Frozen}
 use Rattle.snapshots.specs.Frozen.{frozen_of}
-use Rattle.tally.specs.Counted.{AreOf, ForSnapshot}
+use Rattle.tally.specs.declared.cells.TallyCell.{TallyCell}
+use Rattle.tally.specs.Cells.{cell_of}
 use Rattle.ratify.specs.declared.pass.Pass.{Pass}
-use Rattle.ratify.specs.Passes.{LooksAt, are_met, can_be_enacted, chosen_of, is_next, pass_after, state_after, tally_after, tally_by, verdict_by, with_enacted, with_tally}
-use Rattle.ratify.proofs.Fronts.{chosen-push, fronts-push, with_one}
+use Rattle.ratify.specs.Passes.{LooksAt, LooksAtOne, are_met, can_be_enacted, chosen_of, counts_in, is_next, pass_after, state_after, tally_after, tally_by, verdict_by, with_enacted, with_tally}
+use Rattle.ratify.proofs.Fronts.{chosen-push, fronts-push}
 use Rattle.ratify.proofs.Enacting.{enacted-none, enacted-push, left_true, right_true}
 
 grouped : (g l t c x y z : Bool) → (g && (l && t && c) && (x && (y && (z && true)))) ≡ (g && l && t && c && x && y && z)
@@ -91,37 +91,49 @@ enacted_next s front a h =
       tallies = told s front a i;
     }
 
--- a proposal that is looked at, by what is computed of it
-module _ (f : Frozen) (c : Ended) (p : Pass) (a : Proposal) (counts : List (ℕ × ℕ)) (needs : List Need) (ready : Bool) (became : Verdict)
-    (counts_are : ForSnapshot f c (λ s. counts ≡ map (λ r. vote_count r s a) roles))
+-- a proposal that is looked at, by its cell and by what is computed of it
+module _ (f : Frozen) (p : Pass) (a : Proposal) (cell : TallyCell) (counts : List (ℕ × ℕ)) (needs : List Need) (ready : Bool) (became : Verdict)
+    (counts_are : counts ≡ counts_in cell)
     (needs_are : (s : Snapshot) → f ≡ frozen_of s → needs ≡ map (λ r. need_of r s p.state a.action) roles)
     (tested : ready ≡ is_next f.epoch p a.action needs counts) (judged : became ≡ verdict_by ready a.expires_after f.epoch) where
-  module _ (s : Snapshot) (front : List Proposal) (is : AreOf s f c) (before : p ≡ pass_after s front) where
+  module _ (s : Snapshot) (front : List Proposal) (of : f ≡ frozen_of s) (counted : cell ≡ cell_of s a) (before : p ≡ pass_after s front) where
     same_epoch : f.epoch ≡ s.epoch
-    same_epoch = ap (λ (g : Frozen). g.epoch) is.frozen
+    same_epoch = ap (λ (g : Frozen). g.epoch) of
+
+    same_counts : counts ≡ map (λ r. vote_count r s a) roles
+    same_counts = counts_are ∙ ap counts_in counted
 
     same_needs : needs ≡ map (λ r. need_of r s (state_after s front) a.action) roles
-    same_needs = needs_are s is.frozen ∙ ap (λ (q : Pass). map (λ r. need_of r s q.state a.action) roles) before
+    same_needs = needs_are s of ∙ ap (λ (q : Pass). map (λ r. need_of r s q.state a.action) roles) before
 
     same_test : ready ≡ is_ready s (chosen_of s front) a
-    same_test = tested ∙ (λ i. is_next (same_epoch i) (before i) a.action (same_needs i) (counts_are s is i)) ∙ ready_is s front a
+    same_test = tested ∙ (λ i. is_next (same_epoch i) (before i) a.action (same_needs i) (same_counts i)) ∙ ready_is s front a
 
     same_tally : tally_by a counts needs became ≡ tally_after s (front, a)
-    same_tally = λ i. tally_by a (counts_are s is i) (same_needs i) ((judged ∙ (λ j. verdict_by (same_test j) a.expires_after (same_epoch j))) i)
+    same_tally = λ i. tally_by a (same_counts i) (same_needs i) ((judged ∙ (λ j. verdict_by (same_test j) a.expires_after (same_epoch j))) i)
 
-  pub looked_over : ready ≡ false → LooksAt f c p (a ∷ []) (with_tally (tally_by a counts needs became) p)
-  looked_over h = λ s is front before.
-      (λ i. with_tally (same_tally s front is before i) (before i)) ∙ passed_over s front a (sym (same_test s front is before) ∙ h)
+  pub looked_over : ready ≡ false → LooksAtOne f cell p a (with_tally (tally_by a counts needs became) p)
+  looked_over h = λ s of counted front before.
+      (λ i. with_tally (same_tally s front of counted before i) (before i)) ∙ passed_over s front a (sym (same_test s front of counted before) ∙ h)
 
-  pub looked_enacted : ready ≡ true → LooksAt f c p (a ∷ []) (with_enacted a (with_tally (tally_by a counts needs became) p))
-  looked_enacted h = λ s is front before.
-      (λ i. with_enacted a (with_tally (same_tally s front is before i) (before i))) ∙ enacted_next s front a (sym (same_test s front is before) ∙ h)
+  pub looked_enacted : ready ≡ true → LooksAtOne f cell p a (with_enacted a (with_tally (tally_by a counts needs became) p))
+  looked_enacted h = λ s of counted front before.
+      (λ i. with_enacted a (with_tally (same_tally s front of counted before i) (before i))) ∙ enacted_next s front a (sym (same_test s front of counted before) ∙ h)
 
 -- before the first
 pub none_looked_at : (f : Frozen) (s : Snapshot) (p : Pass) → f ≡ frozen_of s → p ≡ record { ratified = []; goes_on = true; state = f.start; tallies = [] } → p ≡ pass_after s []
 none_looked_at f s p of is = is ∙ (λ i. record { ratified = []; goes_on = true; state = (ap (λ (g : Frozen). g.start) of ∙ sym (enacted-none s)) i; tallies = [] })
 
--- more after these
-pub looked_more : (f : Frozen) (c : Ended) (p q r : Pass) (xs ys zs : List Proposal) → xs ++ ys ≡ zs → LooksAt f c p xs q → LooksAt f c q ys r → LooksAt f c p zs r
-looked_more f c p q r xs ys zs all first then = λ s is front before.
-    then s is (front ++ xs) (first s is front before) ∙ ap (pass_after s) (append_assoc front xs ys ∙ ap (λ (l : List Proposal). front ++ l) all)
+-- the cell at the place of a proposal is its cell
+cell_at : (s : Snapshot) (ps : List Proposal) (cells : List TallyCell) (i : ℕ) (a : Proposal) (cell : TallyCell)
+    → i < length ps → a ≡ get_or ps i a → cell ≡ get_or cells i cell → cells ≡ map (cell_of s) ps → cell ≡ cell_of s a
+cell_at s ps cells i a cell h is at all =
+    at ∙ ap (λ (l : List TallyCell). get_or l i cell) all ∙ get_or-map (cell_of s) ps i a cell h ∙ ap (cell_of s) (sym is)
+
+-- one more after these
+pub looked_more : (f : Frozen) (cells : List TallyCell) (p q r : Pass) (xs zs : List Proposal) (i : ℕ) (a : Proposal) (cell : TallyCell)
+    → i < length f.proposals → a ≡ get_or f.proposals i a → cell ≡ get_or cells i cell → xs ++ a ∷ [] ≡ zs
+    → LooksAt f cells p xs q → LooksAtOne f cell q a r → LooksAt f cells p zs r
+looked_more f cells p q r xs zs i a cell h is at all first then = λ s of counted front before.
+    let own : cell ≡ cell_of s a = cell_at s f.proposals cells i a cell h is at (counted ∙ ap (λ (g : Frozen). map (cell_of s) g.proposals) (sym of)) in
+    then s of own (front ++ xs) (first s of counted front before) ∙ ap (pass_after s) (append_assoc front xs (a ∷ []) ∙ ap (λ (l : List Proposal). front ++ l) all)

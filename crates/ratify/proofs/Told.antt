@@ -1,5 +1,5 @@
 -- What a pass over all proposals comes to is what the definitions say of the one list that is ratified.
-use Rattle.std.proofs.Common.{◌≡◌, ℕ, List, [], ◌∷◌, ◌++◌, Bool, true, false, not, ◌&&◌, cond, filter, map, nat_lt, refl, ap, sym, subst, ◌∙◌, if◌then◌else◌}
+use Rattle.std.proofs.Common.{◌≡◌, List, [], ◌∷◌, ◌++◌, Bool, true, false, not, ◌&&◌, cond, filter, map, nat_lt, refl, ap, sym, ◌∙◌, if◌then◌else◌}
 use Rattle.std.specs.List.{AllByRecursion}
 use Rattle.std.proofs.lemmas.Cmp.{eq_by_cmp_equiv}
 use Rattle.std.proofs.lemmas.List.Elements.{All-from_recursion, recursion_from_All}
@@ -8,20 +8,18 @@ use Rattle.gov_ids.specs.declared.ActionId.{ActionId}
 use Rattle.gov_ids.specs.Same.{same_action}
 use Rattle.gov_ids.proofs.Totals.{action_id_total}
 use Rattle.gov_actions.specs.declared.action.Proposal.{Proposal}
-use Rattle.gov_actions.specs.declared.tally.Tally.{Tally}
-use Rattle.gov_actions.specs.declared.tally.Verdict.{Verdict}
 use Rattle.gov_actions.specs.declared.tally.Verdict.TheVariants as verdict
 use Rattle.gov_actions.specs.Kinds.{kind_of}
 use Rattle.gov_model.specs.Enacted.{enacted_after}
 use Rattle.gov_model.specs.Laws.{HaveDistinctIds}
 use Rattle.gov_model.specs.Need.{need_of}
-use Rattle.gov_model.specs.Ratified.{IsRatified, expired_of, ids_of, is_one_of, order_of, ratified_of, roles, tallies_of, tally_of, verdict_of}
+use Rattle.gov_model.specs.Ratified.{IsRatified, expired_of, is_one_of, order_of, ratified_of, roles, tallies_of, tally_of}
 use Rattle.gov_model.specs.Ready.{is_ready}
 use Rattle.gov_model.specs.Sides.{vote_count}
 use Rattle.gov_model.specs.Snapshot.{Snapshot}
 use Rattle.gov_model.proofs.OneList.{one_list_is_ratified, ratified_are_chosen}
 use Rattle.ratify.specs.Outcomes.{is_over}
-use Rattle.ratify.specs.Passes.{chosen_of, tally_after, verdict_by}
+use Rattle.ratify.specs.Passes.{chosen_of, tally_after}
 use Rattle.ratify.proofs.Expiring.{passes_is}
 use Rattle.ratify.proofs.Fronts.{chosen-push, filter-push}
 use Rattle.ratify.proofs.Orders.{all_in_order}

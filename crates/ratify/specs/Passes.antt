@@ -16,9 +16,10 @@ use Rattle.gov_model.specs.Ratified.{ids_of, roles}
 use Rattle.gov_model.specs.Ready.{follows_last, goes_on_after, has_allowed_terms, is_covered, is_ready, meets}
 use Rattle.gov_model.specs.Sides.{vote_count}
 use Rattle.gov_model.specs.Snapshot.{Snapshot}
-use Rattle.drep_pulser.specs.Count.{Ended}
 use Rattle.snapshots.specs.declared.frozen.Frozen.{Frozen}
-use Rattle.tally.specs.Counted.{ForSnapshot}
+use Rattle.snapshots.specs.Frozen.{frozen_of}
+use Rattle.tally.specs.declared.cells.TallyCell.{TallyCell}
+use Rattle.tally.specs.Cells.{cell_of}
 use Rattle.ratify.specs.declared.pass.Pass.{Pass}
 
 -- those of front that are ratified
@@ -32,6 +33,10 @@ state_after s front = enacted_after s (chosen_of s front)
 -- it follows the last action of its purpose, and asks for no more than the parameters and the treasury allow
 abbrev pub can_be_enacted : ℕ → EnactState → Action → Bool
 can_be_enacted epoch now a = follows_last now a && has_allowed_terms epoch now a && is_covered now a
+
+-- the counts of a cell, in the order of a tally
+abbrev pub counts_in : TallyCell → List (ℕ × ℕ)
+counts_in cell = cell.committee ∷ cell.drep ∷ cell.pool ∷ []
 
 -- each count meets its need
 abbrev pub are_met : List Need → List (ℕ × ℕ) → Bool
@@ -82,6 +87,18 @@ abbrev pub of_priority : ℕ → List Proposal → List Proposal
 of_priority n ps = filter (λ p. priority_of p.action == n) ps
 
 -- a pass that stood after some front stands after it and these
-abbrev pub LooksAt : Frozen → Ended → Pass → List Proposal → Pass → Type 0
-LooksAt f c before more after =
-    ForSnapshot f c (λ s. (front : List Proposal) → before ≡ pass_after s front → after ≡ pass_after s (front ++ more))
+abbrev pub Follows : Snapshot → Pass → List Proposal → Pass → Type 0
+Follows s before more after = (front : List Proposal) → before ≡ pass_after s front → after ≡ pass_after s (front ++ more)
+
+-- P holds of each snapshot that the frozen epoch is of, whose proposals have these cells
+abbrev pub ForTallied : Frozen → List TallyCell → (Snapshot → Type 0) → Type 0
+ForTallied f cells P = (s : Snapshot) → f ≡ frozen_of s → cells ≡ map (cell_of s) s.proposals → P s
+
+-- a pass has looked at these, by the cells of all
+abbrev pub LooksAt : Frozen → List TallyCell → Pass → List Proposal → Pass → Type 0
+LooksAt f cells before more after = ForTallied f cells (λ s. Follows s before more after)
+
+-- a pass has looked at a proposal, by its cell
+abbrev pub LooksAtOne : Frozen → TallyCell → Pass → Proposal → Pass → Type 0
+LooksAtOne f cell before a after =
+    (s : Snapshot) → f ≡ frozen_of s → cell ≡ cell_of s a → Follows s before (a ∷ []) after

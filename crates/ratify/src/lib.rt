@@ -5,4 +5,4 @@ mod outcome;
 mod pass;
 mod ready;
 
-pub use outcome::{Outcome, ratify};
+pub use outcome::{Outcome, ratify, ratify_tallied};

@@ -4,6 +4,7 @@ ghost use Rattle.gov_model.specs.Ratified.{IsRatified, expired_of, tallies_of};
 ghost use Rattle.gov_model.specs.Sides.{members_of};
 ghost use Rattle.maps.specs.Maps.{IsMap};
 ghost use Rattle.ratify.specs.Outcomes.{expired_by, is_over, state_by};
+ghost use Rattle.tally.specs.Cells.{AreCells};
 ghost use Rattle.tally.specs.Counted.{CanBeCounted, ForSnapshot};
 
 use crate::pass::Pass;
@@ -16,6 +17,7 @@ use maps::set_of;
 use snapshots::Frozen;
 use std::alloc::Global;
 use std::collections::BTreeSet;
+use tally::{TallyCell, fill_cells};
 
 /// What the pass over a frozen epoch comes to. (RatifyState of the formal specification)
 #[derive(Drop)]
@@ -41,7 +43,27 @@ pub fn ratify(alloc: Global, f: &Frozen, c: &Counted) -> Result<Outcome, NoMemor
     ensures tallies { IfOk result (λ o. ForSnapshot f.now c.now (λ s. o.tallies ≡ tallies_of s o.ratified)) }
     ensures in_order { IfOk result (λ o. IsMap credential_cmp (members_of o.state.committee)) }
 {
-    let pass = Pass::over_all(alloc, f, c)?;
+    let cells = cells_of(alloc, f, c)?;
+    ratify_tallied(alloc, f, c, cells.as_slice())
+}
+
+/// The same, by cells that hold the counts of the frozen proposals. (CIP-1694, Ratification; RATIFY of the formal
+/// specification; that they are counted before is own)
+pub fn ratify_tallied(
+    alloc: Global,
+    f: &Frozen,
+    c: &Counted,
+    cells: &[TallyCell],
+) -> Result<Outcome, NoMemory>
+    requires counted { CanBeCounted f.now c.now }
+    requires cells { AreCells f.now c.now cells.now }
+    ensures ratified { IfOk result (λ o. ForSnapshot f.now c.now (λ s. IsRatified s o.ratified)) }
+    ensures expired { IfOk result (λ o. ForSnapshot f.now c.now (λ s. o.expired ≡ expired_of s o.ratified)) }
+    ensures state { IfOk result (λ o. ForSnapshot f.now c.now (λ s. o.state ≡ state_by s o.ratified)) }
+    ensures tallies { IfOk result (λ o. ForSnapshot f.now c.now (λ s. o.tallies ≡ tallies_of s o.ratified)) }
+    ensures in_order { IfOk result (λ o. IsMap credential_cmp (members_of o.state.committee)) }
+{
+    let pass = Pass::over_all(alloc, f, cells)?;
     let expired = expired(alloc, f, pass.ratified.as_slice())?;
     Ok(Outcome {
         ratified: pass.ratified,
@@ -49,6 +71,16 @@ pub fn ratify(alloc: Global, f: &Frozen, c: &Counted) -> Result<Outcome, NoMemor
         state: pass.state,
         tallies: pass.tallies,
     })
+}
+
+// The cells of the frozen proposals.
+fn cells_of(alloc: Global, f: &Frozen, c: &Counted) -> Result<Vec<TallyCell>, NoMemory>
+    requires counted { CanBeCounted f.now c.now }
+    ensures { IfOk result (λ cells. AreCells f.now c.now cells.items) }
+{
+    let mut cells = vec![in alloc; TallyCell::default(); f.proposals.len()]?;
+    fill_cells(f, c, f.proposals.as_slice(), &mut cells);
+    Ok(cells)
 }
 
 // The proposals that are not ratified and whose last epoch has passed.

@@ -1,22 +1,21 @@
-ghost use Rattle.std.specs.Prelude.{◌≡◌, ◌≤◌, true, [], ◌∷◌, IfOk};
-ghost use Rattle.gov_ids.specs.Orders.{credential_cmp, voter_cmp};
+ghost use Rattle.std.specs.Prelude.{◌≡◌, ◌≤◌, true, [], IfOk};
+ghost use Rattle.gov_ids.specs.Orders.{credential_cmp};
 ghost use Rattle.gov_model.specs.Enacted.{withdrawn_by};
 ghost use Rattle.gov_model.specs.Ratified.{order_of};
 ghost use Rattle.gov_model.specs.Sides.{members_of};
 ghost use Rattle.maps.specs.Maps.{IsMap};
-ghost use Rattle.tally.specs.Counted.{CanBeCounted, ForSnapshot};
-ghost use Rattle.ratify.specs.Passes.{LooksAt, is_next, of_priority};
+ghost use Rattle.ratify.specs.Passes.{ForTallied, LooksAt, LooksAtOne, is_next, of_priority};
 ghost use Rattle.ratify.specs.Passes.{pass_after, tally_by, verdict_by, with_enacted, with_tally};
 
-use crate::ready::{are_met, can_be_enacted, counts_of, needs_of};
+use crate::ready::{are_met, can_be_enacted, counts_in, needs_of};
 use coin_frac::NoMemory;
-use drep_pulser::Counted;
 use enact::Enact;
 use gov_actions::{Action, EnactState, Need, Proposal, Tally, Verdict};
 use gov_ids::ActionId;
 use listed::Listed;
 use snapshots::Frozen;
 use std::alloc::Global;
+use tally::TallyCell;
 
 // How many types of actions there are, and so how many priorities.
 const TYPES: u8 = 7;
@@ -36,14 +35,14 @@ pub(crate) struct Pass {
 
 impl Pass {
     // All proposals are looked at, in order of priority.
-    pub(crate) fn over_all(alloc: Global, f: &Frozen, c: &Counted) -> Result<Pass, NoMemory>
-        requires counted { CanBeCounted f.now c.now }
-        ensures passed { IfOk result (λ p. ForSnapshot f.now c.now (λ s. p ≡ pass_after s (order_of s))) }
+    pub(crate) fn over_all(alloc: Global, f: &Frozen, cells: &[TallyCell]) -> Result<Pass, NoMemory>
+        requires members { IsMap credential_cmp (members_of f.now.start.committee) }
+        ensures passed { IfOk result (λ p. ForTallied f.now cells.now (λ s. p ≡ pass_after s (order_of s))) }
         ensures members { IfOk result (λ p. IsMap credential_cmp (members_of p.state.committee)) }
     {
         let mut pass = Pass::begin(alloc, &f.start)?;
         for priority in 0..TYPES {
-            pass = pass.over(alloc, f, c, priority)?;
+            pass = pass.over(alloc, f, cells, priority)?;
         }
         Ok(pass)
     }
@@ -61,30 +60,39 @@ impl Pass {
     }
 
     // Those of a priority are looked at, in order of submission.
-    fn over(self, alloc: Global, f: &Frozen, c: &Counted, priority: u8) -> Result<Pass, NoMemory>
-        requires counted { CanBeCounted f.now c.now }
+    fn over(
+        self,
+        alloc: Global,
+        f: &Frozen,
+        cells: &[TallyCell],
+        priority: u8,
+    ) -> Result<Pass, NoMemory>
         requires members { IsMap credential_cmp (members_of self.state.committee) }
-        ensures passed { IfOk result (LooksAt f.now c.now self (of_priority priority f.now.proposals)) }
+        ensures passed { IfOk result (LooksAt f.now cells.now self (of_priority priority f.now.proposals)) }
         ensures members { IfOk result (λ p. IsMap credential_cmp (members_of p.state.committee)) }
     {
         let mut pass = self;
-        for a in f.proposals.as_slice() {
+        for (a, cell) in f.proposals.as_slice().iter().zip(cells) {
             if a.action.priority() == priority {
-                pass = pass.look_at(alloc, f, c, a)?;
+                pass = pass.look_at(alloc, f, a, cell)?;
             }
         }
         Ok(pass)
     }
 
     // One more is looked at.
-    fn look_at(self, alloc: Global, f: &Frozen, c: &Counted, a: &Proposal) -> Result<Pass, NoMemory>
-        requires counted { CanBeCounted f.now c.now }
-        requires voters { IsMap voter_cmp a.now.votes }
+    fn look_at(
+        self,
+        alloc: Global,
+        f: &Frozen,
+        a: &Proposal,
+        cell: &TallyCell,
+    ) -> Result<Pass, NoMemory>
         requires members { IsMap credential_cmp (members_of self.state.committee) }
-        ensures passed { IfOk result (LooksAt f.now c.now self (a.now ∷ [])) }
+        ensures passed { IfOk result (LooksAtOne f.now cell.now self a.now) }
         ensures members { IfOk result (λ p. IsMap credential_cmp (members_of p.state.committee)) }
     {
-        let counts = counts_of(f, c, a);
+        let counts = counts_in(cell);
         let needs = needs_of(f, &self.state, &a.action);
         let ready = self.is_next(f.epoch, &a.action, &needs, &counts);
         let verdict = verdict_of(ready, a.expires_after, f.epoch);

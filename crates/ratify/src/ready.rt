@@ -1,31 +1,24 @@
 ghost use Rattle.std.specs.Prelude.{◌≡◌, map, nat_le, sum_by};
 ghost use Rattle.std.specs.List.{list_all};
-ghost use Rattle.gov_ids.specs.Orders.{voter_cmp};
 ghost use Rattle.gov_model.specs.Lineage.{is_last_enacted};
 ghost use Rattle.gov_model.specs.Need.{need_of};
 ghost use Rattle.gov_model.specs.Ratified.{roles};
 ghost use Rattle.gov_model.specs.Ready.{follows_last, has_allowed_terms, is_covered, meets};
-ghost use Rattle.gov_model.specs.Sides.{vote_count};
 ghost use Rattle.gov_model.specs.Snapshot.{Snapshot};
-ghost use Rattle.maps.specs.Maps.{IsMap};
-ghost use Rattle.ratify.specs.Passes.{are_met, can_be_enacted};
+ghost use Rattle.ratify.specs.Passes.{are_met, can_be_enacted, counts_in};
 ghost use Rattle.snapshots.specs.Frozen.{frozen_of};
-ghost use Rattle.tally.specs.Counted.{CanBeCounted, ForSnapshot};
 
 use coin_frac::reaches;
-use drep_pulser::Counted;
-use gov_actions::{Action, EnactState, LastIds, Need, Proposal, Purpose, Role};
+use gov_actions::{Action, EnactState, LastIds, Need, Purpose, Role};
 use gov_ids::{Account, ActionId, Credential};
 use snapshots::Frozen;
-use tally::{committee_count, drep_count, need, pool_count};
+use tally::{TallyCell, need};
 
-// Yes and total of each role, in the order of a tally.
-pub(crate) fn counts_of(f: &Frozen, c: &Counted, a: &Proposal) -> [(u64, u64); 3]
-    requires counted { CanBeCounted f.now c.now }
-    requires voters { IsMap voter_cmp a.now.votes }
-    ensures { ForSnapshot f.now c.now (λ s. result ≡ map (λ r. vote_count r s a.now) roles) }
+// The counts of a cell, in the order of a tally.
+pub(crate) fn counts_in(cell: &TallyCell) -> [(u64, u64); 3]
+    ensures { result ≡ counts_in cell.now }
 {
-    [committee_count(f, a), drep_count(f, c, a), pool_count(f, a)]
+    [cell.committee, cell.drep, cell.pool]
 }
 
 // What each role needs, in the same order.

@@ -3,3 +3,4 @@ pub mod Active
 pub mod Stakes
 pub mod Greatest
 pub mod Counted
+pub mod Cells

@@ -1,12 +1,14 @@
 //! What each role counts on a frozen proposal, and what it needs.
 #![tactic(auto)]
 
+mod cells;
 mod committee;
 mod dreps;
 mod needs;
 mod pools;
 mod sides;
 
+pub use cells::{TallyCell, cell_of, fill_cells};
 pub use committee::committee_count;
 pub use dreps::drep_count;
 pub use needs::need;

@@ -1,7 +1,5 @@
-use Rattle.std.proofs.Common.{List, ℕ, map, ap, subst, sym, ◌∙◌}
-use Rattle.gov_ids.specs.declared.Credential.{Credential}
+use Rattle.std.proofs.Common.{List, ℕ, subst, sym, ◌∙◌}
 use Rattle.gov_ids.specs.declared.Drep.{Drep}
-use Rattle.gov_ids.specs.declared.Drep.TheVariants as drep
 use Rattle.gov_ids.specs.Orders.{drep_cmp}
 use Rattle.maps.specs.Maps.{IsMap}
 use Rattle.drep_pulser.proofs.Ordered.{built_sums, ordered_sums}

@@ -10,8 +10,8 @@ loop-priority-preserved c =
     let n = c.loop-priority.priority in
     let ps = c.args.f.now.proposals in
     record {
-      passed = λ s is.
-          c.in_ok-pass-2.ensures.passed s is (of_first n ps) (c.loop-priority.invariant.passed s is)
+      passed = λ s of counted.
+          c.in_ok-pass-2.ensures.passed s of counted (of_first n ps) (c.loop-priority.invariant.passed s of counted)
           ∙ ap (pass_after s) (sym (of_first-suc n ps c.loop-priority-test.true) ∙ ap (λ (m : ℕ). of_first m ps) (sym (add-one n)));
       members = c.in_ok-pass-2.ensures.members;
     }
@@ -19,7 +19,7 @@ loop-priority-preserved c =
 pub returns-clause-passed : goal.returns-clause-passed
 returns-clause-passed c =
     let ended : c.loop-priority.priority ≡ 7 = omega (arith, c.loop-priority.auto.priority-end, c.loop-priority-test.false) in
-    λ s is.
-    c.loop-priority.invariant.passed s is
+    λ s of counted.
+    c.loop-priority.invariant.passed s of counted
     ∙ ap (λ (n : ℕ). pass_after s (of_first n c.args.f.now.proposals)) ended
-    ∙ ap (λ (f : Frozen). pass_after s (in_order_of_priority f.proposals)) is.frozen
+    ∙ ap (λ (f : Frozen). pass_after s (in_order_of_priority f.proposals)) of

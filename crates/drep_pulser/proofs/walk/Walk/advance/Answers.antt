@@ -6,11 +6,12 @@ use Rattle.book_records.specs.declared.Entry.{Entry}
 use Rattle.gov_model.specs.Snapshot.{Snapshot}
 use Rattle.view_map.specs.View.{frozen_of}
 use Rattle.drep_pulser.specs.Count.{Count}
-use Rattle.drep_pulser.specs.Facts.{IsCountIn, IsCountOf}
-use Rattle.drep_pulser.specs.Visits.{visited}
+use Rattle.drep_pulser.specs.Facts.{IsCountIn, IsCountOf, weight_by}
+use Rattle.drep_pulser.specs.Parts.{no_part}
+use Rattle.drep_pulser.specs.Visits.{drep_of, visited}
 use Rattle.drep_pulser.proofs.Advance.{left_of, next_left, rest_left, none_left}
-use Rattle.drep_pulser.proofs.Kept.{count_kept, count_of_kept}
-use Rattle.drep_pulser.proofs.counting.Counting.advance.Goals as goal
+use Rattle.drep_pulser.proofs.Kept.{count_kept, count_of_kept, same_part}
+use Rattle.drep_pulser.proofs.walk.Walk.advance.Goals as goal
 
 pub loop-visit-init : goal.loop-visit-init
 loop-visit-init g c = record {
@@ -19,6 +20,8 @@ loop-visit-init g c = record {
   counts_in = c.requires.counts;
   done = omega arith;
   total = refl;
+  workers = refl;
+  parts = refl;
   steps = omega arith;
 }
 
@@ -54,5 +57,7 @@ loop-visit-preserved g c =
       counts_in = subst (λ (k : Count). IsCountIn es k) (sym is) (count_kept es c.loop-visit.self c.loop-visit.invariant.counts_in e next);
       done = omega (arith, ap (λ (k : Count). k.done) is);
       total = ap (λ (k : Count). k.total) is ∙ c.loop-visit.invariant.total;
+      workers = ap (λ (k : Count). k.workers) is ∙ c.loop-visit.invariant.workers;
+      parts = ap (λ (k : Count). no_part k.sums) is ∙ same_part (drep_of e.1) (weight_by c.loop-visit.self.deposits e) c.loop-visit.self.sums ∙ c.loop-visit.invariant.parts;
       steps = omega arith;
     }

@@ -1,0 +1,10 @@
+//! The same count and the same tallies, by several workers: they give what one gives.
+#![tactic(auto)]
+
+mod finish;
+mod gate;
+mod tallies;
+
+pub use finish::finish_shared;
+pub use gate::Gate;
+pub use tallies::tally_all;

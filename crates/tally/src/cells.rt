@@ -1,0 +1,51 @@
+ghost use Rattle.std.specs.Prelude.{◌≡◌, length, map};
+ghost use Rattle.std.specs.List.{All};
+ghost use Rattle.gov_actions.specs.declared.action.Proposal.{Proposal};
+ghost use Rattle.gov_ids.specs.Orders.{voter_cmp};
+ghost use Rattle.maps.specs.Maps.{IsMap};
+ghost use Rattle.tally.specs.Cells.{cell_of};
+ghost use Rattle.tally.specs.Counted.{CanBeCounted, ForSnapshot};
+
+use crate::committee::committee_count;
+use crate::dreps::drep_count;
+use crate::pools::pool_count;
+use drep_pulser::Counted;
+use gov_actions::Proposal;
+use snapshots::Frozen;
+
+/// Yes and total of each role on a proposal. (CIP-1694, Ratification; that they are kept is own)
+#[derive(Clone, Copy, Debug, Default, PartialEq, Eq)]
+pub struct TallyCell {
+    /// Of the committee, in members.
+    pub committee: (u64, u64),
+    /// Of the DReps, in lovelace.
+    pub drep: (u64, u64),
+    /// Of the pools, in lovelace.
+    pub pool: (u64, u64),
+}
+
+/// What each role counts on a frozen proposal. It takes no memory. (CIP-1694, Ratification; RATIFY of the formal
+/// specification)
+pub fn cell_of(f: &Frozen, c: &Counted, a: &Proposal) -> TallyCell
+    requires counted { CanBeCounted f.now c.now }
+    requires voters { IsMap voter_cmp a.now.votes }
+    ensures { ForSnapshot f.now c.now (λ s. result ≡ cell_of s a.now) }
+{
+    TallyCell {
+        committee: committee_count(f, a),
+        drep: drep_count(f, c, a),
+        pool: pool_count(f, a),
+    }
+}
+
+/// Writes the counts of frozen proposals into their cells, one after the other. It takes no memory. (Own)
+pub fn fill_cells(f: &Frozen, c: &Counted, proposals: &[Proposal], cells: &mut [TallyCell])
+    requires counted { CanBeCounted f.now c.now }
+    requires voters { All (λ (a : Proposal). IsMap voter_cmp a.votes) proposals.now }
+    requires each { length cells.old ≡ length proposals.now }
+    ensures { ForSnapshot f.now c.now (λ s. cells.new ≡ map (cell_of s) proposals.now) }
+{
+    for i in 0..cells.len() {
+        cells[i] = cell_of(f, c, &proposals[i]);
+    }
+}
