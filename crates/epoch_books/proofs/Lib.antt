@@ -1,3 +1,4 @@
+mod Credits
 mod Held
 mod Refunds
 mod Updates

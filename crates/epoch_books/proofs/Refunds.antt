@@ -30,7 +30,7 @@ use Rattle.run_model.specs.BoundaryFlows.{payment}
 use Rattle.stake_book.specs.Stakes.{Stakes, HasRoom, accounts_of, balances_in, delegates_to_pools, without_pool, without_pools}
 use Rattle.epoch_balance.specs.StepLaws.{HasAccounts}
 use Rattle.epoch_balance.proofs.StepMoves.{pools_balance, terms_balance}
-use Rattle.epoch_books.specs.Retirements.{after_reaping, pools_of, refunds_of, retired_by, retired_in}
+use Rattle.epoch_books.specs.Retirements.{AreRefunded, after_reaping, pools_of, refunds_of, retired_by, retired_in}
 
 -- the balances stay where delegations end
 pub cleared_balances : (pools : List PoolId) (accounts : List (Credential × Registered)) → balances_in (without_pools pools accounts) ≡ balances_in accounts
@@ -78,20 +78,18 @@ module _ (b : Books) (h : HoldsSupply b) where
   refunds_fit = omega (arith, h.balanced, h.within, refunds_within (b.epoch + 1) b.pools)
 
 -- the pools that left are those that are reported
-pub retired_are : (b : Books) (rs : List Reaped) → rs ≡ reaped_of (b.epoch + 1) b.pools → map (retired_by (accounts_of b.stake)) rs ≡ retired_in (terms_turned (ledger_of_books b))
-retired_are b rs is = ap (λ (l : List Reaped). map (retired_by (accounts_of b.stake)) l) is ∙ retired_is (accounts_of b.stake) (retired_at (b.epoch + 1) (with_terms_turned b.pools))
+pub retired_are : (b : Books) → map (retired_by (accounts_of b.stake)) (reaped_of (b.epoch + 1) b.pools) ≡ retired_in (terms_turned (ledger_of_books b))
+retired_are b = retired_is (accounts_of b.stake) (retired_at (b.epoch + 1) (with_terms_turned b.pools))
 
-module _ (b : Books) (stake : Stakes) (state : EnactState) (pools : List (PoolId × Pool)) (rs : List Reaped) where
+module _ (b : Books) (stake : Stakes) (state : EnactState) (pools : List (PoolId × Pool)) where
   -- the parts after the reaping
   abbrev pub refunded : Books
   refunded = record b { stake = stake; state = state; pools = pools }
 
-  module _ (is : rs ≡ reaped_of (b.epoch + 1) b.pools) (left : pools ≡ left_of (b.epoch + 1) b.pools) (outputs : stake.outputs ≡ b.stake.outputs)
-      (accounts : accounts_of stake ≡ accounts_credited (refunds_of rs) (without_pools (pools_of rs) (accounts_of b.stake)))
-      (treasury : state ≡ record b.state { treasury = b.state.treasury + unclaimed_of (without_pools (pools_of rs) (accounts_of b.stake)) (refunds_of rs) }) where
-    abbrev gone : List (PoolId × Pool)
-    gone = retired_at (b.epoch + 1) (with_terms_turned b.pools)
+  abbrev gone : List (PoolId × Pool)
+  gone = retired_at (b.epoch + 1) (with_terms_turned b.pools)
 
+  module _ (left : pools ≡ left_of (b.epoch + 1) b.pools) (paid : AreRefunded (reaped_of (b.epoch + 1) b.pools) b.stake b.state stake state) where
     ledger_after : ledger_of_books refunded ≡ reaped (terms_turned (ledger_of_books b))
     ledger_after =
         let named : ledger_of_books refunded ≡ record (ledger_of_books b) {
@@ -99,23 +97,13 @@ module _ (b : Books) (stake : Stakes) (state : EnactState) (pools : List (PoolId
           accounts = accounts_credited (refunds_of (map reaped_entry gone)) (without_pools (pools_of (map reaped_entry gone)) (accounts_of b.stake));
           state = record b.state { treasury = b.state.treasury + unclaimed_of (without_pools (pools_of (map reaped_entry gone)) (accounts_of b.stake)) (refunds_of (map reaped_entry gone)) };
         } =
-        (λ i. record (ledger_of_books b) { pools = left i; outputs = (outputs i).outputs; used = (outputs i).used; accounts = accounts i; state = treasury i })
+        λ i. record (ledger_of_books b) { pools = left i; outputs = (paid.outputs i).outputs; used = (paid.outputs i).used; accounts = paid.credited i; state = paid.held i } in
+        named
         ∙ (λ i. record (ledger_of_books b) {
-          pools = left_of (b.epoch + 1) b.pools;
-          accounts = accounts_credited (refunds_of (is i)) (without_pools (pools_of (is i)) (accounts_of b.stake));
-          state = record b.state { treasury = b.state.treasury + unclaimed_of (without_pools (pools_of (is i)) (accounts_of b.stake)) (refunds_of (is i)) };
-        }) in
-        let same : record (ledger_of_books b) {
-          pools = left_of (b.epoch + 1) b.pools;
-          accounts = accounts_credited (refunds_of (map reaped_entry gone)) (without_pools (pools_of (map reaped_entry gone)) (accounts_of b.stake));
-          state = record b.state { treasury = b.state.treasury + unclaimed_of (without_pools (pools_of (map reaped_entry gone)) (accounts_of b.stake)) (refunds_of (map reaped_entry gone)) };
-        } ≡ reaped (terms_turned (ledger_of_books b)) =
-        λ i. record (ledger_of_books b) {
           pools = left_of (b.epoch + 1) b.pools;
           accounts = accounts_credited (refunds_is gone i) (cleared_is gone (accounts_of b.stake) i);
           state = record b.state { treasury = b.state.treasury + unclaimed_of (cleared_is gone (accounts_of b.stake) i) (refunds_is gone i) };
-        } in
-        named ∙ same
+        })
 
     pub reaping_is_step : IsStep after_reaping b refunded
     reaping_is_step = λ counted f i. record (world_of_books b counted f) { ledger = ledger_after i }

@@ -7,13 +7,14 @@ use Rattle.ledger_model.specs.Ledger.{Ledger}
 use Rattle.ledger_model.specs.Moves.{IsMovedBy}
 use Rattle.ledger_model.specs.Supply.{pots_of}
 use Rattle.tx_records.specs.declared.record.Rewards.{Rewards}
-use Rattle.payments.specs.Amounts.{accounts_credited, all_amounts, unclaimed_of}
+use Rattle.payments.specs.Amounts.{all_amounts}
 use Rattle.run_model.specs.Boundary.{after_rewards, update_applied}
 use Rattle.run_model.specs.BoundaryFlows.{flows_of_update}
 use Rattle.run_model.specs.Laws.{IsCoveredUpdate}
-use Rattle.stake_book.specs.Stakes.{Stakes, HasRoom, accounts_of}
+use Rattle.stake_book.specs.Stakes.{Stakes, HasRoom}
 use Rattle.epoch_balance.specs.StepLaws.{HasAccounts}
 use Rattle.epoch_balance.proofs.StepMoves.{rewards_balance}
+use Rattle.epoch_books.specs.Rewarded.{AreRewarded}
 use Rattle.epoch_books.proofs.Held.{nothing_frozen}
 
 -- an update that is covered finds room
@@ -42,19 +43,17 @@ module _ (b : Books) (u : Rewards) (stake : Stakes) (state : EnactState) (pendin
     fees = b.fees - u.from_fees;
   }
 
-  module _ (there : Some u ≡ b.pending) (outputs : stake.outputs ≡ b.stake.outputs)
-      (accounts : accounts_of stake ≡ accounts_credited u.rewards (accounts_of b.stake))
-      (treasury : state ≡ record b.state { treasury = b.state.treasury + u.to_treasury + unclaimed_of (accounts_of b.stake) u.rewards }) where
+  module _ (there : Some u ≡ b.pending) (paid : AreRewarded u b.stake b.state stake state) where
     ledger_after : ledger_of_books rewarded ≡ update_applied b.pending (ledger_of_books b)
     ledger_after =
         let applied : ledger_of_books rewarded ≡ update_applied (Some u) (ledger_of_books b) =
         λ i. record (ledger_of_books b) {
           reserves = b.reserves - u.from_reserves;
           fees = b.fees - u.from_fees;
-          state = treasury i;
-          outputs = (outputs i).outputs;
-          used = (outputs i).used;
-          accounts = accounts i;
+          state = paid.held i;
+          outputs = (paid.outputs i).outputs;
+          used = (paid.outputs i).used;
+          accounts = paid.credited i;
         } in
         applied ∙ ap (λ (o : Option Rewards). update_applied o (ledger_of_books b)) there
 

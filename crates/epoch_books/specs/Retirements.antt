@@ -1,11 +1,14 @@
 -- What the reaping of pools comes to, in the words of run_model's boundary and report. (POOLREAP of the formal specification)
-use Rattle.std.specs.Prelude.{ℕ, List, map}
+use Rattle.std.specs.Prelude.{ℕ, ◌+◌, List, map}
+use Rattle.gov_actions.specs.declared.state.EnactState.{EnactState}
 use Rattle.gov_ids.specs.declared.Credential.{Credential}
 use Rattle.gov_ids.specs.declared.PoolId.{PoolId}
 use Rattle.book_records.specs.declared.Registered.{Registered}
 use Rattle.cert_pool.specs.declared.Reaped.{Reaped}
 use Rattle.tx_records.specs.declared.report.Retired.{Retired}
-use Rattle.payments.specs.Amounts.{goes_by}
+use Rattle.payments.specs.Amounts.{goes_by, unclaimed_of}
+use Rattle.payments.specs.Credited.{AreCredited}
+use Rattle.stake_book.specs.Stakes.{Stakes, accounts_of, without_pools}
 use Rattle.ledger_model.specs.Ledger.{Ledger}
 use Rattle.run_model.specs.World.{World, on_ledger}
 use Rattle.run_model.specs.Boundary.{terms_turned, reaped, reaped_pools}
@@ -30,3 +33,9 @@ pools_of reaped = map (λ (r : Reaped). r.pool) reaped
 -- their deposits, each with its reward account
 abbrev pub refunds_of : List Reaped → List (Credential × ℕ)
 refunds_of reaped = map (λ (r : Reaped). (r.account.cred, r.deposit)) reaped
+
+-- the delegations to them end, their deposits are paid out, and the treasury has what no account claims
+abbrev pub AreRefunded : List Reaped → Stakes → EnactState → Stakes → EnactState → Type 0
+AreRefunded reaped stake state after left =
+    let accounts : List (Credential × Registered) = without_pools (pools_of reaped) (accounts_of stake) in
+    AreCredited (refunds_of reaped) accounts (state.treasury + unclaimed_of accounts (refunds_of reaped)) stake state after left

@@ -16,7 +16,14 @@ pub fn snapshots_turned(alloc: Global, mut b: Books) -> Result<Books, NoMemory>
     ensures holds { IfOk result (λ r. HoldsSupply b → HoldsSupply r) }
     ensures moved { IfOk result (λ r. IsMovedBy [] (pots_of (ledger_of_books b)) (pots_of (ledger_of_books r))) }
 {
-    let mark = pool_stakes(alloc, &b.stake, &b.pools)?;
-    b.snapshots.turn(mark, b.fees);
-    Ok(b)
+    match pool_stakes(alloc, &b.stake, &b.pools) {
+        Ok(mark) => {
+            b.snapshots.turn(mark, b.fees);
+            Ok(b)
+        }
+        Err(error) => {
+            drop(b);
+            Err(error)
+        }
+    }
 }

@@ -1,17 +1,17 @@
-ghost use Rattle.std.specs.Prelude.{◌≡◌, ◌+◌, ◌<◌, ◌^◌, map, IfOk};
-ghost use Rattle.epoch_books.specs.Retirements.{after_reaping, pools_of, refunds_of, retired_by, retired_in};
-ghost use Rattle.gov_ids.specs.Orders.{credential_cmp};
+ghost use Rattle.std.specs.Prelude.{◌≡◌, ◌+◌, ◌<◌, ◌^◌, map, IfOk, OnOk};
+ghost use Rattle.cert_pool.specs.Reaping.{left_of, reaped_of};
+ghost use Rattle.epoch_books.specs.Retirements.{AreRefunded, after_reaping, pools_of, refunds_of, retired_by};
+ghost use Rattle.epoch_books.specs.Retirements.{retired_in};
 ghost use Rattle.ledger_books.specs.Parts.{HoldsSupply, IsStep, frozen_entries, ledger_of_books};
 ghost use Rattle.ledger_model.specs.Flows.{deposits};
 ghost use Rattle.ledger_model.specs.Moves.{IsMovedBy};
 ghost use Rattle.ledger_model.specs.Supply.{pots_of};
-ghost use Rattle.payments.specs.Amounts.{accounts_credited, all_amounts, unclaimed_of};
+ghost use Rattle.payments.specs.Amounts.{all_amounts};
 ghost use Rattle.run_model.specs.Boundary.{pool_refunds, terms_turned};
 ghost use Rattle.run_model.specs.BoundaryFlows.{payment};
-ghost use Rattle.stake_book.specs.Stakes.{AreKept, HasRoom, accounts_of, without_pools};
-ghost use Rattle.view_map.specs.View.{frozen_of};
+ghost use Rattle.stake_book.specs.Stakes.{AreKept, HasRoom, accounts_of};
 
-use cert_pool::Reaped;
+use cert_pool::{PoolBook, Reaped};
 use coin_frac::NoMemory;
 use gov_actions::EnactState;
 use gov_ids::{Credential, PoolId};
@@ -34,10 +34,50 @@ pub fn pools_reaped(alloc: Global, mut b: Books) -> Result<(Books, Vec<Retired>)
         IsMovedBy (map (payment deposits l) (pool_refunds l)) (pots_of (ledger_of_books b))
         (pots_of (ledger_of_books r.0))) }
 {
-    let reaped = b.pools.reap(b.epoch + 1)?;
-    let retired = retired(alloc, reaped.as_slice(), &b.stake)?;
-    let (stake, state) = refunded(alloc, b.stake, b.state, reaped.as_slice())?;
-    Ok((Books { stake, state, ..b }, retired))
+    match reaped(alloc, b.stake, b.state, &mut b.pools, b.epoch + 1) {
+        Ok((stake, state, retired)) => Ok((Books { stake, state, ..b }, retired)),
+        Err(error) => {
+            // let go in one call: a `?` would prove it part by part
+            drop((b.pools, b.dreps, b.hot, b.proposals, b.snapshots, b.pending));
+            Err(error)
+        }
+    }
+}
+
+// The pools that retire with the epoch leave, and the accounts and the state are those after their deposits are paid out; each of them is reported.
+fn reaped(
+    alloc: Global,
+    stake: StakeBook,
+    state: Boxed<EnactState>,
+    pools: &mut PoolBook,
+    epoch: u64,
+) -> Result<(StakeBook, Boxed<EnactState>, Vec<Retired>), NoMemory>
+    requires room { HasRoom (all_amounts (refunds_of (reaped_of epoch pools.old))) stake }
+    requires fits { state.treasury + all_amounts (refunds_of (reaped_of epoch pools.old)) < 2 ^ 64 }
+    ensures left { OnOk result (pools.new ≡ left_of epoch pools.old) }
+    ensures refunded { IfOk result (λ r. AreRefunded (reaped_of epoch pools.old) stake state r.0 r.1) }
+    ensures retired { IfOk result (λ r. r.2.items ≡ map (retired_by (accounts_of stake)) (reaped_of epoch pools.old)) }
+    ensures kept { AreKept stake }
+{
+    let (reaped, retired) = leaving(alloc, &stake, pools, epoch)?;
+    let (stake, state) = refunded(alloc, stake, state, reaped.as_slice())?;
+    Ok((stake, state, retired))
+}
+
+// The pools that retire with the epoch leave: they, and the report of each.
+fn leaving(
+    alloc: Global,
+    stake: &StakeBook,
+    pools: &mut PoolBook,
+    epoch: u64,
+) -> Result<(Vec<Reaped>, Vec<Retired>), NoMemory>
+    ensures left { OnOk result (pools.new ≡ left_of epoch pools.old) }
+    ensures reaped { IfOk result (λ r. r.0.items ≡ reaped_of epoch pools.old) }
+    ensures retired { IfOk result (λ r. r.1.items ≡ map (retired_by (accounts_of stake.now)) (reaped_of epoch pools.old)) }
+{
+    let reaped = pools.reap(epoch)?;
+    let retired = retired(alloc, reaped.as_slice(), stake)?;
+    Ok((reaped, retired))
 }
 
 // The delegations to the pools end, and their deposits are paid out.
@@ -49,15 +89,7 @@ fn refunded(
 ) -> Result<(StakeBook, Boxed<EnactState>), NoMemory>
     requires room { HasRoom (all_amounts (refunds_of reaped.now)) stake }
     requires fits { state.treasury + all_amounts (refunds_of reaped.now) < 2 ^ 64 }
-    ensures accounts { IfOk result (λ r. accounts_of r.0 ≡
-        accounts_credited (refunds_of reaped.now) (without_pools (pools_of reaped.now) (accounts_of stake))) }
-    ensures outputs { IfOk result (λ r. r.0.outputs ≡ stake.outputs) }
-    ensures frozen { IfOk result (λ r. frozen_of credential_cmp r.0.accounts ≡
-        frozen_of credential_cmp stake.accounts) }
-    ensures state { IfOk result (λ r. r.1 ≡ record state {
-      treasury = state.treasury
-          + unclaimed_of (without_pools (pools_of reaped.now) (accounts_of stake)) (refunds_of reaped.now);
-    }) }
+    ensures refunded { IfOk result (λ r. AreRefunded reaped.now stake state r.0 r.1) }
     ensures kept { AreKept stake }
 {
     stake.clear_pools(pools_of(alloc, reaped)?.as_slice())?;

@@ -2,17 +2,24 @@
 use Rattle.std.specs.Prelude.{ℕ, not, List, map, if◌then◌else◌}
 use Rattle.book_records.specs.declared.Registered.{Registered}
 use Rattle.gov_actions.specs.declared.action.Proposal.{Proposal}
+use Rattle.gov_actions.specs.declared.state.LastIds.{LastIds}
 use Rattle.gov_ids.specs.declared.Account.{Account}
 use Rattle.gov_ids.specs.declared.ActionId.{ActionId}
 use Rattle.gov_ids.specs.declared.Credential.{Credential}
 use Rattle.gov_ids.specs.Orders.{credential_cmp}
-use Rattle.gov_model.specs.Ratified.{is_one_of}
+use Rattle.gov_model.specs.Kept.{kept_of}
+use Rattle.gov_model.specs.Proposals.{others_than}
+use Rattle.gov_model.specs.Ratified.{ids_of, is_one_of}
 use Rattle.maps.specs.Maps.{has_key}
 use Rattle.payments.specs.Amounts.{goes_by}
 use Rattle.tx_records.specs.declared.report.Paid.{Paid}
 use Rattle.tx_records.specs.declared.report.Removed.{Removed}
 use Rattle.tx_records.specs.declared.report.Why.{Why}
 use Rattle.tx_records.specs.declared.report.Why.TheVariants.{Enacted, Expired, Dropped}
+
+-- the proposals that leave, where these are enacted and those expire
+abbrev pub leaving_of : List Proposal → List ActionId → List ActionId → LastIds → List Proposal
+leaving_of ps enacted expired last = others_than (ids_of (kept_of ps enacted expired last)) ps
 
 -- the deposit of a proposal, with its return account
 abbrev pub refund_of : Proposal → Credential × ℕ

@@ -23,6 +23,14 @@ pub fn enacted(alloc: Global, b: Books, state: EnactState) -> Result<Books, NoMe
 {
     let mut b = b;
     let treasury = b.state.get().treasury;
-    b.state = Boxed::new(alloc, EnactState { treasury, ..state })?;
-    Ok(b)
+    match Boxed::new(alloc, EnactState { treasury, ..state }) {
+        Ok(state) => {
+            b.state = state;
+            Ok(b)
+        }
+        Err(error) => {
+            drop(b);
+            Err(error.into())
+        }
+    }
 }

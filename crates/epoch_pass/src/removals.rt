@@ -1,27 +1,30 @@
-ghost use Rattle.std.specs.Prelude.{◌≡◌, ℕ, map, IfOk, OnOk};
-ghost use Rattle.epoch_pass.specs.Removals.{refund_of};
+ghost use Rattle.std.specs.Prelude.{◌≡◌, ◌+◌, ◌<◌, ◌^◌, ℕ, map, IfOk, OnOk};
+ghost use Rattle.epoch_pass.specs.Removals.{leaving_of, refund_of, refunds_of, removed_by};
 ghost use Rattle.epoch_pass.specs.Reported.{AreDecided, removed_in};
 ghost use Rattle.gov_model.specs.Kept.{kept_of};
 ghost use Rattle.gov_model.specs.Laws.{HaveDistinctIds};
-ghost use Rattle.gov_model.specs.Proposals.{others_than};
-ghost use Rattle.gov_model.specs.Ratified.{ids_of};
 ghost use Rattle.gov_model.specs.Snapshot.{Snapshot};
 ghost use Rattle.ledger_books.specs.Parts.{HoldsSupply, frozen_entries, ledger_of_books, world_of_books};
 ghost use Rattle.ledger_model.specs.Flows.{deposits};
 ghost use Rattle.ledger_model.specs.Moves.{IsMovedBy};
 ghost use Rattle.ledger_model.specs.Supply.{pots_of};
+ghost use Rattle.payments.specs.Amounts.{all_amounts};
+ghost use Rattle.payments.specs.Credited.{ArePaidOut};
 ghost use Rattle.run_model.specs.Boundary.{proposal_refunds, removals_made, removed_proposals};
 ghost use Rattle.run_model.specs.BoundaryFlows.{payment};
+ghost use Rattle.stake_book.specs.Stakes.{AreKept, HasRoom, accounts_of};
 
 use crate::reports::removed_of;
 use coin_frac::NoMemory;
 use epoch_balance::cuts_balance;
-use gov_actions::LastIds;
+use gov_actions::{EnactState, LastIds};
 use gov_ids::{ActionId, Credential};
 use ledger_books::Books;
 use lineage::kept_after;
+use listed::Boxed;
 use payments::paid_out;
 use proposal_store::{LiveProposal, ProposalStore};
+use stake_book::StakeBook;
 use std::alloc::Global;
 use tx_balance::moves_keep_supply;
 use tx_records::Removed;
@@ -47,19 +50,65 @@ pub fn removals_made(
     moves_keep_supply();
     cuts_balance();
     let mut b = b;
-    let leaving = cut(
-        alloc,
-        &mut b.proposals,
-        ratified,
-        expired,
-        &b.state.get().last,
-    )?;
-    let removed = removed_of(alloc, &b.stake, leaving.as_slice(), ratified, expired)?;
+    match refunded(alloc, b.stake, b.state, &mut b.proposals, ratified, expired) {
+        Ok((stake, state, removed)) => Ok((Books { stake, state, ..b }, removed)),
+        Err(error) => {
+            // let go in one call: a `?` would prove it part by part
+            drop((b.pools, b.dreps, b.hot, b.proposals, b.snapshots, b.pending));
+            Err(error)
+        }
+    }
+}
+
+// The proposals that leave do so, and the accounts and the state are those after their deposits are paid out; each of them is reported.
+fn refunded(
+    alloc: Global,
+    stake: StakeBook,
+    state: Boxed<EnactState>,
+    proposals: &mut ProposalStore,
+    ratified: &[ActionId],
+    expired: &[ActionId],
+) -> Result<(StakeBook, Boxed<EnactState>, Vec<Removed>), NoMemory>
+    requires room { HasRoom (all_amounts (refunds_of
+        (leaving_of proposals.old ratified.now expired.now state.last))) stake }
+    requires fits { state.treasury + all_amounts (refunds_of
+        (leaving_of proposals.old ratified.now expired.now state.last)) < 2 ^ 64 }
+    ensures kept { OnOk result (proposals.new ≡ kept_of proposals.old ratified.now expired.now state.last) }
+    ensures removed { IfOk result (λ r. r.2.items ≡ map (removed_by (accounts_of stake) ratified.now expired.now)
+        (leaving_of proposals.old ratified.now expired.now state.last)) }
+    ensures paid { IfOk result (λ r. ArePaidOut (refunds_of
+        (leaving_of proposals.old ratified.now expired.now state.last)) stake state r.0 r.1) }
+    ensures distinct { HaveDistinctIds proposals.old }
+    ensures accounts { AreKept stake }
+{
+    // each account stands once
+    let _accounts = stake.balances();
+    let last = &state.get().last;
+    let (refunds, removed) = leaving(alloc, &stake, last, proposals, ratified, expired)?;
+    let (stake, state) = paid_out(alloc, stake, state, refunds.as_slice())?;
+    Ok((stake, state, removed))
+}
+
+// The proposals that leave do so; their deposits, each with its return account, and the report of each.
+fn leaving(
+    alloc: Global,
+    stake: &StakeBook,
+    last: &LastIds,
+    proposals: &mut ProposalStore,
+    ratified: &[ActionId],
+    expired: &[ActionId],
+) -> Result<(Vec<(Credential, u64)>, Vec<Removed>), NoMemory>
+    ensures kept { OnOk result (proposals.new ≡ kept_of proposals.old ratified.now expired.now last.now) }
+    ensures refunds { IfOk result (λ r. r.0.items ≡
+        refunds_of (leaving_of proposals.old ratified.now expired.now last.now)) }
+    ensures removed { IfOk result (λ r. r.1.items ≡ map (removed_by (accounts_of stake.now) ratified.now expired.now)
+        (leaving_of proposals.old ratified.now expired.now last.now)) }
+    ensures distinct { HaveDistinctIds proposals.old }
+{
+    let leaving = cut(alloc, proposals, ratified, expired, last)?;
+    let removed = removed_of(alloc, stake, leaving.as_slice(), ratified, expired)?;
     let refunds = refunds_of(alloc, leaving.as_slice())?;
-    let (stake, state) = paid_out(alloc, b.stake, b.state, refunds.as_slice())?;
-    b.stake = stake;
-    b.state = state;
-    Ok((b, removed))
+    Ok((refunds, removed))
 }
 
 // Only the proposals stay that are to stay; the others are given, in order of submission.
@@ -71,8 +120,7 @@ fn cut(
     last: &LastIds,
 ) -> Result<Vec<LiveProposal>, NoMemory>
     ensures kept { OnOk result (proposals.new ≡ kept_of proposals.old ratified.now expired.now last.now) }
-    ensures removed { IfOk result (λ l. l.items ≡
-        others_than (ids_of (kept_of proposals.old ratified.now expired.now last.now)) proposals.old) }
+    ensures removed { IfOk result (λ l. l.items ≡ leaving_of proposals.old ratified.now expired.now last.now) }
     ensures distinct { HaveDistinctIds proposals.old }
 {
     // no two have one id

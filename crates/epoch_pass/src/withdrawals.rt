@@ -1,15 +1,15 @@
-ghost use Rattle.std.specs.Prelude.{◌≡◌, ◌-◌, ◌≤◌, map, IfOk};
+ghost use Rattle.std.specs.Prelude.{◌≡◌, ◌≤◌, map, IfOk};
+ghost use Rattle.epoch_pass.specs.Removals.{paid_by};
 ghost use Rattle.epoch_pass.specs.Reported.{by_credential, paid_in};
-ghost use Rattle.gov_ids.specs.Orders.{credential_cmp};
 ghost use Rattle.ledger_books.specs.Parts.{HoldsSupply, IsStep, frozen_entries, ledger_of_books};
 ghost use Rattle.ledger_model.specs.Moves.{IsMovedBy};
 ghost use Rattle.ledger_model.specs.Supply.{pots_of};
-ghost use Rattle.payments.specs.Amounts.{accounts_credited, claimed_of};
+ghost use Rattle.payments.specs.Amounts.{claimed_of};
+ghost use Rattle.payments.specs.Credited.{ArePaidFrom};
 ghost use Rattle.run_model.specs.Boundary.{claimed, withdrawals_paid};
 ghost use Rattle.run_model.specs.BoundaryFlows.{flows_of_targets};
 ghost use Rattle.run_model.specs.World.{on_ledger};
 ghost use Rattle.stake_book.specs.Stakes.{AreKept, HasRoom, accounts_of};
-ghost use Rattle.view_map.specs.View.{frozen_of};
 
 use crate::reports::paid_of;
 use coin_frac::NoMemory;
@@ -41,13 +41,46 @@ pub fn withdrawals_paid(
 {
     moves_keep_supply();
     payments_balance();
-    let mut b = b;
-    let paid = paid_of(alloc, &b.stake, targets)?;
+    match withdrawn(alloc, b.stake, b.state, targets) {
+        Ok((stake, state, paid)) => Ok((Books { stake, state, ..b }, paid)),
+        Err(error) => {
+            // let go in one call: a `?` would prove it part by part
+            drop((b.pools, b.dreps, b.hot, b.proposals, b.snapshots, b.pending));
+            Err(error)
+        }
+    }
+}
+
+// The accounts and the state after the treasury paid the targets; each target is reported.
+fn withdrawn(
+    alloc: Global,
+    stake: StakeBook,
+    state: Boxed<EnactState>,
+    targets: &[(Account, u64)],
+) -> Result<(StakeBook, Boxed<EnactState>, Vec<Paid>), NoMemory>
+    requires room { HasRoom (claimed_of (accounts_of stake) (by_credential targets.now)) stake }
+    requires covered { claimed_of (accounts_of stake) (by_credential targets.now) ≤ state.treasury }
+    ensures paid { IfOk result (λ r. ArePaidFrom (by_credential targets.now) stake state r.0 r.1) }
+    ensures reported { IfOk result (λ r. r.2.items ≡ map (paid_by (accounts_of stake)) targets.now) }
+    ensures kept { AreKept stake }
+{
+    let (payments, paid) = due(alloc, &stake, targets)?;
+    let (stake, state) = paid_from(alloc, stake, state, payments.as_slice())?;
+    Ok((stake, state, paid))
+}
+
+// The targets by credential, and the report of each.
+fn due(
+    alloc: Global,
+    stake: &StakeBook,
+    targets: &[(Account, u64)],
+) -> Result<(Vec<(Credential, u64)>, Vec<Paid>), NoMemory>
+    ensures payments { IfOk result (λ r. r.0.items ≡ by_credential targets.now) }
+    ensures paid { IfOk result (λ r. r.1.items ≡ map (paid_by (accounts_of stake.now)) targets.now) }
+{
+    let paid = paid_of(alloc, stake, targets)?;
     let payments = by_credential(alloc, targets)?;
-    let (stake, state) = paid_from(alloc, b.stake, b.state, payments.as_slice())?;
-    b.stake = stake;
-    b.state = state;
-    Ok((b, paid))
+    Ok((payments, paid))
 }
 
 // The targets by credential.
@@ -74,12 +107,7 @@ fn paid_from(
 ) -> Result<(StakeBook, Boxed<EnactState>), NoMemory>
     requires room { HasRoom (claimed_of (accounts_of stake) payments.now) stake }
     requires covered { claimed_of (accounts_of stake) payments.now ≤ state.treasury }
-    ensures accounts { IfOk result (λ r. accounts_of r.0 ≡ accounts_credited payments.now (accounts_of stake)) }
-    ensures outputs { IfOk result (λ r. r.0.outputs ≡ stake.outputs) }
-    ensures frozen { IfOk result (λ r. frozen_of credential_cmp r.0.accounts ≡
-        frozen_of credential_cmp stake.accounts) }
-    ensures state { IfOk result (λ r. r.1 ≡
-        record state { treasury = state.treasury - claimed_of (accounts_of stake) payments.now }) }
+    ensures paid { IfOk result (λ r. ArePaidFrom payments.now stake state r.0 r.1) }
     ensures kept { AreKept stake }
 {
     let (stake, paid) = pay_registered(stake, payments)?;

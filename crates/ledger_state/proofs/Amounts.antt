@@ -1,5 +1,5 @@
 -- The rewards of an update, one after another.
-use Rattle.std.proofs.Common.{◌≡◌, ℕ, ◌+◌, ◌<◌, List, ◌∷◌, drop, get_or, length, refl, ◌∙◌}
+use Rattle.std.proofs.Common.{◌≡◌, ℕ, ◌+◌, ◌<◌, List, drop, get_or, length, refl, ◌∙◌}
 use Rattle.gov_ids.specs.declared.Credential.{Credential}
 use Rattle.gov_ids.specs.Orders.{credential_cmp}
 use Rattle.gov_ids.specs.contracts.CredentialOrd.TheImpl as credential_ord

@@ -1,6 +1,5 @@
 -- A sound World stays sound where a record that breaks no rule acts.
-use Rattle.std.proofs.Common.{◌≡◌, ℕ, zero, suc, ◌+◌, ◌==◌, ◌^◌, ◌<◌, ◌≤◌, ◌&&◌, [], ◌∷◌, Bool, true, false, Option, Some, None, Result, Ok, Err, cond, find, is_none, min, nat_le, nat_lt, option_map, refl, ap, sym, subst, ◌∙◌, arith}
-use Rattle.std.specs.Prelude.{⊤}
+use Rattle.std.proofs.Common.{◌≡◌, ℕ, zero, suc, ◌+◌, ◌==◌, ◌^◌, ◌<◌, ◌≤◌, ◌&&◌, [], ◌∷◌, Bool, true, false, Option, Some, None, Err, cond, find, is_none, nat_le, nat_lt, option_map, refl, ap, subst, ◌∙◌, arith}
 use Rattle.std.proofs.lemmas.Bool.{lt-ltb}
 use Rattle.tx_records.specs.declared.record.Record.{Record}
 use Rattle.tx_records.specs.declared.record.Record.TheVariants as records
@@ -11,7 +10,7 @@ use Rattle.tx_records.specs.declared.reply.Rule.{Rule}
 use Rattle.tx_records.specs.declared.tx.Tx.{Tx}
 use Rattle.tx_records.specs.RecordLimits.{is_within_limits}
 use Rattle.ledger_model.specs.Broken.{is_allowed}
-use Rattle.ledger_model.specs.Checks.{Check, answer_by, breaks, breaks_keeping, first_among, is_broken, rule_of}
+use Rattle.ledger_model.specs.Checks.{Check, breaks, breaks_keeping, first_among, is_broken, rule_of}
 use Rattle.tx_records.specs.declared.rules.TheConstants.{EPOCH_SKIPPED, SLOT_NOT_LATER, ZERO_PULSE}
 use Rattle.ledger_model.specs.Ledger.{Ledger}
 use Rattle.ledger_model.specs.Transaction.{ledger_after_tx}
@@ -26,18 +25,6 @@ use Rattle.ledger_state.specs.Blocks.{StaysInEpoch, entry_by}
 pub not_broken : (o : Option Rule) → is_none o ≡ true → o ≡ None
 not_broken None h = refl
 not_broken (Some rule) h = cc
-
-pub accepted : (o : Option Rule) (x : ⊤) → Ok x ≡ answer_by o → o ≡ None
-accepted None x h = refl
-accepted (Some rule) x h = cc
-
-pub refused : (o : Option Rule) (rule : Rule) → Err rule ≡ answer_by o → o ≡ Some rule
-refused None rule h = cc
-refused (Some other) rule h = cc
-
-pub entered : (o : Option Rule) (b e : Bool) → Ok e ≡ entry_by o b → o ≡ None
-entered None b e h = refl
-entered (Some rule) b e h = cc
 
 pub not_entered : (o : Option Rule) (b : Bool) (rule : Rule) → Err rule ≡ entry_by o b → o ≡ Some rule
 not_entered None b rule h = cc

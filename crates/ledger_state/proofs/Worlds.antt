@@ -1,26 +1,18 @@
 -- What the parts of a World make of each other: the snapshot is made again of the copy, and a changed World is held as before where what is frozen stays.
-use Rattle.std.proofs.Common.{◌≡◌, ℕ, ◌+◌, List, [], ◌∷◌, Option, Some, None, filter_map, map, min, option_map, sum_by, refl, ap, sym, subst, ◌∙◌, arith}
-use Rattle.std.specs.List.{AllByRecursion, cons_option}
-use Rattle.gov_ids.specs.declared.Account.{Account}
+use Rattle.std.proofs.Common.{◌≡◌, ℕ, ◌+◌, List, [], Option, None, map, min, sum_by, ap, sym, subst, ◌∙◌}
 use Rattle.gov_ids.specs.declared.Credential.{Credential}
 use Rattle.gov_ids.specs.declared.PoolId.{PoolId}
-use Rattle.gov_ids.specs.Orders.{pool_cmp}
-use Rattle.gov_ids.proofs.Totals.{pool_total}
 use Rattle.maps.specs.Maps.{entries_where}
-use Rattle.book_records.specs.declared.Entry.{Entry}
 use Rattle.book_records.specs.declared.pool.Pool.{Pool}
 use Rattle.gov_model.specs.Snapshot.{Snapshot, entry_count}
 use Rattle.tx_records.specs.declared.record.Rewards.{Rewards}
 use Rattle.ledger_model.specs.Ledger.{Ledger}
 use Rattle.drep_pulser.specs.declared.Pulser.{Pulser}
 use Rattle.drep_pulser.specs.declared.Pulser.TheVariants.{Counting, Counted}
-use Rattle.drep_pulser.specs.Count.{Count}
-use Rattle.drep_pulser.specs.Facts.{IsCountOf}
 use Rattle.drep_pulser.specs.Pulsers.{GoesOnIn, IsPulserOf, done_by, total_of_pulser}
-use Rattle.snapshots.specs.Frozen.{frozen_of, frozen_pool}
+use Rattle.snapshots.specs.Frozen.{frozen_of}
 use Rattle.snapshots.specs.declared.frozen.Frozen.{Frozen}
 use Rattle.snapshots.specs.declared.stakes.Snapshots.{Snapshots}
-use Rattle.run_model.specs.Freeze.{snapshot_of}
 use Rattle.run_model.specs.SoundWorld.{IsSoundLedger, IsSoundWorld}
 use Rattle.accounts.specs.Accounts.{Accounts}
 use Rattle.run_model.specs.Step.{pulsed}

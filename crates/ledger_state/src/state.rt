@@ -1,5 +1,4 @@
-ghost use Rattle.std.specs.Prelude.{◌≡◌, ◌+◌, ◌^◌, ◌<◌, ◌≤◌, true, option_map, IfOk};
-ghost use Rattle.gov_model.specs.Snapshot.{entry_count};
+ghost use Rattle.std.specs.Prelude.{◌≡◌, ◌<◌, option_map};
 ghost use Rattle.ledger_model.specs.Supply.{pots_of};
 ghost use Rattle.drep_pulser.specs.Pulsers.{IsPulserOf, done_by};
 ghost use Rattle.snapshots.specs.Frozen.{frozen_of};

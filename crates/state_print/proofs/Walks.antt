@@ -1,5 +1,5 @@
 -- A walk from entry to entry goes over all of them.
-use Rattle.std.proofs.Common.{Bor, ◌≡◌, ◌<◌, List, [], ◌∷◌, ◌++◌, Bool, true, false, cond, filter, flat_map, length, map, not, Option, Some, None, option_map, refl, ap, sym, ◌∙◌, arith}
+use Rattle.std.proofs.Common.{Bor, ◌≡◌, ◌<◌, List, [], ◌∷◌, ◌++◌, true, false, cond, flat_map, length, map, not, Option, Some, None, option_map, refl, ap, sym, ◌∙◌, arith}
 use Rattle.std.specs.declared.cmp.Ordering.{Ordering}
 use Rattle.std.specs.declared.cmp.Ordering.TheVariants.{Less, Equal, Greater}
 use Rattle.std.specs.Cmp.{IsTotalOrder}

@@ -1,13 +1,17 @@
 ghost use Rattle.std.specs.Prelude.{◌≡◌, ◌≤◌, IfOk};
-ghost use Rattle.epoch_start.specs.Begun.{begun_of};
+ghost use Rattle.drep_pulser.specs.Facts.{IsCountOf};
+ghost use Rattle.epoch_start.specs.Begun.{accounts_of_pools, begun_of};
+ghost use Rattle.gov_ids.specs.Orders.{credential_cmp};
 ghost use Rattle.run_model.specs.SoundWorld.{IsSoundWorld};
+ghost use Rattle.snapshots.specs.Frozen.{frozen_of as copy_of};
+ghost use Rattle.view_map.specs.View.{frozen_of};
 
 use super::LedgerState;
 use coin_frac::NoMemory;
-use drep_pulser::Pulser;
+use drep_pulser::{Counting, Pulser};
 use epoch_start::{begun_count, frozen_copy};
 use ledger_books::Books;
-use live_ledger::LiveLedger;
+use snapshots::Frozen;
 use std::alloc::Global;
 
 impl LedgerState {
@@ -20,8 +24,30 @@ impl LedgerState {
     {
         let mut books = b;
         books.stake.freeze();
-        let frozen = frozen_copy(alloc, &books)?;
-        let counting = begun_count(alloc, &books, workers)?;
-        Ok(LedgerState::from_books(alloc, books, frozen, Pulser::Counting(counting)))
+        match begun_parts(alloc, &books, workers) {
+            Ok((frozen, counting)) => {
+                Ok(LedgerState::from_books(alloc, books, frozen, Pulser::Counting(counting)))
+            }
+            Err(error) => {
+                drop(books);
+                Err(error)
+            }
+        }
     }
+}
+
+/// What is frozen of these books, whose live entries are the frozen ones, and the count of it, with none visited.
+fn begun_parts(alloc: Global, books: &Books, workers: u32) -> Result<(Frozen, Counting), NoMemory>
+    requires some { 1 ≤ workers }
+    requires few { workers ≤ 64 }
+    requires frozen { frozen_of credential_cmp books.now.stake.accounts ≡ books.now.stake.accounts.live }
+    requires sound { IsSoundWorld (begun_of books.now) }
+    ensures copy { IfOk result (λ r. r.0 ≡ copy_of (begun_of books.now).frozen) }
+    ensures accounts { IfOk result (λ r. accounts_of_pools r.0.pools ≡ (begun_of books.now).frozen.pool_accounts) }
+    ensures counts { IfOk result (λ r. IsCountOf (begun_of books.now).frozen r.1) }
+    ensures none_visited { IfOk result (λ r. r.1.done ≡ 0) }
+{
+    let frozen = frozen_copy(alloc, books)?;
+    let counting = begun_count(alloc, books, workers)?;
+    Ok((frozen, counting))
 }

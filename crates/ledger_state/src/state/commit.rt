@@ -19,7 +19,12 @@ impl LedgerState {
         requires drafted { laid_over changes self.ledger ≡ draft_of self.ledger tx.now }
         ensures { IfOk result (λ s. s ≡ on_ledger (λ l. ledger_after_tx l tx.now) self) }
     {
-        let live = self.live.commit(changes, tx)?;
-        Ok(LedgerState { live, ..self })
+        match self.live.commit(changes, tx) {
+            Ok(live) => Ok(LedgerState { live, ..self }),
+            Err(error) => {
+                drop((self.snapshots, self.pending, self.frozen, self.pulser));
+                Err(error)
+            }
+        }
     }
 }

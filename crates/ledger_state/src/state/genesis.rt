@@ -38,12 +38,19 @@ fn first_books(alloc: Global, live: LiveLedger) -> Result<Books, NoMemory>
     ensures marks { IfOk result (λ b. b.snapshots ≡ record { mark = pool_stakes live.ledger; set = []; go = []; fees = 0 }) }
     ensures pending { IfOk result (λ b. b.pending ≡ None) }
 {
-    let mark = pool_stakes(alloc, live.stake(), live.pools())?;
-    let snapshots = Snapshots {
-        mark: Listed::from_vec(mark),
-        set: Listed::new(alloc),
-        go: Listed::new(alloc),
-        fees: 0,
-    };
-    Ok(live.into_books(snapshots, None))
+    match pool_stakes(alloc, live.stake(), live.pools()) {
+        Ok(mark) => {
+            let snapshots = Snapshots {
+                mark: Listed::from_vec(mark),
+                set: Listed::new(alloc),
+                go: Listed::new(alloc),
+                fees: 0,
+            };
+            Ok(live.into_books(snapshots, None))
+        }
+        Err(error) => {
+            drop(live);
+            Err(error)
+        }
+    }
 }

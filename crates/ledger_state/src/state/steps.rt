@@ -1,8 +1,8 @@
-ghost use Rattle.std.specs.Prelude.{◌≡◌, ◌<◌, ◌≤◌, ◌^◌, IfOk, None, Some, is_some, true};
+ghost use Rattle.std.specs.Prelude.{◌≡◌, ◌<◌, ◌^◌, IfOk, None, Some, is_some, true};
 ghost use Rattle.ledger_model.specs.Checks.{answer_of, first_among};
 ghost use Rattle.ledger_state.specs.Blocks.{StaysInEpoch, block_answer};
 ghost use Rattle.run_model.specs.SoundWorld.{IsSoundWorld};
-ghost use Rattle.run_model.specs.Step.{block_checks, pulsed, reward_checks, step};
+ghost use Rattle.run_model.specs.Step.{block_checks, in_order_of_credential, pulsed, reward_checks, step};
 ghost use Rattle.tx_records.specs.RecordLimits.{is_within_limits};
 ghost use Rattle.tx_records.specs.declared.record.Record.TheVariants as records;
 
@@ -91,11 +91,25 @@ impl LedgerState {
         requires { is_within_limits (records.Rewards update.now) ≡ true }
         ensures { IfOk result (λ r. r ≡ step self (records.Rewards update.now)) }
     {
-        if let Err(rule) = self.check_rewards(update) {
-            return Ok((self, Reply::Refused(rule)));
+        match self.check_rewards(update) {
+            Ok(()) => Ok((self.given(update)?, Reply::Accepted)),
+            Err(rule) => Ok((self, Reply::Refused(rule))),
         }
-        let ordered = in_order(self.alloc, update)?;
-        Ok((self.with_pending(ordered), Reply::Accepted))
+    }
+
+    /// The state after a reward update that breaks no rule.
+    fn given(self, update: &Rewards) -> Result<LedgerState, NoMemory>
+        requires within { is_within_limits (records.Rewards update.now) ≡ true }
+        requires unbroken { first_among (reward_checks self update.now) ≡ None }
+        ensures { IfOk result (λ s. s ≡ record self { pending = Some (in_order_of_credential update.now) }) }
+    {
+        match in_order(self.alloc, update) {
+            Ok(ordered) => Ok(self.with_pending(ordered)),
+            Err(error) => {
+                drop(self);
+                Err(error)
+            }
+        }
     }
 
     /// With this reward update pending.

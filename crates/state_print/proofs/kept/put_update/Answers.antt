@@ -1,6 +1,5 @@
 use Rattle.std.proofs.Common.{[], ◌∷◌, flat_map, map, refl, ap, ◌∙◌}
 use Rattle.std.proofs.lemmas.List.Concat.{flat_map_single}
-use Rattle.state_print.proofs.Lines.{put_as}
 use Rattle.text_model.specs.StateLines.{pending_reward_words, pending_words}
 use Rattle.report.proofs.Puts.{put_first_as, put_second_as}
 use Rattle.state_print.proofs.kept.put_update.Goals as goal

@@ -1,4 +1,4 @@
-use Rattle.std.proofs.Common.{◌≡◌, true, ap, sym, ◌∙◌}
+use Rattle.std.proofs.Common.{ap, sym, ◌∙◌}
 use Rattle.ledger_model.specs.Broken.{is_allowed}
 use Rattle.ledger_model.specs.Ledger.{Ledger}
 use Rattle.ledger_model.specs.Transaction.{ledger_after_tx}
@@ -24,14 +24,14 @@ invariant_of-result c =
     let tx = c.args.tx.now in
     let a = c.self.inside in
     let w = the_view a in
-    let is = moved_is (λ (l : Ledger). ledger_after_tx l tx) a.live c.in_ok-live.live a.snapshots a.pending a.frozen a.pulser c.in_ok-live.ensures in
+    let is = moved_is (λ (l : Ledger). ledger_after_tx l tx) a.live c.in-Ok.live a.snapshots a.pending a.frozen a.pulser c.in-Ok.ensures in
     held_along _ _ a.frozen a.pulser (sym is)
     (held_after w (on_ledger (λ (l : Ledger). ledger_after_tx l tx) w) a.frozen a.pulser a.pulser c.self.invariant (λ i. w.frozen) c.self.invariant.counts
     (tx_sound w tx c.self.invariant.sound c.requires.within (ap (λ (x : World). is_allowed x.ledger tx) c.self.view_is ∙ c.requires.allowed)))
 
-pub returns : goal.returns
-returns c =
+pub returns-in-Ok : goal.returns-in-Ok
+returns-in-Ok c =
     let tx = c.args.tx.now in
     let a = c.self.inside in
-    moved_is (λ (l : Ledger). ledger_after_tx l tx) a.live c.in_ok-live.live a.snapshots a.pending a.frozen a.pulser c.in_ok-live.ensures
+    moved_is (λ (l : Ledger). ledger_after_tx l tx) a.live c.in-Ok.live a.snapshots a.pending a.frozen a.pulser c.in-Ok.ensures
     ∙ ap (on_ledger (λ (l : Ledger). ledger_after_tx l tx)) c.self.view_is

@@ -1,4 +1,4 @@
-use Rattle.std.proofs.Common.{◌≡◌, sym}
+use Rattle.std.proofs.Common.{sym}
 use Rattle.ledger_state.proofs.Worlds.{held_along, ledger_kept, parts_are}
 use Rattle.ledger_state.proofs.state.LedgerState.from_books.Goals as goal
 

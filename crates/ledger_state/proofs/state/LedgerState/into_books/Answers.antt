@@ -1,4 +1,4 @@
-use Rattle.std.proofs.Common.{◌≡◌, ap, sym, ◌∙◌}
+use Rattle.std.proofs.Common.{◌∙◌}
 use Rattle.ledger_state.specs.contracts.state.LedgerState.{the_view}
 use Rattle.ledger_state.proofs.Worlds.{held_along, parts_are}
 use Rattle.ledger_state.proofs.state.LedgerState.into_books.Goals as goal

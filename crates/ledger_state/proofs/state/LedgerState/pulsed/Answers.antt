@@ -1,4 +1,4 @@
-use Rattle.std.proofs.Common.{◌≡◌, List, refl, ap, sym, subst, ◌∙◌, arith}
+use Rattle.std.proofs.Common.{List, ap, sym, subst, ◌∙◌, arith}
 use Rattle.book_records.specs.declared.Entry.{Entry}
 use Rattle.drep_pulser.specs.Pulsers.{GoesOnIn}
 use Rattle.gov_ids.specs.declared.Credential.{Credential}

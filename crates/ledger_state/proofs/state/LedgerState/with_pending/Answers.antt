@@ -1,4 +1,4 @@
-use Rattle.std.proofs.Common.{◌≡◌, Some, ap, sym, subst}
+use Rattle.std.proofs.Common.{Some, ap, sym, subst}
 use Rattle.run_model.specs.SoundWorld.{IsSoundWorld}
 use Rattle.run_model.specs.World.{World}
 use Rattle.ledger_state.specs.contracts.state.LedgerState.{the_view}
