@@ -5,6 +5,7 @@ ghost use Rattle.epoch_start.specs.Begun.{begun_of};
 ghost use Rattle.gov_model.specs.Snapshot.{Snapshot};
 ghost use Rattle.ledger_books.specs.Parts.{world_of_books};
 ghost use Rattle.run_model.specs.Boundary.{world_after_boundary};
+ghost use Rattle.tally.specs.Cells.{AreCells};
 
 use coin_frac::NoMemory;
 use drep_pulser::Counted;
@@ -17,6 +18,7 @@ use ledger_books::Books;
 use listed::Listed;
 use snapshots::Frozen;
 use std::alloc::Global;
+use tally::TallyCell;
 use tx_records::{Paid, Removed, Retired};
 
 // What a boundary reports of the epoch that ends, and of where amounts went.
@@ -29,14 +31,16 @@ pub(crate) struct Lists {
     pub(crate) retired: Listed<Retired>,
 }
 
-// All steps of a boundary but the freeze, and their reports.
+// All steps of a boundary but the freeze, and their reports, by the counts of the frozen proposals.
 pub(crate) fn crossed(
     alloc: Global,
     b: Books,
     f: &Frozen,
     c: &Counted,
+    cells: &[TallyCell],
 ) -> Result<(Books, Lists), NoMemory>
     requires sound { (counted : ℕ) × (s : Snapshot) × AreSoundBooks b counted s f.now c.now }
+    requires cells { AreCells f.now c.now cells.now }
     requires early { b.epoch < 2 ^ 62 }
     ensures begun { IfOk result (λ r. (counted : ℕ) (s : Snapshot) → AreSoundBooks b counted s f.now c.now →
         begun_of r.0 ≡ world_after_boundary (world_of_books b counted s)) }
@@ -52,7 +56,7 @@ pub(crate) fn crossed(
         tallies,
         stakes,
         targets,
-    } = decide(alloc, f, c)?;
+    } = decide(alloc, f, c, cells)?;
     let (turned, retired) = before_pass(alloc, b)?;
     let (ended, paid, removed) = after_pass(
         alloc,

@@ -1,4 +1,4 @@
-ghost use Rattle.std.specs.Prelude.{◌≡◌, ◌<◌};
+ghost use Rattle.std.specs.Prelude.{◌≡◌, ◌<◌, ◌≤◌};
 ghost use Rattle.drep_pulser.specs.Facts.{ForSnapshotOf, IsCountIn, IsCountedOf};
 ghost use Rattle.drep_pulser.specs.Pulsers.{GoesOnIn, IsPulserOf, total_of_pulser};
 ghost use Rattle.gov_ids.specs.Orders.{credential_cmp};
@@ -8,11 +8,33 @@ ghost use Rattle.view_map.specs.View.{frozen_of};
 use accounts::AccountBook;
 use coin_frac::Steps;
 use drep_pulser::{Counted, Counting, Pulser};
+use par_count::{Gate, finish_shared};
 use std::marker::Brand;
 use std::sync::ledger::{Blank, Ledger};
+use std::thread::Threads;
 
-/// The count with all entries visited that are left. It takes no memory. (The DRep pulser of cardano-ledger)
-pub(crate) fn finished(pulser: Pulser, book: &AccountBook) -> Counted
+/// The count with all entries visited that are left, shared among so many workers. It takes no memory. (The DRep pulser of cardano-ledger; the workers are own)
+pub(crate) fn finished<R: Threads + Sync, G: Gate + Sync>(
+    rt: &R,
+    pulser: Pulser,
+    book: &AccountBook,
+    workers: u32,
+    gate: &G,
+) -> Counted
+    requires some { 1 ≤ workers }
+    requires few { workers ≤ 64 }
+    requires goes_on { GoesOnIn (frozen_of credential_cmp book.now) pulser }
+    ensures { (f : Snapshot) → f.entries ≡ frozen_of credential_cmp book.now → IsPulserOf f pulser →
+        IsCountedOf f result }
+{
+    match pulser {
+        Pulser::Counting(counting) => finish_shared(rt, counting, book, workers, gate),
+        Pulser::Counted(counted) => counted,
+    }
+}
+
+/// The same in this thread. It takes no memory. (The DRep pulser of cardano-ledger)
+pub(crate) fn finished_alone(pulser: Pulser, book: &AccountBook) -> Counted
     requires goes_on { GoesOnIn (frozen_of credential_cmp book.now) pulser }
     ensures { (f : Snapshot) → f.entries ≡ frozen_of credential_cmp book.now → IsPulserOf f pulser →
         IsCountedOf f result }

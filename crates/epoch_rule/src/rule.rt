@@ -1,4 +1,4 @@
-ghost use Rattle.std.specs.Prelude.{◌≡◌, ◌<◌, ◌^◌, IfOk};
+ghost use Rattle.std.specs.Prelude.{◌≡◌, ◌<◌, ◌≤◌, ◌^◌, IfOk};
 ghost use Rattle.ledger_model.specs.Moves.{IsMovedBy};
 ghost use Rattle.ledger_model.specs.Supply.{pots_of};
 ghost use Rattle.run_model.specs.Boundary.{world_after_boundary};
@@ -6,17 +6,29 @@ ghost use Rattle.run_model.specs.BoundaryFlows.{flows_of_boundary};
 ghost use Rattle.run_model.specs.Report.{report_of};
 
 use crate::books::crossed;
+use crate::cells::{cells_for, tallied};
 use crate::counts::{entries_of, finished};
 use coin_frac::NoMemory;
 use epoch_balance::{boundary_balances, payments_are_covered};
+use frozen_reads::sound_can_be_counted;
 use ledger_state::LedgerState;
+use par_count::Gate;
 use run_laws::boundaries_keep_sound;
 use std::alloc::Global;
+use std::thread::Threads;
 use tx_records::EpochReport;
 
-/// The state after the boundary of its epoch, and the report of the boundary: what is left of the count is counted, the pass is over the frozen epoch, the steps act in the order of the rules, and the next epoch is frozen. Want of memory consumes the state. (NEWEPOCH and EPOCH of the formal specification; CIP-1694, Enactment)
-pub fn cross(alloc: Global, s: LedgerState) -> Result<(LedgerState, EpochReport), NoMemory>
+/// The state after the boundary of its epoch, and the report of the boundary: what is left of the count is counted, the pass is over the frozen epoch, the steps act in the order of the rules, and the next epoch is frozen. So many workers share the counts, and their number changes no answer. Want of memory consumes the state. (NEWEPOCH and EPOCH of the formal specification; CIP-1694, Enactment)
+pub fn cross<R: Threads + Sync, G: Gate + Sync>(
+    alloc: Global,
+    rt: &R,
+    s: LedgerState,
+    workers: u32,
+    gate: &G,
+) -> Result<(LedgerState, EpochReport), NoMemory>
     requires early { s.ledger.epoch < 2 ^ 62 }
+    requires some { 1 ≤ workers }
+    requires few { workers ≤ 64 }
     ensures world { IfOk result (λ r. r.0 ≡ world_after_boundary s) }
     ensures report { IfOk result (λ r. r.1 ≡ report_of s) }
     ensures moved { IfOk result (λ r. IsMovedBy (flows_of_boundary s) (pots_of s.ledger) (pots_of r.0.ledger)) }
@@ -24,10 +36,19 @@ pub fn cross(alloc: Global, s: LedgerState) -> Result<(LedgerState, EpochReport)
     boundaries_keep_sound();
     boundary_balances();
     payments_are_covered();
+    sound_can_be_counted();
+    let cells = match cells_for(alloc, s.frozen()) {
+        Ok(cells) => cells,
+        Err(fault) => {
+            drop(s);
+            return Err(fault);
+        }
+    };
     let (books, frozen, pulser) = s.into_books();
-    let counted = finished(pulser, books.stake.book());
-    let (ended, lists) = crossed(alloc, books, &frozen, &counted)?;
-    let state = LedgerState::begin_epoch(alloc, ended, 1)?;
+    let counted = finished(rt, pulser, books.stake.book(), workers, gate);
+    let tallied = tallied(rt, &frozen, &counted, cells, workers, gate);
+    let (ended, lists) = crossed(alloc, books, &frozen, &counted, tallied.as_slice())?;
+    let state = LedgerState::begin_epoch(alloc, ended, workers)?;
     let report = EpochReport {
         epoch: state.epoch(),
         frozen: entries_of(state.pulser()),

@@ -1,5 +1,6 @@
 ghost use Rattle.std.specs.Prelude.{◌≡◌, IfOk};
 ghost use Rattle.epoch_steps.specs.Decisions.{decided_of};
+ghost use Rattle.tally.specs.Cells.{AreCells};
 ghost use Rattle.tally.specs.Counted.{CanBeCounted, ForSnapshot};
 
 use coin_frac::NoMemory;
@@ -9,9 +10,10 @@ use gov_actions::{EnactState, Tally};
 use gov_ids::{Account, ActionId, Drep};
 use gov_model::one_list_is_ratified;
 use listed::Listed;
-use ratify::ratify;
+use ratify::ratify_tallied;
 use snapshots::Frozen;
 use std::alloc::Global;
+use tally::TallyCell;
 
 /// What the epoch that ends comes to: what its pass decides, and what a boundary reports of it. (RatifyState of the formal specification; the stakes and the targets beside it are own)
 #[derive(Drop)]
@@ -30,13 +32,19 @@ pub struct Decided {
     pub targets: Listed<(Account, u64)>,
 }
 
-/// What a frozen epoch and its count come to. (CIP-1694, Ratification; RATIFY of the formal specification)
-pub fn decide(alloc: Global, f: &Frozen, c: &Counted) -> Result<Decided, NoMemory>
+/// What a frozen epoch and its count come to, by cells that hold the counts of its proposals. (CIP-1694, Ratification; RATIFY of the formal specification)
+pub fn decide(
+    alloc: Global,
+    f: &Frozen,
+    c: &Counted,
+    cells: &[TallyCell],
+) -> Result<Decided, NoMemory>
     requires counted { CanBeCounted f.now c.now }
+    requires cells { AreCells f.now c.now cells.now }
     ensures { IfOk result (λ d. ForSnapshot f.now c.now (λ s. d ≡ decided_of s)) }
 {
     one_list_is_ratified();
-    let outcome = ratify(alloc, f, c)?;
+    let outcome = ratify_tallied(alloc, f, c, cells)?;
     let stakes = stakes_of(alloc, f, c)?;
     let targets = enacted_targets(alloc, f.proposals.as_slice(), outcome.ratified.as_slice())?;
     Ok(Decided {

@@ -26,7 +26,10 @@ of_pass_by s d ratified expired targets is r e t = record {
 pub decide-requires : goal.decide-requires
 decide-requires c =
     let a = c.requires.sound.2 in
-    record { counted = c.sound_can_be_counted.ensures (world_of_books c.args.b c.requires.sound.0 c.requires.sound.1) c.args.f.now c.args.c.now a.sound a.frozen }
+    record {
+      counted = c.sound_can_be_counted.ensures (world_of_books c.args.b c.requires.sound.0 c.requires.sound.1) c.args.f.now c.args.c.now a.sound a.frozen;
+      cells = c.requires.cells;
+    }
 
 pub before_pass-requires : goal.before_pass-requires
 before_pass-requires c =
