@@ -2,7 +2,7 @@
 #![tactic(auto)]
 
 ghost use Rattle.std.specs.Prelude.{◌≡◌, true, IfOk, OnOk};
-ghost use Rattle.ledger_model.specs.Broken.{body_checks};
+ghost use Rattle.ledger_model.specs.Broken.{body_checks, first_broken};
 ghost use Rattle.ledger_model.specs.Checks.{first_among};
 ghost use Rattle.ledger_model.specs.Draft.{last_draft};
 ghost use Rattle.ledger_model.specs.Transaction.{accepted_as, tx_step};
@@ -36,15 +36,24 @@ pub fn apply_tx(alloc: Global, s: LedgerState, tx: &Tx) -> Result<(LedgerState, 
     ensures reply { IfOk result (λ r. r.1 ≡ (tx_step s.ledger tx.now).1) }
     ensures kept { (rule : Rule) → IfOk result (λ r. r.1 ≡ Reply.Refused rule → r.0 ≡ s) }
 {
-    match judge(alloc, s.live(), tx) {
+    match changes_of(alloc, s.live(), tx) {
         Ok(changes) => Ok((s.commit(changes, tx)?, accepted_as(tx.scripts))),
         Err(TxFault::Refused(rule)) => Ok((s, Reply::Refused(rule))),
         Err(TxFault::NoMemory) => Err(NoMemory),
     }
 }
 
+/// Judges a transaction and applies nothing: it would be accepted, or breaks this rule first. So a wallet asks before it sends. (LEDGER of the formal specification)
+pub fn judge(alloc: Global, s: &LedgerState, tx: &Tx) -> Result<(), TxFault>
+    requires within { is_within_limits tx.now ≡ true }
+    ensures rule { IsAnswered (first_broken s.now.ledger tx.now) result }
+{
+    let _changes = changes_of(alloc, s.live(), tx)?;
+    Ok(())
+}
+
 /// What a transaction that breaks no rule changes, or the first rule that it breaks.
-fn judge(alloc: Global, s: &LiveLedger, tx: &Tx) -> Result<Changes, TxFault>
+fn changes_of(alloc: Global, s: &LiveLedger, tx: &Tx) -> Result<Changes, TxFault>
     requires within { is_within_limits tx.now ≡ true }
     ensures { IsJudged result s.now.ledger tx.now }
 {

@@ -1,5 +1,5 @@
 -- The ledger of a line, or why there is none. (Own)
-use Rattle.std.specs.Prelude.{◌≡◌, ℕ, Bool, false, true, List, None, Some, Result, Ok, Err, ⊤}
+use Rattle.std.specs.Prelude.{◌≡◌, ◌≢◌, ℕ, Bool, false, true, List, None, Some, Result, Ok, Err, ⊤}
 use Rattle.tx_records.specs.declared.genesis.Genesis.{Genesis}
 use Rattle.tx_records.specs.declared.genesis.GenesisRule.{GenesisRule}
 use Rattle.tx_records.specs.declared.record.Record.{Record}
@@ -8,6 +8,7 @@ use Rattle.run_model.specs.Genesis.{genesis_fault, world_of_genesis}
 use Rattle.run_model.specs.World.{World}
 use Rattle.record_read.specs.Lines.{record_of_line}
 use Rattle.record_read.specs.Reads.{ReadsRecord}
+use Rattle.record_read.specs.declared.fault.RecordFault.TheVariants as record_faults
 use Rattle.wallet.specs.declared.start.StartFault.{StartFault}
 use Rattle.wallet.specs.declared.start.StartFault.TheVariants as faults
 
@@ -38,7 +39,7 @@ pub record IsBroken (line : List ℕ) (rule : GenesisRule) : Type 0 where
 -- the ledger of the line, or why there is none, unless memory ran out
 abbrev pub Starts : List ℕ → Result World StartFault → Type 0
 Starts line (Ok w) = IsLedgerOf line w
-Starts line (Err (faults.Unreadable fault)) = ReadsRecord {A = Record} (Err fault) (record_of_line line)
+Starts line (Err (faults.Unreadable fault)) = (fault ≢ record_faults.NoMemory) × ReadsRecord {A = Record} (Err fault) (record_of_line line)
 Starts line (Err faults.NoGenesis) = IsNoGenesis line
 Starts line (Err (faults.Broken rule)) = IsBroken line rule
 Starts line (Err faults.NoMemory) = ⊤

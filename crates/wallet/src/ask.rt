@@ -1,18 +1,22 @@
-//! Whether a transaction will be accepted.
-ghost use Rattle.std.specs.Prelude.{◌≡◌, Err, IfOk, false, true};
+//! Whether a transaction will be accepted, and the ledger after it.
+ghost use Rattle.std.specs.Prelude.{◌≡◌, Err, IfOk, None, Some, false, true};
+ghost use Rattle.ledger_model.specs.Broken.{first_broken};
 ghost use Rattle.ledger_model.specs.Transaction.{tx_step};
 ghost use Rattle.run_model.specs.World.{on_ledger};
 ghost use Rattle.tx_records.specs.TxLimits.{is_within_limits};
+ghost use Rattle.tx_records.specs.declared.reply.Rule.{Rule};
 
 use coin_frac::NoMemory;
 use ledger_state::LedgerState;
 use std::alloc::Global;
-use tx_records::{Reply, Tx};
-use tx_rule::apply_tx;
+use tx_records::{Reply, Rule, Tx, TxFault};
+use tx_rule::{apply_tx, judge};
 
-/// Why a transaction is not judged. (Own)
+/// Why a transaction would not be accepted, or is not judged. (Own)
 #[derive(Clone, Copy, Debug, PartialEq, Eq)]
 pub enum AskFault {
+    /// The first rule that it breaks.
+    Refused(Rule),
     /// A list is longer, or a number greater, than a record may have.
     BeyondLimits,
     /// Memory ran out.
@@ -29,8 +33,35 @@ impl From<NoMemory> for AskFault {
     }
 }
 
-/// The reply to a transaction, and the ledger after it, which is the one that was given where the reply is a refusal. (Own)
-pub fn ask(alloc: Global, ledger: LedgerState, tx: &Tx) -> Result<(LedgerState, Reply), AskFault>
+impl From<TxFault> for AskFault {
+    ghost use Rattle.wallet.specs.Asking.{fault_of};
+
+    ghost from_gives = { λ error fault. fault ≡ fault_of error };
+
+    fn from(error: TxFault) -> AskFault {
+        match error {
+            TxFault::Refused(rule) => AskFault::Refused(rule),
+            TxFault::NoMemory => AskFault::NoMemory,
+        }
+    }
+}
+
+/// Asks whether a transaction would be accepted, or which rule it breaks first. (Own)
+pub fn ask(alloc: Global, ledger: &LedgerState, tx: &Tx) -> Result<(), AskFault>
+    ensures accepted { IfOk result (λ _. first_broken ledger.now.ledger tx.now ≡ None) }
+    ensures refused { (rule : Rule) → result ≡ Err (AskFault.Refused rule) →
+        first_broken ledger.now.ledger tx.now ≡ Some rule }
+    ensures beyond { result ≡ Err AskFault.BeyondLimits → is_within_limits tx.now ≡ false }
+{
+    if !tx.is_within_limits(alloc)? {
+        return Err(AskFault::BeyondLimits);
+    }
+    judge(alloc, ledger, tx)?;
+    Ok(())
+}
+
+/// The reply to a transaction that is sent, and the ledger after it, which is the one that was given where the reply is a refusal. (Own)
+pub fn send(alloc: Global, ledger: LedgerState, tx: &Tx) -> Result<(LedgerState, Reply), AskFault>
     ensures reply { IfOk result (λ r. r.1 ≡ (tx_step ledger.ledger tx.now).1) }
     ensures ledger { IfOk result (λ r. r.0 ≡ on_ledger (λ l. (tx_step l tx.now).0) ledger) }
     ensures judged { IfOk result (λ _. is_within_limits tx.now ≡ true) }
@@ -51,12 +82,19 @@ pub fn ask(alloc: Global, ledger: LedgerState, tx: &Tx) -> Result<(LedgerState, 
 
 /// What can be asked: a ledger, or a wallet's own around one.
 pub trait Asked: Sized {
-    /// The reply to a transaction, and what is to be asked next.
-    fn answer(self, alloc: Global, tx: &Tx) -> Result<(Self, Reply), AskFault>;
+    /// Whether a transaction would be accepted.
+    fn ask(&self, alloc: Global, tx: &Tx) -> Result<(), AskFault>;
+
+    /// What is to be asked after a transaction that is sent, and the reply to it.
+    fn send(self, alloc: Global, tx: &Tx) -> Result<(Self, Reply), AskFault>;
 }
 
 impl Asked for LedgerState {
-    fn answer(self, alloc: Global, tx: &Tx) -> Result<(LedgerState, Reply), AskFault> {
+    fn ask(&self, alloc: Global, tx: &Tx) -> Result<(), AskFault> {
         ask(alloc, self, tx)
+    }
+
+    fn send(self, alloc: Global, tx: &Tx) -> Result<(LedgerState, Reply), AskFault> {
+        send(alloc, self, tx)
     }
 }

@@ -17,7 +17,7 @@ use start::ledger_of;
 use std::alloc::Global;
 use std::io::{self, Write};
 use transfer::transfer;
-use tx_records::Tx;
+use tx_records::{Reply, Rule, Tx};
 
 /// How many transactions are asked about.
 const QUESTIONS: u64 = 5;
@@ -32,7 +32,8 @@ fn transaction(alloc: Global, question: u64) -> Result<Tx, NoMemory> {
     }
 }
 
-/// What is answered to a question, as a line of text in place of what the buffer held; and what is to be asked next.
+/// What is answered to a question, as a line of text in place of what the buffer held; and what is to be asked next. A
+/// transaction that would be accepted is sent.
 fn answer<A: Asked + Drop>(
     alloc: Global,
     asked: A,
@@ -40,9 +41,22 @@ fn answer<A: Asked + Drop>(
     text: &mut Vec<u8>,
 ) -> Result<A, AskFault> {
     let tx = transaction(alloc, question)?;
-    let (next, reply) = asked.answer(alloc, &tx)?;
+    if let Err(fault) = asked.ask(alloc, &tx) {
+        let rule = refusal(fault)?;
+        reply_line(text, question, &Reply::Refused(rule))?;
+        return Ok(asked);
+    }
+    let (next, reply) = asked.send(alloc, &tx)?;
     reply_line(text, question, &reply)?;
     Ok(next)
+}
+
+/// The rule that is broken, or why nothing was judged.
+fn refusal(fault: AskFault) -> Result<Rule, AskFault> {
+    match fault {
+        AskFault::Refused(rule) => Ok(rule),
+        AskFault::BeyondLimits | AskFault::NoMemory => Err(fault),
+    }
 }
 
 /// Asks about each transaction in turn, and prints what is answered.

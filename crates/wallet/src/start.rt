@@ -10,7 +10,7 @@ use tx_records::{GenesisRule, Record};
 /// Why a line gives no ledger. (Own)
 #[derive(Clone, Copy, Debug, PartialEq, Eq)]
 pub enum StartFault {
-    /// The line is no record: what of it is wrong, or memory ran out before it was read.
+    /// The line is no record: what of it is wrong.
     Unreadable(RecordFault),
     /// It is a record of another kind.
     NoGenesis,
@@ -28,6 +28,7 @@ pub fn ledger_of(alloc: Global, line: &[u8]) -> Result<LedgerState, StartFault>
         Ok(Record::Genesis(genesis)) => genesis,
         Ok(Record::Block { .. } | Record::Rewards(_) | Record::Tx(_) | Record::Print(_)) =>
             return Err(StartFault::NoGenesis),
+        Err(RecordFault::NoMemory) => return Err(StartFault::NoMemory),
         Err(fault) => return Err(StartFault::Unreadable(fault)),
     };
     match LedgerState::from_genesis(alloc, genesis.get(), 1) {

@@ -1,45 +1,18 @@
-use Rattle.std.proofs.Common.{◌≡◌, Result, Ok, Err, ap, sym, subst, ◌∙◌, rules}
+use Rattle.std.proofs.Common.{◌≡◌, Result, Err, sym, subst, rules}
 use Rattle.std.specs.Prelude.{⊤}
 use Rattle.tx_records.specs.declared.reply.TxFault.{TxFault}
-use Rattle.ledger_model.specs.Broken.{body_checks}
-use Rattle.ledger_model.specs.Checks.{first_among}
+use Rattle.ledger_model.specs.Broken.{first_broken}
 use Rattle.ledger_model.specs.Ledger.{Ledger}
-use Rattle.ledger_model.specs.UtxoRules.{unless_failed, utxo_checks}
-use Rattle.draft_changes.specs.Changed.{Changed, laid_over}
-use Rattle.live_ledger.specs.Drafts.{Drafted, draft_of}
-use Rattle.rule_checks.specs.Answered.{IsAnswered, as_fault}
-use Rattle.tx_rule.specs.Judged.{IsJudged}
-use Rattle.tx_rule.proofs.Certified.{faulted}
-use Rattle.tx_rule.proofs.Judged.{answered, answered_later, passed, two_groups}
+use Rattle.rule_checks.specs.Answered.{IsAnswered}
+use Rattle.tx_rule.proofs.Stepped.{same_broken}
 use Rattle.tx_rule.proofs.judge.Goals as goal
 
-pub returns-in_err-as_fault : goal.returns-in_err-as_fault
-returns-in_err-as_fault c =
-    let l = c.args.s.now.ledger in
-    let tx = c.args.tx.now in
-    let is : c.from_residual.result ≡ Err c.in_err-as_fault.field-0.0 = search rules in
-    let rule =
-    subst (λ (r : Result ⊤ TxFault). IsAnswered (first_among (utxo_checks l tx)) r) (sym (c.in_err-as_fault.ensures ∙ ap as_fault c.check.ensures)) (answered (first_among (utxo_checks l tx))) in
-    subst (λ (x : Result Changed TxFault). IsJudged x l tx) (sym is) (faulted _ _ _ _ (two_groups l tx) rule)
-
-pub returns-in_err-judge_body : goal.returns-in_err-judge_body
-returns-in_err-judge_body c =
-    let l = c.args.s.now.ledger in
-    let tx = c.args.tx.now in
-    let is : c.from_residual-in_err-judge_body.result ≡ Err c.in_err-judge_body.field-0.0 = search rules in
-    let rule = subst (λ (d : Drafted). IsAnswered (first_among (unless_failed tx.scripts (body_checks d.start tx))) (Err c.in_err-judge_body.field-0.0)) c.new-draft.ensures c.in_err-judge_body.ensures.rule in
-    subst (λ (x : Result Changed TxFault). IsJudged x l tx) (sym is)
-    (answered_later _ _ _ (Err c.in_err-judge_body.field-0.0) (two_groups l tx) (passed _ (c.in_ok-as_fault.ensures ∙ ap as_fault c.check.ensures)) rule)
+pub returns-in_err-_changes : goal.returns-in_err-_changes
+returns-in_err-_changes c =
+    let is : c.from_residual.result ≡ Err c.in_err-_changes.field-0.0 = search rules in
+    let by_live : IsAnswered (first_broken c.args.s.now.ledger c.args.tx.now) (Err c.in_err-_changes.field-0.0) =
+    subst (λ (l : Ledger). IsAnswered (first_broken l c.args.tx.now) (Err c.in_err-_changes.field-0.0)) c.live.ensures.ledger c.in_err-_changes.ensures in
+    record { rule = subst (λ (r : Result ⊤ TxFault). IsAnswered (first_broken c.args.s.now.ledger c.args.tx.now) r) (sym is) by_live }
 
 pub returns : goal.returns
-returns c =
-    let l = c.args.s.now.ledger in
-    let tx = c.args.tx.now in
-    let rule = subst (λ (d : Drafted). IsAnswered (first_among (unless_failed tx.scripts (body_checks d.start tx))) (Ok tt)) c.new-draft.ensures c.in_ok-judge_body.ensures.rule in
-    let at_start : c.new-draft.result.start ≡ l = ap (λ (d : Drafted). d.start) c.new-draft.ensures in (
-      answered_later _ _ _ (Ok tt) (two_groups l tx) (passed _ (c.in_ok-as_fault.ensures ∙ ap as_fault c.check.ensures)) rule,
-      ap (λ (x : Ledger). laid_over c.into_changes.result x) (sym (c.in_ok-judge_body.ensures.start ∙ at_start))
-          ∙ c.into_changes.ensures
-          ∙ c.in_ok-judge_body.ensures.ledger
-          ∙ ap (λ (x : Ledger). draft_of x tx) at_start,
-    )
+returns c = record { rule = same_broken _ _ c.args.tx.now _ c.live.ensures.ledger c.in_ok-_changes.ensures.0 }
