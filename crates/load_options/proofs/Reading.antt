@@ -20,14 +20,6 @@ both_true : (b : Bool) → (b && true && true) ≡ b
 both_true true = refl
 both_true false = refl
 
--- a text of too many bytes says none
-pub too_long : (low high : ℕ) (text : List ℕ) → 20 < length text → number_in low high text ≡ None
-too_long low high text long = rw (lt-leb (length text) 20 long, and_false (nat_le 1 (length text))) refl
-
--- one with another byte says none
-pub no_digits : (low high : ℕ) (text : List ℕ) → list_all is_ascii_digit text ≡ false → number_in low high text ≡ None
-no_digits low high text other = rw (other, and_false (nat_le 1 (length text) && nat_le (length text) 20)) refl
-
 -- a number that is too great for 64 bits is above the bound
 above : (low high v : ℕ) (b : Bool) → nat_lt v (2 ^ 64) ≡ b → high < 2 ^ 64 → ¬ (v < 2 ^ 64) → within low high v ≡ None
 above low high v true e small wide = absurd (wide (ltb-true v (2 ^ 64) e))

@@ -1,3 +1,4 @@
 pub mod Options
 pub mod Numbers
+pub mod Workers
 pub mod Command

@@ -1,8 +1,10 @@
-//! The words of the command `load`, and what they ask for.
+//! The words of the commands, and what they ask for.
 #![tactic(auto)]
 
 mod command;
 mod number;
 mod options;
+mod workers;
 
 pub use command::{LoadCommand, MOST_ACCOUNTS, MOST_EPOCHS, load_command};
+pub use workers::{MOST_WORKERS, replay_workers};

@@ -1,11 +1,11 @@
 //! Options as they are written.
-ghost use Rattle.std.specs.Prelude.{◌≡◌, [], MatchOption, option_copied};
-ghost use Rattle.std.specs.List.{list_all};
+ghost use Rattle.std.specs.Prelude.{◌≡◌, [], MatchOption, bytes_eq, option_copied};
+ghost use Rattle.std.specs.List.{list_all, list_any};
 ghost use Rattle.load_options.specs.Command.{is_option_name};
 ghost use Rattle.load_options.specs.Options.{BeginsWith, numbers_after, options_of, the_one};
 
 /// The name and the number of the first option, and the words after it.
-fn first_option(words: &[String]) -> Option<(&str, &str, &[String])>
+pub(crate) fn first_option(words: &[String]) -> Option<(&str, &str, &[String])>
     ensures { MatchOption result (words.now ≡ []) (λ o. BeginsWith words.now o.0.now o.1.now o.2.now) }
 {
     let (first, others) = words.split_first()?;
@@ -19,11 +19,11 @@ fn first_option(words: &[String]) -> Option<(&str, &str, &[String])>
     }
 }
 
-/// Whether a name is that of an option.
+/// Whether a name is that of an option of `load`.
 fn is_known(name: &str) -> bool
     ensures { result ≡ is_option_name name.now }
 {
-    name == "--seed" || name == "--accounts" || name == "--epochs"
+    name == "--seed" || name == "--accounts" || name == "--epochs" || name == "--workers"
 }
 
 /// Whether all options that the words are have such names.
@@ -38,6 +38,20 @@ pub(crate) fn are_known(words: &[String]) -> bool
         left = after;
     }
     true
+}
+
+/// Whether an option has the name.
+pub(crate) fn has_option(words: &[String], name: &str) -> bool
+    ensures { result ≡ list_any (λ option. bytes_eq option.0 name.now) (options_of words.now) }
+{
+    let mut left = words;
+    while let Some((other, _number, after)) = first_option(left) {
+        if other == name {
+            return true;
+        }
+        left = after;
+    }
+    false
 }
 
 /// The number after a name, where the name stands once among the options that the words are.

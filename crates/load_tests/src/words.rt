@@ -1,44 +1,107 @@
 //! The words of the command, good ones and wrong ones.
 use coin_frac::NoMemory;
-use load_options::{LoadCommand, load_command};
+use load_options::{LoadCommand, load_command, replay_workers};
 use std::alloc::Global;
 use std::test::Fail;
 
-/// What the words of a text ask for: each word ends at a space, so that two spaces stand around an empty one.
-fn asked(alloc: Global, text: &str) -> Result<Option<LoadCommand>, NoMemory> {
+/// The words of a text: each ends at a space, so that two spaces stand around an empty one.
+fn words_of(alloc: Global, text: &str) -> Result<Vec<String>, NoMemory> {
     let mut words = Vec::new(alloc);
     for word in text.split(' ') {
         words.push(String::from_str(alloc, word)?)?;
     }
-    Ok(load_command(words.as_slice()))
+    Ok(words)
 }
 
+/// What the words of a text ask for.
+fn asked(alloc: Global, text: &str) -> Result<Option<LoadCommand>, NoMemory> {
+    Ok(load_command(words_of(alloc, text)?.as_slice()))
+}
+
+/// Words of a replay, with the number of workers, and words that are none.
+const REPLAYS: [(&str, Option<u32>); 18] = [
+    ("replay", Some(1)),
+    ("replay --workers 1", Some(1)),
+    ("replay --workers 64", Some(64)),
+    ("replay --workers=64", Some(64)),
+    ("replay --workers=08", Some(8)),
+    ("", None),
+    ("load", None),
+    ("Replay", None),
+    ("replay x", None),
+    ("replay --workers", None),
+    ("replay --workers=", None),
+    ("replay --workers 0", None),
+    ("replay --workers 65", None),
+    ("replay --workers 2 --workers 2", None),
+    ("replay --workers=2 --workers=2", None),
+    ("replay --workers 2 x", None),
+    ("replay --seed 2", None),
+    ("--workers 2 replay", None),
+];
+
 /// Good words, with their numbers.
-const GOOD: [(&str, u64, u32, u32); 10] = [
-    ("load --seed 7 --accounts 4 --epochs 2", 7, 4, 2),
-    ("load --seed 7 --epochs 2 --accounts 4", 7, 4, 2),
-    ("load --accounts 4 --seed=7 --epochs 2", 7, 4, 2),
-    ("load --accounts=4 --epochs=2 --seed 7", 7, 4, 2),
-    ("load --epochs 2 --seed 7 --accounts=4", 7, 4, 2),
-    ("load --epochs=2 --accounts=4 --seed=7", 7, 4, 2),
-    ("load --seed 1 --accounts 100000 --epochs 5", 1, 100_000, 5),
-    ("load --seed 0 --accounts 1 --epochs 1", 0, 1, 1),
+const GOOD: [(&str, u64, u32, u32, u32); 14] = [
+    ("load --seed 7 --accounts 4 --epochs 2", 7, 4, 2, 1),
+    ("load --seed 7 --epochs 2 --accounts 4", 7, 4, 2, 1),
+    ("load --accounts 4 --seed=7 --epochs 2", 7, 4, 2, 1),
+    ("load --accounts=4 --epochs=2 --seed 7", 7, 4, 2, 1),
+    ("load --epochs 2 --seed 7 --accounts=4", 7, 4, 2, 1),
+    ("load --epochs=2 --accounts=4 --seed=7", 7, 4, 2, 1),
+    (
+        "load --seed 1 --accounts 100000 --epochs 5",
+        1,
+        100_000,
+        5,
+        1,
+    ),
+    ("load --seed 0 --accounts 1 --epochs 1", 0, 1, 1, 1),
     (
         "load --seed 18446744073709551615 --accounts 1000000 --epochs 100",
         18_446_744_073_709_551_615,
         1_000_000,
         100,
+        1,
     ),
     (
         "load --seed 00000000000000000007 --accounts=00000000000000000004 --epochs 02",
         7,
         4,
         2,
+        1,
+    ),
+    (
+        "load --seed 7 --accounts 4 --epochs 2 --workers 1",
+        7,
+        4,
+        2,
+        1,
+    ),
+    (
+        "load --workers 64 --seed 7 --accounts 4 --epochs 2",
+        7,
+        4,
+        2,
+        64,
+    ),
+    (
+        "load --seed 7 --workers=8 --accounts 4 --epochs 2",
+        7,
+        4,
+        2,
+        8,
+    ),
+    (
+        "load --seed=7 --accounts=4 --workers=2 --epochs=2",
+        7,
+        4,
+        2,
+        2,
     ),
 ];
 
 /// Words that are no load command.
-const WRONG: [&str; 36] = [
+const WRONG: [&str; 40] = [
     "",
     "load",
     "replay",
@@ -57,7 +120,11 @@ const WRONG: [&str; 36] = [
     "load --seed 7 --accounts 4 --epochs 2 7",
     "load --seed 7 --accounts 4 --epochs 2 --slots 7",
     "load --seed 7 --accounts 4 --epochs 2 --slots=7",
-    "load --seed 7 --accounts 4 --epochs 2 --workers 1",
+    "load --seed 7 --accounts 4 --epochs 2 --workers",
+    "load --seed 7 --accounts 4 --epochs 2 --workers 0",
+    "load --seed 7 --accounts 4 --epochs 2 --workers 65",
+    "load --seed 7 --accounts 4 --epochs 2 --workers 1 --workers 1",
+    "load --seed 7 --accounts 4 --workers 1",
     "load --seed 000000000000000000007 --accounts 4 --epochs 2",
     "load --seed 18446744073709551616 --accounts 4 --epochs 2",
     "load --seed 7 --accounts 0 --epochs 2",
@@ -79,13 +146,23 @@ const WRONG: [&str; 36] = [
 
 #[test]
 fn good_words(rt: HostRuntime) -> Result<(), Fail> {
-    for (text, seed, accounts, epochs) in GOOD {
+    for (text, seed, accounts, epochs, workers) in GOOD {
         let want = Some(LoadCommand {
             seed,
             accounts,
             epochs,
+            workers,
         });
         assert_eq!(rt; asked(rt.alloc(), text)?, want, "{text}");
+    }
+    Ok(())
+}
+
+#[test]
+fn replays(rt: HostRuntime) -> Result<(), Fail> {
+    for (text, workers) in REPLAYS {
+        let words = words_of(rt.alloc(), text)?;
+        assert_eq!(rt; replay_workers(words.as_slice()), workers, "{text}");
     }
     Ok(())
 }
