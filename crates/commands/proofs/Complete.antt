@@ -1,5 +1,6 @@
 -- A run that meets no fault is done, unless memory runs out.
-use Rattle.std.proofs.Common.{◌≡◌, ℕ, ◌+◌, ◌<◌, ◌≤◌, ◌⊎◌, List, Option, Some, None, length, refl, sym, ap, ◌∙◌, arith, inr}
+use Rattle.std.proofs.Common.{◌≡◌, ℕ, ◌+◌, ◌<◌, ◌≤◌, ◌⊎◌, true, List, Option, Some, None, Result, Ok, Err, length, refl, sym, ap, ◌∙◌, arith, inl, inr}
+use Rattle.std.specs.Prelude.{String, ⊤}
 use Rattle.std.proofs.lemmas.List.{length-append}
 use Rattle.commands.specs.declared.fault.ReplayFault.{ReplayFault}
 use Rattle.commands.specs.declared.fault.ReplayFault.TheVariants as faults
@@ -7,7 +8,12 @@ use Rattle.commands.specs.declared.status.Status.TheVariants as statuses
 use Rattle.commands.specs.Endings.{IsReplayed}
 use Rattle.record_stream.specs.Records.{records_of}
 use Rattle.commands.specs.Runs.{start_fault}
-use Rattle.commands.specs.Statuses.{status_of_fault}
+use Rattle.commands.specs.Inputs.{HasGoodInput}
+use Rattle.commands.specs.Statuses.{status_by, status_of_fault}
+use Rattle.std.specs.declared.alloc.Global.{Global}
+use Rattle.byte_lines.specs.Faults.{Rose}
+use Rattle.commands.specs.Commands.{is_replay_command}
+use Rattle.commands.proofs.Words.{not_load}
 use Rattle.tx_records.specs.declared.limits.TheConstants.{STREAM_LIMIT}
 
 pub done_or_memory : (fault : ReplayFault) (bytes : List ℕ) (left had has : Option (List ℕ)) → IsReplayed (status_of_fault fault) bytes left had has
@@ -21,3 +27,19 @@ done_or_memory faults.TooMuch bytes left had has replayed good short read write 
     let over : STREAM_LIMIT < length replayed.come.came = replayed.too_much.0 refl in
     let all : length bytes ≡ length replayed.come.came + length replayed.come.rest = ap length replayed.come.cut ∙ length-append replayed.come.came replayed.come.rest in
     absurd (omega arith)
+
+-- so of what a replay answers
+pub replay_done : (r : Result ⊤ ReplayFault) (bytes : List ℕ) (left had has : Option (List ℕ)) → IsReplayed (status_by r) bytes left had has
+    → start_fault (records_of bytes) ≡ None → length bytes ≤ STREAM_LIMIT → (r ≡ Err faults.ReadFault → ⊥) → (r ≡ Err faults.WriteFault → ⊥)
+    → (status_by r ≡ statuses.Done) ⊎ (status_by r ≡ statuses.NoMemory)
+replay_done (Ok done) bytes left had has replayed good short read write = inl refl
+replay_done (Err fault) bytes left had has replayed good short read write =
+    done_or_memory fault bytes left had has replayed good short (λ is. read (ap Err is)) (λ is. write (ap Err is))
+
+-- so of the command, where its input is good
+pub replay_completes : (words : List (String Global)) (r : Result ⊤ ReplayFault) (left left' had has : Option (List ℕ)) (faulty faulty' : ℕ) → is_replay_command words ≡ true
+    → ((bytes : List ℕ) → left ≡ Some bytes → IsReplayed (status_by r) bytes left' had has) → (r ≡ Err faults.ReadFault → Rose faulty faulty') → (r ≡ Err faults.WriteFault → ⊥)
+    → HasGoodInput words left faulty faulty' → (status_by r ≡ statuses.Done) ⊎ (status_by r ≡ statuses.NoMemory)
+replay_completes words r left left' had has faulty faulty' named replays read write (inl good) =
+    replay_done r good.1.bytes left' had has (replays good.1.bytes good.1.told) good.1.start good.1.short (λ is. good.1.unfailing (read is)) write
+replay_completes words r left left' had has faulty faulty' named replays read write (inr load) = absurd (not_load words named load)

@@ -1,5 +1,5 @@
 -- What is judged of a record is what the definitions of the whole ledger say of it.
-use Rattle.std.proofs.Common.{◌≡◌, ℕ, ◌+◌, ◌/◌, ◌==◌, [], ◌∷◌, ◌++◌, List, Bool, true, false, Option, Some, None, Err, nat_le, nat_lt, refl, ap, sym, ◌∙◌, arith}
+use Rattle.std.proofs.Common.{◌≡◌, ℕ, ◌+◌, ◌/◌, ◌==◌, [], ◌∷◌, Bool, true, false, Option, Some, None, Err, nat_le, nat_lt, refl, ap, sym, ◌∙◌, arith}
 use Rattle.std.proofs.lemmas.Bool.{eqb-true, le-ltb, ne_eqb}
 use Rattle.ledger_model.specs.Broken.{first_broken}
 use Rattle.ledger_model.specs.Checks.{breaks, breaks_keeping, first_among}
@@ -11,12 +11,8 @@ use Rattle.ledger_state.specs.Blocks.{block_answer}
 use Rattle.run_laws.proofs.GoodBlock.{boundary_epoch, boundary_length, update_only}
 use Rattle.run_model.specs.Boundary.{world_after_boundary}
 use Rattle.run_model.specs.Report.{report_of}
-use Rattle.run_model.specs.Step.{block_checks, crossed, enters_next, epoch_at, pulsed, step, step_by, world_after_accepted, world_after_block}
+use Rattle.run_model.specs.Step.{block_checks, crossed, enters_next, epoch_at, pulsed, step, step_by, world_after_block}
 use Rattle.run_model.specs.World.{World, on_ledger}
-use Rattle.text_model.specs.EpochLines.{epoch_lines}
-use Rattle.text_model.specs.Replies.{block_words, reply_words}
-use Rattle.text_model.specs.Runs.{crossing_lines, lines_by, world_after_reading}
-use Rattle.text_model.specs.Words.{Text}
 use Rattle.tx_records.specs.declared.record.Reading.TheVariants.{Read}
 use Rattle.tx_records.specs.declared.record.Record.TheVariants as records
 use Rattle.tx_records.specs.declared.record.Rewards.{Rewards}
@@ -28,7 +24,9 @@ use Rattle.tx_records.specs.declared.report.Pots.{Pots}
 use Rattle.tx_records.specs.declared.rules.TheConstants.{EPOCH_SKIPPED, SLOT_NOT_LATER, ZERO_PULSE}
 use Rattle.tx_records.specs.declared.tx.Tx.{Tx}
 use Rattle.commands.specs.Answers.{IsJudged}
-use Rattle.commands.specs.declared.outcome.Outcome.TheVariants.{Answered, Block, Crossed}
+use Rattle.commands.specs.Outcomes.{block_outcome, outcome_by}
+use Rattle.commands.specs.declared.outcome.Outcome.{Outcome}
+use Rattle.commands.specs.declared.outcome.Outcome.TheVariants.{Answered, Crossed}
 
 -- ---- a transaction
 
@@ -36,35 +34,34 @@ world_by : (found : Option Rule) (w : World) (tx : Tx) → record w { ledger = (
 world_by (Some rule) w tx = refl
 world_by None w tx = refl
 
--- it is answered with one line, that of its reply
-line_of_tx : (reply : Reply) (w v : World) (tx : Tx) → lines_by reply (records.Tx tx) w v ≡ reply_words reply ∷ []
-line_of_tx Accepted w v tx = refl
-line_of_tx AcceptedFailedScripts w v tx = refl
-line_of_tx (Refused rule) w v tx = refl
+-- it comes to its reply
+tx_comes : (reply : Reply) (tx : Tx) (w : World) → outcome_by reply (records.Tx tx) w ≡ Answered reply
+tx_comes Accepted tx w = refl
+tx_comes AcceptedFailedScripts tx w = refl
+tx_comes (Refused rule) tx w = refl
 
-lines_of_tx : (found : Option Rule) (w : World) (tx : Tx)
-    → lines_by (step_by found w (records.Tx tx)).1 (records.Tx tx) w (step_by found w (records.Tx tx)).0 ≡ reply_words (tx_step_by found w.ledger tx).1 ∷ []
-lines_of_tx (Some rule) w tx = refl
-lines_of_tx None w tx = line_of_tx (accepted_as tx.scripts) w (world_after_accepted w (records.Tx tx)) tx
+tx_answered : (found : Option Rule) (w : World) (tx : Tx) → outcome_by (step_by found w (records.Tx tx)).1 (records.Tx tx) w ≡ Answered (tx_step_by found w.ledger tx).1
+tx_answered (Some rule) w tx = refl
+tx_answered None w tx = tx_comes (accepted_as tx.scripts) tx w
 
 pub tx_judged : (w : World) (tx : Tx) (after : World) (reply : Reply) → after ≡ on_ledger (λ l. (tx_step l tx).0) w → reply ≡ (tx_step w.ledger tx).1
     → IsJudged w (Read (records.Tx tx)) (after, Answered reply)
 tx_judged w tx after reply is says = (
   is ∙ world_by (first_broken w.ledger tx) w tx,
-  ap (λ (x : Reply). reply_words x ∷ []) says ∙ sym (lines_of_tx (first_broken w.ledger tx) w tx),
+  ap Answered says ∙ sym (tx_answered (first_broken w.ledger tx) w tx),
 )
 
 -- ---- a reward update
 
-line_of_rewards : (reply : Reply) (w v : World) (u : Rewards) → lines_by reply (records.Rewards u) w v ≡ reply_words reply ∷ []
-line_of_rewards Accepted w v u = refl
-line_of_rewards AcceptedFailedScripts w v u = refl
-line_of_rewards (Refused rule) w v u = refl
+rewards_come : (reply : Reply) (u : Rewards) (w : World) → outcome_by reply (records.Rewards u) w ≡ Answered reply
+rewards_come Accepted u w = refl
+rewards_come AcceptedFailedScripts u w = refl
+rewards_come (Refused rule) u w = refl
 
 pub rewards_judged : (w : World) (u : Rewards) (p : World × Reply) → p ≡ step w (records.Rewards u) → IsJudged w (Read (records.Rewards u)) (p.0, Answered p.1)
 rewards_judged w u p is = (
   ap (λ (x : World × Reply). x.0) is,
-  ap (λ (x : World × Reply). reply_words x.1 ∷ []) is ∙ sym (line_of_rewards (step w (records.Rewards u)).1 w (step w (records.Rewards u)).0 u),
+  ap (λ (x : World × Reply). Answered x.1) is ∙ sym (rewards_come (step w (records.Rewards u)).1 u w),
 )
 
 -- ---- a block that breaks a rule
@@ -73,32 +70,23 @@ pub block_refused : (w : World) (slot pulse : ℕ) (rule : Rule) → Err rule �
 block_refused w slot pulse rule e =
     let is = step_refused w (records.Block slot pulse) rule (not_entered (first_among (block_checks w.ledger slot pulse)) (enters_next w.ledger slot) rule e) in (
       sym (ap (λ (x : World × Reply). x.0) is),
-      sym (ap (λ (x : World × Reply). lines_by x.1 (records.Block slot pulse) w x.0) is),
+      sym (ap (λ (x : World × Reply). outcome_by x.1 (records.Block slot pulse) w) is),
     )
 
 -- ---- a block that breaks none
 
--- by the World that it leaves and the lines of the boundary
-accepted_by : (w : World) (slot pulse : ℕ) (after : World) (first : List (List Text)) → first_among (block_checks w.ledger slot pulse) ≡ None
-    → after ≡ world_after_block w slot pulse → first ≡ crossing_lines (enters_next w.ledger slot) w
-    → (after ≡ world_after_reading w (Read (records.Block slot pulse)))
-    × (first ++ block_words after ∷ [] ≡ lines_by (step w (records.Block slot pulse)).1 (records.Block slot pulse) w (step w (records.Block slot pulse)).0)
-accepted_by w slot pulse after first none is lines =
+-- by the World that it leaves, and whether its slot is in the next epoch
+accepted_by : (w : World) (slot pulse : ℕ) (after : World) (outcome : Outcome) → first_among (block_checks w.ledger slot pulse) ≡ None
+    → after ≡ world_after_block w slot pulse → outcome ≡ block_outcome (enters_next w.ledger slot) w → IsJudged w (Read (records.Block slot pulse)) (after, outcome)
+accepted_by w slot pulse after outcome none is comes =
     let all = step_accepted w (records.Block slot pulse) none in (
       is ∙ sym (ap (λ (x : World × Reply). x.0) all),
-      ap (λ (ls : List (List Text)). ls ++ block_words after ∷ []) lines
-          ∙ ap (λ (v : World). crossing_lines (enters_next w.ledger slot) w ++ block_words v ∷ []) is
-          ∙ sym (ap (λ (x : World × Reply). lines_by x.1 (records.Block slot pulse) w x.0) all),
+      comes ∙ sym (ap (λ (x : World × Reply). outcome_by x.1 (records.Block slot pulse) w) all),
     )
 
 -- what it leaves where its slot is not in the next epoch
 left_by : (w : World) (slot pulse : ℕ) (p : World × Reply) → p ≡ step w (records.Block slot pulse) → first_among (block_checks w.ledger slot pulse) ≡ None → p.0 ≡ world_after_block w slot pulse
 left_by w slot pulse p is none = ap (λ (x : World × Reply). x.0) (is ∙ step_accepted w (records.Block slot pulse) none)
-
-pub within_judged : (w : World) (slot pulse : ℕ) (p : World × Reply) → p ≡ step w (records.Block slot pulse) → first_among (block_checks w.ledger slot pulse) ≡ None → enters_next w.ledger slot ≡ false
-    → IsJudged w (Read (records.Block slot pulse)) (p.0, Block)
-within_judged w slot pulse p is none stays =
-    accepted_by w slot pulse p.0 [] none (left_by w slot pulse p is none) (sym (ap (λ (b : Bool). crossing_lines b w) stays))
 
 -- ---- a block after the boundary of its epoch
 
@@ -152,12 +140,12 @@ left_after w v slot pulse p is none stays begun enters =
     ∙ ap (λ (x : World). pulsed slot pulse x) begun
     ∙ sym (ap (λ (b : Bool). pulsed slot pulse (crossed b w)) enters)
 
-crossing_are : (w v : World) (slot : ℕ) (report : EpochReport) (pots : Pots) → v ≡ world_after_boundary w → report ≡ report_of w → pots ≡ pots_of v.ledger → enters_next w.ledger slot ≡ true
-    → epoch_lines report pots ≡ crossing_lines (enters_next w.ledger slot) w
-crossing_are w v slot report pots is reports hold enters =
-    ap (λ (x : EpochReport). epoch_lines x pots) reports
-    ∙ ap (λ (x : Pots). epoch_lines (report_of w) x) (hold ∙ ap (λ (x : World). pots_of x.ledger) is)
-    ∙ sym (ap (λ (b : Bool). crossing_lines b w) enters)
+crossing_comes : (w v : World) (slot : ℕ) (report : EpochReport) (pots : Pots) → v ≡ world_after_boundary w → report ≡ report_of w → pots ≡ pots_of v.ledger → enters_next w.ledger slot ≡ true
+    → Crossed report pots ≡ block_outcome (enters_next w.ledger slot) w
+crossing_comes w v slot report pots is reports hold enters =
+    ap (λ (x : EpochReport). Crossed x pots) reports
+    ∙ ap (λ (x : Pots). Crossed (report_of w) x) (hold ∙ ap (λ (x : World). pots_of x.ledger) is)
+    ∙ sym (ap (λ (b : Bool). block_outcome b w) enters)
 
 pub crossing_judged : (w v : World) (slot pulse : ℕ) (report : EpochReport) (pots : Pots) (p : World × Reply)
     → v ≡ world_after_boundary w → report ≡ report_of w → pots ≡ pots_of v.ledger → p ≡ step v (records.Block slot pulse)
@@ -167,6 +155,6 @@ crossing_judged w v slot pulse report pots p is reports hold stepped none enters
     let begun = just_begun w slot enters in
     let after_none : first_among (block_checks v.ledger slot pulse) ≡ None =
     ap (λ (x : World). first_among (block_checks x.ledger slot pulse)) is ∙ begun_flags w.ledger (world_after_boundary w).ledger slot pulse begun none in
-    accepted_by w slot pulse p.0 (epoch_lines report pots) none
+    accepted_by w slot pulse p.0 (Crossed report pots) none
     (left_after w v slot pulse p stepped after_none (stays_after w v slot pulse is enters) is enters)
-    (crossing_are w v slot report pots is reports hold enters)
+    (crossing_comes w v slot report pots is reports hold enters)

@@ -1,6 +1,7 @@
 -- The number with which a run ends says how, and a fault of the sink is no fault of the source.
-use Rattle.std.proofs.Common.{◌≡◌, ℕ, Result, Ok, Err, ap, refl, sym, ◌∙◌, arith}
+use Rattle.std.proofs.Common.{◌≡◌, ℕ, Option, Some, None, Result, Ok, Err, ap, refl, sym, ◌∙◌, arith}
 use Rattle.std.specs.Prelude.{⊤, IsErr, IsErrAnd}
+use Rattle.std.specs.Option.{ok_or}
 use Rattle.byte_lines.specs.Faults.{CountsFaults}
 use Rattle.byte_lines.specs.declared.lines.LineFault.{LineFault}
 use Rattle.byte_lines.specs.declared.lines.LineFault.TheVariants as line_faults
@@ -114,9 +115,11 @@ line_not_write line_faults.ReadFault r is h = cc
 line_not_write line_faults.TooMuch r is h = cc
 line_not_write line_faults.NoMemory r is h = cc
 
--- want of a genesis is no fault of the source or the sink
-pub missing_not_read : {value : Type 0} (r : Result value ReplayFault) (cause : GenesisCause) → r ≡ Err (faults.BadGenesis cause) → r ≡ Err faults.ReadFault → ⊥
-missing_not_read r cause is h = cc
+-- want of a genesis is no fault of the source, nor of who hears
+pub end_not_read : {value : Type 0} (o : Option value) (cause : GenesisCause) → ok_or o (faults.BadGenesis cause) ≡ Err faults.ReadFault → ⊥
+end_not_read None cause h = cc
+end_not_read (Some x) cause h = cc
 
-pub missing_not_write : {value : Type 0} (r : Result value ReplayFault) (cause : GenesisCause) → r ≡ Err (faults.BadGenesis cause) → r ≡ Err faults.WriteFault → ⊥
-missing_not_write r cause is h = cc
+pub end_not_write : {value : Type 0} (o : Option value) (cause : GenesisCause) → ok_or o (faults.BadGenesis cause) ≡ Err faults.WriteFault → ⊥
+end_not_write None cause h = cc
+end_not_write (Some x) cause h = cc

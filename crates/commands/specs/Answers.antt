@@ -1,12 +1,11 @@
--- What answering a record gives: the World that the record leaves, and its lines, by the definitions of the whole ledger. (Own)
-use Rattle.std.specs.Prelude.{◌≡◌, List, [], ◌∷◌, Option, Some, None, Result, Ok, Err, ⊤, codes}
+-- What answering a record gives: the World that the record leaves, and what the record comes to, by the definitions of the
+-- whole ledger. (Own)
+use Rattle.std.specs.Prelude.{◌≡◌, Option, Some, None, Result, Ok, Err, ⊤, option_map, true}
 use Rattle.coin_frac.specs.declared.NoMemory.{NoMemory}
-use Rattle.ledger_model.specs.Supply.{pots_of}
+use Rattle.record_stream.specs.Records.{is_within}
 use Rattle.run_model.specs.Genesis.{genesis_fault, world_of_genesis}
 use Rattle.run_model.specs.World.{World}
-use Rattle.text_model.specs.Replies.{pots_words}
-use Rattle.text_model.specs.Runs.{reading_lines, world_after_reading}
-use Rattle.text_model.specs.Words.{Text}
+use Rattle.text_model.specs.Runs.{world_after_reading}
 use Rattle.tx_records.specs.declared.genesis.Genesis.{Genesis}
 use Rattle.tx_records.specs.declared.record.Reading.{Reading}
 use Rattle.tx_records.specs.declared.record.Reading.TheVariants.{Read}
@@ -14,17 +13,12 @@ use Rattle.tx_records.specs.declared.record.Record.TheVariants as records
 use Rattle.commands.specs.declared.fault.AnswerFault.{AnswerFault}
 use Rattle.commands.specs.declared.fault.AnswerFault.TheVariants as faults
 use Rattle.commands.specs.declared.outcome.Outcome.{Outcome}
-use Rattle.commands.specs.Outcomes.{outcome_lines}
+use Rattle.commands.specs.Outcomes.{genesis_outcome, outcome_of}
 use Rattle.commands.specs.Runs.{genesis_cause, reading_fault}
-
--- the line that a genesis is answered with
-abbrev pub genesis_lines : Genesis → List (List Text)
-genesis_lines g = pots_words (codes "genesis") (pots_of (world_of_genesis g).ledger) ∷ []
 
 -- the World of a genesis and its pots, or the cause for which there is none
 abbrev pub Begins : Genesis → Result (World × Outcome) AnswerFault → Type 0
-Begins g (Ok (w, outcome)) =
-    (genesis_fault g ≡ None) × (w ≡ world_of_genesis g) × (outcome_lines w outcome ≡ genesis_lines g)
+Begins g (Ok (w, outcome)) = (genesis_fault g ≡ None) × (w ≡ world_of_genesis g) × (outcome ≡ genesis_outcome g)
 Begins g (Err (faults.BadGenesis cause)) = genesis_cause g ≡ Some cause
 Begins g (Err faults.NoMemory) = ⊤
 
@@ -34,24 +28,14 @@ BeginsWith r (Ok p) = (g : Genesis) × (r ≡ Read (records.Genesis g)) × Begin
 BeginsWith r (Err (faults.BadGenesis cause)) = reading_fault r ≡ Some cause
 BeginsWith r (Err faults.NoMemory) = ⊤
 
--- the World after what was read, and its lines
+-- the World after what was read, and what that comes to
 abbrev pub IsJudged : World → Reading → World × Outcome → Type 0
-IsJudged w r (after, outcome) = (after ≡ world_after_reading w r) × (outcome_lines after outcome ≡ reading_lines w r)
+IsJudged w r (after, outcome) = (after ≡ world_after_reading w r) × (outcome ≡ outcome_of w r)
 
 -- the same, but where memory ran out
 abbrev pub Judges : World → Reading → Result (World × Outcome) NoMemory → Type 0
 Judges w r (Ok p) = IsJudged w r p
 Judges w r (Err e) = ⊤
-
--- what was read first gives a state with such a World, or there is a cause for which there is none
-abbrev pub BeginsAs : {State : Type 0} → (State → World) → Reading → Result (State × Outcome) AnswerFault → Type 0
-BeginsAs world r (Ok (after, outcome)) = BeginsWith r (Ok (world after, outcome))
-BeginsAs world r (Err fault) = BeginsWith r (Err fault)
-
--- what was read next gives a state with such a World, but where memory ran out
-abbrev pub JudgesAs : {State : Type 0} → (State → World) → World → Reading → Result (State × Outcome) NoMemory → Type 0
-JudgesAs world w r (Ok (after, outcome)) = IsJudged w r (world after, outcome)
-JudgesAs world w r (Err e) = ⊤
 
 -- the answer to what was read; there is no ledger before the genesis
 abbrev pub Answers : Option World → Reading → Result (World × Outcome) AnswerFault → Type 0
@@ -59,3 +43,15 @@ Answers None r result = BeginsWith r result
 Answers (Some w) r (Ok p) = IsJudged w r p
 Answers (Some w) r (Err (faults.BadGenesis cause)) = ⊥
 Answers (Some w) r (Err faults.NoMemory) = ⊤
+
+-- the same for states with such Worlds
+abbrev pub AnswersAs : {State : Type 0} → (State → World) → Option World → Reading → Result (State × Outcome) AnswerFault → Type 0
+AnswersAs world before r (Ok (after, outcome)) = Answers before r (Ok (world after, outcome))
+AnswersAs world before r (Err fault) = Answers before r (Err fault)
+
+-- what may be asked of a function that answers, and what it gives: of whatever is within its limits, states with the Worlds
+-- that are asked for
+pub record AnswersEach {State : Type 0} (world : State → World) (pre : Option State → Reading → Type 0) (post : Option State → Reading → Result (State × Outcome) AnswerFault → Type 0) : Type 0 where
+  pub asked : (before : Option State) (r : Reading) → is_within r ≡ true → pre before r
+  pub answered : (before : Option State) (r : Reading) (result : Result (State × Outcome) AnswerFault) → post before r result
+      → AnswersAs world (option_map world before) r result

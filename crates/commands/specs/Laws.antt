@@ -15,6 +15,10 @@ use Rattle.tx_records.specs.declared.record.Record.{Record}
 use Rattle.tx_records.specs.declared.reply.Reply.TheVariants.{Refused}
 use Rattle.tx_records.specs.declared.reply.Rule.{Rule}
 use Rattle.record_stream.specs.Records.{is_within, records_of}
+use Rattle.load_options.specs.declared.command.LoadCommand.{LoadCommand}
+use Rattle.commands.specs.Endings.{Finished}
+use Rattle.commands.specs.Loads.{summary_of_load}
+use Rattle.text_model.specs.Words.{Text}
 
 -- the World after what was read
 abbrev pub world_after_readings : World → List (ℕ × Reading) → World
@@ -43,3 +47,11 @@ SupplyStays = (g : Genesis) (rs : List (ℕ × Reading))
 -- a refused record changes nothing
 abbrev pub RefusedChangesNothing : Type 0
 RefusedChangesNothing = (w : World) (r : Record) (rule : Rule) → (step w r).1 ≡ Refused rule → world_after_reading w (Read r) ≡ w
+
+-- replays of the same bytes that were read to their end wrote the same text, whatever the number of workers was
+abbrev pub TextsAreOne : Type 0
+TextsAreOne = (bytes rest other : List ℕ) (written again : Text) → Finished bytes rest written → Finished bytes other again → written ≡ again
+
+-- measured runs that differ in the number of workers alone have the same summary
+abbrev pub SummariesAreOne : Type 0
+SummariesAreOne = (c : LoadCommand) (workers : ℕ) → summary_of_load (record c { workers = workers }) ≡ summary_of_load c

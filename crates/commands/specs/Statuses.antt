@@ -1,5 +1,5 @@
 -- The endings of a run. (Own)
-use Rattle.std.specs.Prelude.{ℕ, Result, Ok, Err, ⊤}
+use Rattle.std.specs.Prelude.{ℕ, Result, Ok, Err}
 use Rattle.byte_lines.specs.declared.lines.LineFault.{LineFault}
 use Rattle.byte_lines.specs.declared.lines.LineFault.TheVariants as line_faults
 use Rattle.byte_lines.specs.declared.sink.SinkFault.{SinkFault}
@@ -53,7 +53,7 @@ status_of_fault faults.WriteFault = statuses.WriteFault
 status_of_fault faults.NoMemory = statuses.NoMemory
 status_of_fault faults.TooMuch = statuses.TooMuch
 
--- how a run ends by what its replay answers
-abbrev pub status_by : Result ⊤ ReplayFault → Status
-status_by (Ok done) = statuses.Done
+-- how a run ends by what its loop answers
+abbrev pub status_by : {Value : Type 0} → Result Value ReplayFault → Status
+status_by (Ok value) = statuses.Done
 status_by (Err fault) = status_of_fault fault

@@ -1,69 +1,64 @@
 -- How a run stands between two records. (Own)
-use Rattle.std.specs.Prelude.{◌≡◌, ◌⊎◌, ℕ, List, [], ◌++◌, Option, Some, None, Result, Ok, Err, take}
-use Rattle.std.specs.Io.KnownBytes.{append_known}
+use Rattle.std.specs.Prelude.{◌≡◌, ◌⊎◌, ℕ, List, [], ◌++◌, Option, Some, None, Result, Ok, Err}
 use Rattle.byte_lines.specs.Reader.{Reader}
-use Rattle.run_model.specs.World.{World}
-use Rattle.text_model.specs.Runs.{text_from, text_of_readings}
-use Rattle.text_model.specs.Words.{Text}
-use Rattle.tx_records.specs.declared.record.Reading.{Reading}
 use Rattle.byte_lines.specs.declared.sink.SinkFault.{SinkFault}
 use Rattle.record_stream.specs.Heard.{HasHeard}
+use Rattle.run_model.specs.World.{World}
+use Rattle.tx_records.specs.declared.record.Reading.{Reading}
 use Rattle.commands.specs.Answers.{Answers}
 use Rattle.commands.specs.declared.fault.AnswerFault.{AnswerFault}
 use Rattle.commands.specs.declared.fault.ReplayFault.{ReplayFault}
 use Rattle.commands.specs.declared.outcome.Outcome.{Outcome}
-use Rattle.commands.specs.Outcomes.{outcome_text}
+use Rattle.commands.specs.Runs.{start_fault}
 use Rattle.commands.specs.Statuses.{fault_of_answer, fault_of_sink}
+use Rattle.commands.specs.Told.{Adds, Parts, answers_from, answers_of, last_world, told_of}
 
--- these records leave the World w, and their text is what was written, whatever comes next
-abbrev pub Leaves : List (ℕ × Reading) → World → Text → Type 0
-Leaves records w written =
-    (more : List (ℕ × Reading)) → text_of_readings (records ++ more) ≡ Some (written ++ text_from w more)
+-- these records begin well and leave the World w, over which further ones are answered
+pub record Leaves (records : List (ℕ × Reading)) (w : World) : Type 0 where
+  pub start : start_fault records ≡ None
+  pub last : last_world records ≡ Some w
+  pub further : (more : List (ℕ × Reading)) → answers_of (records ++ more) ≡ answers_of records ++ answers_from w more
 
--- the same of the ledger that the program holds; before the genesis nothing was heard or written
-abbrev pub Writes : List (ℕ × Reading) → Option World → Text → Type 0
-Writes records None written = (records ≡ []) × (written ≡ [])
-Writes records (Some w) written = Leaves records w written
+-- the same of the state that the program holds; before the genesis nothing was heard
+abbrev pub AreLeft : List (ℕ × Reading) → Option World → Type 0
+AreLeft records None = records ≡ []
+AreLeft records (Some w) = Leaves records w
 
--- what was heard, and what was written for it
-pub record Stands (bytes : List ℕ) (r : Reader) (left : Option (List ℕ)) (ledger : Option World) (had has : Option (List ℕ))
-    : Type 0 where
+-- what was heard, and what was told of it
+pub record Stands {T : Type 0} (add : Adds T) (bytes : List ℕ) (r : Reader) (left : Option (List ℕ)) (state : Option World)
+    (first t : T) : Type 0 where
   pub records : List (ℕ × Reading)
-  pub written : Text
   pub heard : HasHeard bytes r left records
-  pub writes : Writes records ledger written
-  pub wrote : has ≡ append_known had written
+  pub leaves : AreLeft records state
+  pub told : t ≡ told_of add first records
 
--- there is no answer to what was read, and nothing was written
-pub record IsUnanswered (ledger : Option World) (r : Reading) (had has : Option (List ℕ)) (fault : ReplayFault) : Type 0 where
+-- there is no answer to what was read, and nothing was told
+pub record IsUnanswered {T : Type 0} (state : Option World) (r : Reading) (t t' : T) (fault : ReplayFault) : Type 0 where
   pub cause : AnswerFault
   pub is : fault ≡ fault_of_answer cause
-  pub answers : Answers ledger r (Err cause)
-  pub nothing : has ≡ had
+  pub answers : Answers state r (Err cause)
+  pub nothing : t' ≡ t
 
--- there is an answer, and a front of its text was written
-pub record IsNotTaken (ledger : Option World) (r : Reading) (n : ℕ) (had has : Option (List ℕ)) (fault : ReplayFault) : Type 0 where
+-- there is an answer, and it was told in part
+pub record IsNotTaken {T : Type 0} (IsPart : Parts T) (state : Option World) (r : Reading) (n : ℕ) (t t' : T)
+    (fault : ReplayFault) : Type 0 where
   pub after : World
   pub outcome : Outcome
   pub cause : SinkFault
-  pub size : ℕ
-  pub answers : Answers ledger r (Ok (after, outcome))
   pub is : fault ≡ fault_of_sink cause
-  pub part : has ≡ append_known had (take size (outcome_text n after outcome))
+  pub answers : Answers state r (Ok (after, outcome))
+  pub part : IsPart t n after outcome t'
 
--- there is an answer, and its text was written
-pub record IsTaken (ledger : Option World) (r : Reading) (n : ℕ) (had has : Option (List ℕ)) (after : World) : Type 0 where
+-- there is an answer, and it was told
+pub record IsTaken {T : Type 0} (add : Adds T) (state : Option World) (r : Reading) (n : ℕ) (t t' : T) (after : World)
+    : Type 0 where
   pub outcome : Outcome
-  pub answers : Answers ledger r (Ok (after, outcome))
-  pub all : has ≡ append_known had (outcome_text n after outcome)
-
--- one of the two, so that the run ends
-abbrev pub IsNotTold : Option World → Reading → ℕ → Option (List ℕ) → Option (List ℕ) → ReplayFault → Type 0
-IsNotTold ledger r n had has fault = IsUnanswered ledger r had has fault ⊎ IsNotTaken ledger r n had has fault
+  pub answers : Answers state r (Ok (after, outcome))
+  pub all : t' ≡ add t n after outcome
 
 -- how the turn of one record ends, for states with such Worlds
 abbrev pub IsTold
-    : {State : Type 0} → (State → World) → Option World → Reading → ℕ → Option (List ℕ) → Option (List ℕ) → Result State ReplayFault
+    : {T State : Type 0} → (State → World) → Adds T → Parts T → Option World → Reading → ℕ → T → T → Result State ReplayFault
     → Type 0
-IsTold world ledger r n had has (Ok after) = IsTaken ledger r n had has (world after)
-IsTold world ledger r n had has (Err fault) = IsNotTold ledger r n had has fault
+IsTold world add IsPart state r n t t' (Ok after) = IsTaken add state r n t t' (world after)
+IsTold world add IsPart state r n t t' (Err fault) = IsUnanswered state r t t' fault ⊎ IsNotTaken IsPart state r n t t' fault

@@ -1,5 +1,5 @@
-ghost use Rattle.std.specs.Prelude.{◌≡◌, true};
-ghost use Rattle.commands.specs.Answers.{Begins, BeginsWith, Judges};
+ghost use Rattle.std.specs.Prelude.{◌≡◌, ◌≤◌, option_map, true};
+ghost use Rattle.commands.specs.Answers.{AnswersAs, Begins, BeginsWith, Judges};
 ghost use Rattle.record_stream.specs.Records.{is_within};
 ghost use Rattle.tx_records.specs.GenesisLimits as genesis_limits;
 ghost use Rattle.tx_records.specs.RecordLimits.{is_within_limits};
@@ -9,40 +9,44 @@ ghost use Rattle.tx_records.specs.declared.record.Reading.TheVariants.{Read};
 ghost use Rattle.tx_records.specs.Rules.{plain_rule};
 
 use crate::blocks::judge_block;
+use crate::crew::Crew;
 use crate::fault::AnswerFault;
 use crate::outcome::Outcome;
 use crate::status::GenesisCause;
 use coin_frac::NoMemory;
 use ledger_state::LedgerState;
+use par_count::Gate;
 use report::PotsWord;
 use std::alloc::Global;
+use std::thread::Threads;
 use tx_records::rules::{GENESIS_AGAIN, MALFORMED, TOO_LONG};
 use tx_records::{FieldName, Genesis, Reading, Record, Reply, Rewards, Rule, Tx, What};
 use tx_rule::apply_tx;
 
-/// How many workers count an epoch's entries.
-const ONE_WORKER: u32 = 1;
+/// The state after what was read, and what that comes to, or why there is no answer.
+pub(crate) type Answered<R> = Result<(R, Outcome), AnswerFault>;
 
-/// The ledger of a genesis and its pots, where it breaks no rule.
-fn begin(alloc: Global, genesis: &Genesis) -> Result<(LedgerState, Outcome), AnswerFault>
+/// The ledger of a genesis and its pots, where it breaks no rule; so many workers count its first epoch.
+fn begin(alloc: Global, genesis: &Genesis, workers: u32) -> Answered<LedgerState>
     requires within { genesis_limits.is_within_limits genesis.now ≡ true }
+    requires some { 1 ≤ workers }
+    requires few { workers ≤ 64 }
     ensures { Begins genesis.now result }
 {
-    let ledger = LedgerState::from_genesis(alloc, genesis, ONE_WORKER)?;
+    let ledger = LedgerState::from_genesis(alloc, genesis, workers)?;
     let pots = ledger.pots();
     Ok((ledger, Outcome::Pots(PotsWord::Genesis, pots)))
 }
 
 /// The same of what was read first, or why there is no ledger to begin with.
-pub(crate) fn begin_with(
-    alloc: Global,
-    reading: &Reading,
-) -> Result<(LedgerState, Outcome), AnswerFault>
+fn begin_with(alloc: Global, reading: &Reading, workers: u32) -> Answered<LedgerState>
     requires within { is_within reading.now ≡ true }
+    requires some { 1 ≤ workers }
+    requires few { workers ≤ 64 }
     ensures { BeginsWith reading.now result }
 {
     let cause = match reading {
-        Reading::Read(Record::Genesis(genesis)) => return begin(alloc, genesis.get()),
+        Reading::Read(Record::Genesis(genesis)) => return begin(alloc, genesis.get(), workers),
         Reading::Read(
             Record::Block { .. } | Record::Rewards(_) | Record::Tx(_) | Record::Print(_),
         ) => GenesisCause::NoGenesis,
@@ -105,8 +109,9 @@ fn judge_print(ledger: LedgerState, what: What) -> (LedgerState, Outcome)
 }
 
 /// The ledger after a record, and what it comes to.
-fn judge_record(
+fn judge_record<T: Threads + Sync, G: Gate + Sync>(
     alloc: Global,
+    crew: &Crew<T, G>,
     ledger: LedgerState,
     found: &Record,
 ) -> Result<(LedgerState, Outcome), NoMemory>
@@ -115,7 +120,7 @@ fn judge_record(
 {
     match found {
         Record::Genesis(_) => Ok((ledger, refused(GENESIS_AGAIN))),
-        Record::Block { slot, pulse } => judge_block(alloc, ledger, *slot, *pulse),
+        Record::Block { slot, pulse } => judge_block(alloc, crew, ledger, *slot, *pulse),
         Record::Rewards(update) => judge_rewards(ledger, update),
         Record::Tx(tx) => judge_tx(alloc, ledger, tx.get()),
         Record::Print(what) => Ok(judge_print(ledger, *what)),
@@ -123,8 +128,9 @@ fn judge_record(
 }
 
 /// The ledger after what was read of a line, and what that comes to.
-pub(crate) fn judge(
+fn judge<T: Threads + Sync, G: Gate + Sync>(
     alloc: Global,
+    crew: &Crew<T, G>,
     ledger: LedgerState,
     reading: &Reading,
 ) -> Result<(LedgerState, Outcome), NoMemory>
@@ -132,8 +138,24 @@ pub(crate) fn judge(
     ensures { Judges ledger reading.now result }
 {
     match reading {
-        Reading::Read(record) => judge_record(alloc, ledger, record),
+        Reading::Read(record) => judge_record(alloc, crew, ledger, record),
         Reading::Malformed { what, place } => Ok((ledger, malformed(*what, *place))),
         Reading::TooLong => Ok((ledger, refused(TOO_LONG))),
+    }
+}
+
+/// The ledger after what was read, and what that comes to; there is no ledger before the genesis.
+pub(crate) fn answer<T: Threads + Sync, G: Gate + Sync>(
+    alloc: Global,
+    crew: &Crew<T, G>,
+    before: Option<LedgerState>,
+    reading: &Reading,
+) -> Answered<LedgerState>
+    requires within { is_within reading.now ≡ true }
+    ensures { AnswersAs (λ w. w) (option_map (λ w. w) before) reading.now result }
+{
+    match before {
+        Some(ledger) => Ok(judge(alloc, crew, ledger, reading)?),
+        None => begin_with(alloc, reading, crew.workers),
     }
 }

@@ -1,47 +1,79 @@
-ghost use Rattle.std.specs.Prelude.{◌≡◌, ◌⊎◌, ◌↔◌, ℕ, ◌≤◌, List, Some, None, false, length};
+ghost use Rattle.std.specs.Prelude.{◌≡◌, ◌⊎◌, ◌↔◌, ℕ, List, Some, false};
 ghost use Rattle.byte_lines.specs.Faults.{CountsFaults, Rose};
-ghost use Rattle.commands.specs.Commands.{is_replay_command, IsReplayCommand};
+ghost use Rattle.commands.specs.Commands.{IsReplayCommand, is_command};
 ghost use Rattle.commands.specs.Endings.{IsReplayed};
-ghost use Rattle.tx_records.specs.declared.limits.TheConstants.{STREAM_LIMIT};
-ghost use Rattle.record_stream.specs.Records.{records_of};
-ghost use Rattle.commands.specs.Runs.{start_fault};
+ghost use Rattle.commands.specs.Inputs.{HasGoodInput};
+ghost use Rattle.commands.specs.Loads.{IsLoaded};
+ghost use Rattle.commands.specs.Statuses.{status_by};
+ghost use Rattle.load_options.specs.Command.{load_command_of};
+ghost use Rattle.load_options.specs.declared.command.LoadCommand.{LoadCommand};
 
-use crate::command::is_replay;
+use crate::crew::Crew;
+use crate::fault::ReplayFault;
+use crate::load::load;
 use crate::replay::replay;
 use crate::status::Status;
 use byte_lines::{Sink, Source};
+use load_options::{load_command, replay_workers};
+use par_count::Gate;
 use std::alloc::Global;
+use std::thread::Threads;
+
+/// The status of a command that ended so.
+fn status_of(ran: Result<(), ReplayFault>) -> Status
+    ensures { result ≡ status_by ran }
+{
+    match ran {
+        Ok(()) => Status::Done,
+        Err(fault) => Status::from(fault),
+    }
+}
 
 /// Runs the command that the words name, after the program's name: `replay` reads records from the source and writes
-/// their text to the sink, that of each record before it asks for a further line. (Own)
-pub fn run<S: Source, K: Sink>(
+/// their text to the sink, that of each record before it asks for a further line; `load` replays the stream that is made
+/// for its three numbers, and writes the summary of it. As many workers as the words say, one where they do not, share
+/// the counts of each boundary, in threads that `rt` makes, and enter the gate before their shares; no clause depends on
+/// them. (Own)
+pub fn run<R: Threads + Sync, S: Source, K: Sink, G: Gate + Sync>(
     alloc: Global,
+    rt: &R,
     words: &[String],
     source: &mut S,
     sink: &mut K,
+    gate: &G,
 ) -> Status
-    ensures usage { (result ≡ Status.Usage) ↔ (is_replay_command words.now ≡ false) }
+    ensures usage { (result ≡ Status.Usage) ↔ (is_command words.now ≡ false) }
     ensures unread { result ≡ Status.Usage → (source.new ≡ source.old) × (sink.new ≡ sink.old) }
 
     // Each ending of a replay, with what was written: `Ends` says it for each status.
     ensures replays { (bytes : List ℕ) → IsReplayCommand words.now → S.left source.old ≡ Some bytes →
         IsReplayed result bytes (S.left source.new) (K.taken sink.old) (K.taken sink.new) }
 
+    // Each ending of a measured run, which reads nothing: `EndsLoad` says it for each status.
+    ensures loads { (command : LoadCommand) → load_command_of words.now ≡ Some command →
+        (source.new ≡ source.old) × IsLoaded result command (K.taken sink.old) (K.taken sink.new) }
+
     // A fault is answered exactly where its count rose; at every other ending both counts are as they were.
     ensures reads { CountsFaults (result ≡ Status.ReadFault) (S.faults source.old) (S.faults source.new) }
     ensures writes { CountsFaults (result ≡ Status.WriteFault) (K.faults sink.old) (K.faults sink.new) }
 
-    // A good stream of at most 2^48 bytes and no fault: all is done, or memory ran out.
-    ensures complete { (bytes : List ℕ) → IsReplayCommand words.now → S.left source.old ≡ Some bytes →
-        start_fault (records_of bytes) ≡ None → length bytes ≤ STREAM_LIMIT →
-        (¬ Rose (S.faults source.old) (S.faults source.new)) → (¬ Rose (K.faults sink.old) (K.faults sink.new)) →
-        (result ≡ Status.Done) ⊎ (result ≡ Status.NoMemory) }
+    // A good input and no fault of the sink: all is done, or memory ran out.
+    ensures complete { HasGoodInput words.now (S.left source.old) (S.faults source.old) (S.faults source.new) →
+        (¬ Rose (K.faults sink.old) (K.faults sink.new)) → (result ≡ Status.Done) ⊎ (result ≡ Status.NoMemory) }
 {
-    if !is_replay(words) {
-        return Status::Usage;
+    if let Some(workers) = replay_workers(words) {
+        let crew = Crew { rt, workers, gate };
+        return status_of(replay(alloc, &crew, source, sink));
     }
-    match replay(alloc, source, sink) {
-        Ok(()) => Status::Done,
-        Err(fault) => Status::from(fault),
+    match load_command(words) {
+        Some(command) => {
+            let crew = Crew {
+                rt,
+                workers: command.workers,
+                gate,
+            };
+            status_of(load(alloc, &crew, command, sink))
+        }
+        None => Status::Usage,
     }
 }

@@ -1,4 +1,4 @@
-ghost use Rattle.commands.specs.Laws.{LinesAreWithin, LinesReach, RefusedChangesNothing, SupplyStays};
+ghost use Rattle.commands.specs.Laws.{LinesAreWithin, LinesReach, RefusedChangesNothing, SummariesAreOne, SupplyStays, TextsAreOne};
 
 use record_read::lines_read_within_limits;
 use run_laws::supply_stays;
@@ -9,6 +9,8 @@ pub fn laws()
     ensures reached { LinesReach }
     ensures supply { SupplyStays }
     ensures refused { RefusedChangesNothing }
+    ensures one_text { TextsAreOne }
+    ensures one_summary { SummariesAreOne }
 {
     lines_read_within_limits();
     supply_stays();

@@ -5,10 +5,14 @@
 mod answer;
 mod blocks;
 mod command;
+mod counter;
+mod crew;
 mod dispatch;
 mod every_run;
 mod exit;
 mod fault;
+mod hearer;
+mod load;
 mod outcome;
 mod replay;
 mod run_state;

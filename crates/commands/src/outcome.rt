@@ -1,14 +1,18 @@
 ghost use Rattle.std.specs.Prelude.{◌≡◌, ◌++◌, ◌∷◌, [], ℕ, OnOk, OnErr, take, Err};
 ghost use Rattle.std.specs.Io.KnownBytes.{append_known};
 ghost use Rattle.byte_lines.specs.Faults.{CountsFaults};
+ghost use Rattle.commands.specs.Counts.{outcome_counted};
 ghost use Rattle.commands.specs.Outcomes.{outcome_lines, outcome_text};
+ghost use Rattle.load_summary.specs.Counting.{IsCounted};
 ghost use Rattle.report.specs.Taking.{HasPut};
 ghost use Rattle.text_model.specs.EpochLines.{epoch_lines};
 ghost use Rattle.text_model.specs.Replies.{block_words, reply_words};
 
 use crate::shown::{BlockLine, view_of};
 use byte_lines::{Sink, SinkFault};
+use coin_frac::NoMemory;
 use ledger_state::LedgerState;
+use load_summary::LoadCounts;
 use report::{LineTaker, PotsWord, put_epoch, put_one, reply_line};
 use state_print::put_state;
 use tx_records::{EpochReport, Pots, Reply};
@@ -106,5 +110,17 @@ impl Outcome {
         ensures counts { CountsFaults (result ≡ Err SinkFault.WriteFault) (K.faults sink.old) (K.faults sink.new) }
     {
         self.put(state, number, text, sink)
+    }
+
+    /// Counts it into those of a summary.
+    pub fn count(&self, counts: &mut LoadCounts) -> Result<(), NoMemory>
+        ensures { IsCounted counts.old (outcome_counted counts.old self.now) counts.new result }
+    {
+        match self {
+            Outcome::Answered(reply) => counts.count_reply(reply),
+            Outcome::Pots(_, _) | Outcome::State => counts.count_other(),
+            Outcome::Block => counts.count_block(),
+            Outcome::Crossed(report, _) => counts.count_crossing(report),
+        }
     }
 }

@@ -3,9 +3,17 @@
 
 use byte_lines::{ReaderSource, WriterSink};
 use commands::run_to_exit;
+use par_count::Gate;
 use std::env;
 use std::process::ExitCode;
 use std::rt::Env;
+
+/// The gate of the program: each worker goes on.
+struct OpenGate;
+
+impl Gate for OpenGate {
+    fn enter(&self, _worker: u32) {}
+}
 
 /// The words of the command line, the program's name first, where the system gives them.
 fn args_of(rt: &(impl Env + AllocGlobal)) -> Option<Vec<String>> {
@@ -18,5 +26,12 @@ fn main(rt: HostRuntime) -> ExitCode {
     };
     let mut source = ReaderSource::new(rt.stdin());
     let mut sink = WriterSink::new(rt.stdout());
-    run_to_exit(rt.alloc(), args.as_slice(), &mut source, &mut sink)
+    run_to_exit(
+        rt.alloc(),
+        &rt,
+        args.as_slice(),
+        &mut source,
+        &mut sink,
+        &OpenGate,
+    )
 }

@@ -2,4 +2,4 @@ use Rattle.commands.proofs.Judging.{block_refused}
 use Rattle.commands.proofs.blocks.judge_block.Goals as goal
 
 pub returns-in-Err : goal.returns-in-Err
-returns-in-Err c = block_refused c.args.ledger c.args.slot c.args.pulse c.in-Err.rule c.in-Err.ensures
+returns-in-Err g c = block_refused c.args.ledger c.args.slot c.args.pulse c.in-Err.rule c.in-Err.ensures

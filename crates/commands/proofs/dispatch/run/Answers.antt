@@ -1,8 +1,13 @@
-use Rattle.std.proofs.Common.{ap, Err}
-use Rattle.commands.proofs.Complete.{done_or_memory}
+use Rattle.std.proofs.Common.{◌≡◌, ◌⊎◌, true, rules, subst, sym}
+use Rattle.commands.specs.Commands.{is_replay_command}
+use Rattle.commands.specs.declared.status.Status.{Status}
+use Rattle.commands.specs.declared.status.Status.TheVariants as statuses
+use Rattle.commands.proofs.Complete.{replay_completes}
 use Rattle.commands.proofs.dispatch.run.Goals as goal
 
-pub returns-in-Err-clause-complete : goal.returns-in-Err-clause-complete
-returns-in-Err-clause-complete g c = λ bytes command told good short no_read no_write.
-    rw c.from.ensures (done_or_memory c.in-Err.fault bytes _ _ _ (c.in-Err.ensures.replays bytes told) good short
-    (λ is. no_read (c.in-Err.ensures.reads.rose (ap Err is))) (λ is. no_write (c.in-Err.ensures.writes.rose (ap Err is))))
+pub returns-in-Some-clause-complete : goal.returns-in-Some-clause-complete
+returns-in-Some-clause-complete g c = λ input quiet.
+    let named : is_replay_command c.args.words.now ≡ true = search rules in
+    subst (λ (s : Status). (s ≡ statuses.Done) ⊎ (s ≡ statuses.NoMemory)) (sym c.status_of.ensures)
+    (replay_completes c.args.words.now c.replay.result _ _ _ _ _ _ named c.replay.ensures.replays c.replay.ensures.reads.rose
+    (λ is. quiet (c.replay.ensures.writes.rose is)) input)

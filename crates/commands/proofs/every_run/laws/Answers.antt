@@ -1,4 +1,5 @@
 use Rattle.commands.proofs.LawsHold.{reached, refused, supply, within}
+use Rattle.commands.proofs.Workers.{summaries_are_one, texts_are_one}
 use Rattle.commands.proofs.every_run.laws.Goals as goal
 
 pub returns-clause-within : goal.returns-clause-within
@@ -12,3 +13,9 @@ returns-clause-supply c = supply c.supply_stays.ensures
 
 pub returns-clause-refused : goal.returns-clause-refused
 returns-clause-refused c = refused
+
+pub returns-clause-one_text : goal.returns-clause-one_text
+returns-clause-one_text c = texts_are_one
+
+pub returns-clause-one_summary : goal.returns-clause-one_summary
+returns-clause-one_summary c = summaries_are_one
