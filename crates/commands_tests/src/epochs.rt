@@ -9,13 +9,14 @@ use commands::Status;
 use std::alloc::Global;
 use std::process::Abort;
 use std::test::Fail;
+use std::thread::Threads;
 
 /// The whole text, in parts of several sizes.
 #[test]
 fn enacts_a_motion(rt: HostRuntime) -> Result<(), Fail> {
     let bytes = stream(rt.alloc(), MOTION)?;
     for part in [1, 7, 65_536] {
-        let (status, sink) = replayed_in_memory(rt.alloc(), bytes.as_slice(), part)?;
+        let (status, sink) = replayed_in_memory(&rt, rt.alloc(), bytes.as_slice(), part)?;
         assert_eq!(rt;
             (status, sink.as_slice()),
             (Status::Done, MOTION_TEXT.as_bytes()),
@@ -26,7 +27,8 @@ fn enacts_a_motion(rt: HostRuntime) -> Result<(), Fail> {
 }
 
 /// How the run ends where read k, of 64 bytes at most, fails, and what it wrote.
-fn with_failing_read(
+fn with_failing_read<R: Threads + Sync>(
+    rt: &R,
     alloc: Global,
     bytes: &[u8],
     k: u64,
@@ -34,7 +36,7 @@ fn with_failing_read(
     let failing = [k];
     let mut source = FaultySource::new(bytes, 64, &failing);
     let mut sink = MemorySink::new(alloc);
-    let status = ran(alloc, "replay", &mut source, &mut sink)?;
+    let status = ran(rt, alloc, "replay", &mut source, &mut sink)?;
     Ok((status, sink))
 }
 
@@ -44,7 +46,7 @@ fn with_failing_read(
 fn each_read_fails(rt: HostRuntime) -> Result<(), Fail> {
     let bytes = stream(rt.alloc(), MOTION)?;
     for k in 0..60u64 {
-        let (status, sink) = with_failing_read(rt.alloc(), bytes.as_slice(), k)?;
+        let (status, sink) = with_failing_read(&rt, rt.alloc(), bytes.as_slice(), k)?;
         let came = bytes.get(..64 * k as usize).unwrap_or(bytes.as_slice());
         let text = answers_to(MOTION_TEXT.as_bytes(), whole_lines(came));
         let want = if k as usize > bytes.len().div_ceil(64) {
@@ -58,7 +60,8 @@ fn each_read_fails(rt: HostRuntime) -> Result<(), Fail> {
 }
 
 /// How the run ends where write k, of `part` bytes at most, fails, and what it wrote.
-fn with_failing_write(
+fn with_failing_write<R: Threads + Sync>(
+    rt: &R,
     alloc: Global,
     bytes: &[u8],
     part: usize,
@@ -69,7 +72,7 @@ fn with_failing_write(
     let failing = [k];
     let mut source = MemorySource::new(bytes, 65_536);
     let mut sink = FaultySink::new(alloc, part, &failing);
-    let status = ran(alloc, "replay", &mut source, &mut sink)?;
+    let status = ran(rt, alloc, "replay", &mut source, &mut sink)?;
     let mut written = Vec::new(alloc);
     written.extend_from_slice(sink.as_slice())?;
     Ok((status, written))
@@ -90,7 +93,13 @@ fn each_line_fails(rt: HostRuntime) -> Result<(), Fail> {
     let bytes = stream(rt.alloc(), MOTION)?;
     for k in 0..60usize {
         let text = first_lines(MOTION_TEXT.as_bytes(), k);
-        let (status, written) = with_failing_write(rt.alloc(), bytes.as_slice(), 65_536, k as u64)?;
+        let (status, written) = with_failing_write(
+            &rt,
+            rt.alloc(),
+            bytes.as_slice(),
+            65_536,
+            k as u64,
+        )?;
         assert_eq!(rt;
             (status, written.as_slice()),
             (end_after(text), text),
@@ -110,6 +119,7 @@ fn bytes_fail(rt: HostRuntime) -> Result<(), Fail> {
             .get(..10 * tenth)
             .unwrap_or(MOTION_TEXT.as_bytes());
         let (status, written) = with_failing_write(
+            &rt,
             rt.alloc(),
             bytes.as_slice(),
             1,
@@ -137,8 +147,8 @@ fn cut_text(alloc: Global, count: usize, piece: bool) -> Result<Vec<u8>, NoMemor
 }
 
 /// The run of whole lines and of a line that is cut after `end` bytes writes what is wanted.
-fn is_cut(
-    rt: &impl Abort,
+fn is_cut<R: Threads + Abort + Sync>(
+    rt: &R,
     alloc: Global,
     front: &[u8],
     line: &[u8],
@@ -149,7 +159,7 @@ fn is_cut(
     bytes.extend_from_slice(line.get(..end).unwrap_or(line))?;
     let whole = whole_lines(front).saturating_add(usize::from(end == line.len()));
     let want = cut_text(alloc, whole, 0 < end && end < line.len())?;
-    let (status, sink) = replayed_in_memory(alloc, bytes.as_slice(), 65_536)?;
+    let (status, sink) = replayed_in_memory(rt, alloc, bytes.as_slice(), 65_536)?;
     assert_eq!(rt;
         (status, sink.as_slice()),
         (Status::Done, want.as_slice()),

@@ -16,7 +16,7 @@ fn each_read_fails(rt: HostRuntime) -> Result<(), Fail> {
         let failing = [k];
         let mut source = FaultySource::new(bytes.as_slice(), 64, &failing);
         let mut sink = MemorySink::new(rt.alloc());
-        let status = ran(rt.alloc(), "replay", &mut source, &mut sink)?;
+        let status = ran(&rt, rt.alloc(), "replay", &mut source, &mut sink)?;
         let came = bytes.get(..64 * k as usize).unwrap_or(bytes.as_slice());
         let text = first_lines(ROW_TEXT.as_bytes(), whole_lines(came));
         let want = if k as usize > bytes.len().div_ceil(64) {
@@ -50,7 +50,7 @@ fn each_write_fails(rt: HostRuntime) -> Result<(), Fail> {
         let failing = [k];
         let mut source = MemorySource::new(bytes.as_slice(), 7);
         let mut sink = FaultySink::new(rt.alloc(), piece, &failing);
-        let status = ran(rt.alloc(), "replay", &mut source, &mut sink)?;
+        let status = ran(&rt, rt.alloc(), "replay", &mut source, &mut sink)?;
         let want = if text.len() == ROW_TEXT.len() {
             Status::Done
         } else {
@@ -100,7 +100,7 @@ fn each_cut(rt: HostRuntime) -> Result<(), Fail> {
     let bytes = stream(rt.alloc(), "g\n2")?;
     for end in 0..=bytes.len() {
         let came = bytes.get(..end).unwrap_or(bytes.as_slice());
-        let (status, sink) = replayed_in_memory(rt.alloc(), came, 65_536)?;
+        let (status, sink) = replayed_in_memory(&rt, rt.alloc(), came, 65_536)?;
         let (want, text) = cut_answer(end, genesis.len(), bytes.len());
         assert_eq!(rt;
             (status, sink.as_slice()),

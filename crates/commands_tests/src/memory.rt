@@ -8,7 +8,16 @@ ghost use Rattle.commands.specs.Runs.{start_fault, text_of_run};
 use byte_lines::{MemorySink, MemorySource, Sink, Source};
 use coin_frac::NoMemory;
 use commands::{Status, run};
+use par_count::Gate;
 use std::alloc::Global;
+use std::thread::Threads;
+
+/// A gate that does nothing.
+struct OpenGate;
+
+impl Gate for OpenGate {
+    fn enter(&self, _worker: u32) {}
+}
 
 /// Words of a command, each after a space.
 fn words_of(alloc: Global, text: &str) -> Result<Vec<String>, NoMemory> {
@@ -19,15 +28,28 @@ fn words_of(alloc: Global, text: &str) -> Result<Vec<String>, NoMemory> {
     Ok(words)
 }
 
+/// How a run ends, whose words are those of a text and whose workers enter a gate.
+pub fn ran_through<R: Threads + Sync, S: Source, K: Sink, G: Gate + Sync>(
+    rt: &R,
+    alloc: Global,
+    text: &str,
+    source: &mut S,
+    sink: &mut K,
+    gate: &G,
+) -> Result<Status, NoMemory> {
+    let words = words_of(alloc, text)?;
+    Ok(run(alloc, rt, words.as_slice(), source, sink, gate))
+}
+
 /// How a run ends, whose words are those of a text.
-pub fn ran<S: Source, K: Sink>(
+pub fn ran<R: Threads + Sync, S: Source, K: Sink>(
+    rt: &R,
     alloc: Global,
     text: &str,
     source: &mut S,
     sink: &mut K,
 ) -> Result<Status, NoMemory> {
-    let words = words_of(alloc, text)?;
-    Ok(run(alloc, words.as_slice(), source, sink))
+    ran_through(rt, alloc, text, source, sink, &OpenGate)
 }
 
 /// The word of a replay.
@@ -40,7 +62,8 @@ fn replay_words(alloc: Global) -> Result<Vec<String>, NoMemory>
 }
 
 /// How a replay over memory ends, one read giving at most `part` bytes, and what it wrote.
-pub fn replayed_in_memory(
+pub fn replayed_in_memory<R: Threads + Sync>(
+    rt: &R,
     alloc: Global,
     bytes: &[u8],
     part: usize,
@@ -56,6 +79,13 @@ pub fn replayed_in_memory(
     let words = replay_words(alloc)?;
     let mut source = MemorySource::new(bytes, part);
     let mut sink = MemorySink::new(alloc);
-    let status = run(alloc, words.as_slice(), &mut source, &mut sink);
+    let status = run(
+        alloc,
+        rt,
+        words.as_slice(),
+        &mut source,
+        &mut sink,
+        &OpenGate,
+    );
     Ok((status, sink))
 }

@@ -8,6 +8,7 @@ use coin_frac::NoMemory;
 use commands::{GenesisCause, Status};
 use std::alloc::Global;
 use std::test::Fail;
+use std::thread::Threads;
 use tx_records::{FieldName, GenesisRule};
 
 /// Shapes of streams, how each ends, and what was written: that of the worked row; line ends, blank lines, a float that
@@ -66,11 +67,16 @@ fn rows() -> [(&'static str, Status, &'static str); 13] {
 }
 
 /// How the replay of a stream ends, one read giving at most `part` bytes, and what it wrote.
-fn given(alloc: Global, shape: &str, part: usize) -> Result<(Status, MemorySink), NoMemory>
+fn given<R: Threads + Sync>(
+    rt: &R,
+    alloc: Global,
+    shape: &str,
+    part: usize,
+) -> Result<(Status, MemorySink), NoMemory>
     requires { 0 < part }
 {
     let bytes = stream(alloc, shape)?;
-    replayed_in_memory(alloc, bytes.as_slice(), part)
+    replayed_in_memory(rt, alloc, bytes.as_slice(), part)
 }
 
 /// Each stream, in parts of several sizes.
@@ -78,7 +84,7 @@ fn given(alloc: Global, shape: &str, part: usize) -> Result<(Status, MemorySink)
 fn gives_these_texts(rt: HostRuntime) -> Result<(), Fail> {
     for (shape, want, text) in rows() {
         for part in [1, 2, 7, 65_536] {
-            let (status, sink) = given(rt.alloc(), shape, part)?;
+            let (status, sink) = given(&rt, rt.alloc(), shape, part)?;
             assert_eq!(rt; status, want, "{shape} in parts of {part}");
             assert_eq!(rt;
                 sink.as_slice(),
@@ -97,11 +103,11 @@ fn leaves_all_for_wrong_words(rt: HostRuntime) -> Result<(), Fail> {
     let mut source = MemorySource::new(bytes.as_slice(), 65_536);
     let mut sink = MemorySink::new(rt.alloc());
     for text in ["", "Replay", "replays", "replay replay", "replay x", "x"] {
-        let status = ran(rt.alloc(), text, &mut source, &mut sink)?;
+        let status = ran(&rt, rt.alloc(), text, &mut source, &mut sink)?;
         assert_eq!(rt; status, Status::Usage, "{text}");
         assert!(rt; sink.as_slice().is_empty(), "{text}");
     }
-    let status = ran(rt.alloc(), "replay", &mut source, &mut sink)?;
+    let status = ran(&rt, rt.alloc(), "replay", &mut source, &mut sink)?;
     assert_eq!(rt; status, Status::Done);
     assert_eq!(rt; sink.as_slice(), ROW_TEXT.as_bytes());
     Ok(())

@@ -14,6 +14,6 @@ text_at_end status bytes had has left empty replayed is =
     done.ending.text ∙ sym (done.wrote ∙ ap (λ (l : List ℕ). Some (l ++ done.written)) empty)
 
 pub returns-clause-done : goal.returns-clause-done
-returns-clause-done c =
+returns-clause-done g c =
     text_at_end c.run-status.result c.args.bytes.now c.new-sink.result c.run-status.new.sink _ c.new-sink.ensures
-    (c.run-status.ensures.replays c.args.bytes.now (rw c.as_slice.ensures.value c.in_ok-words.ensures) (ap (λ (g : Given). Some g.left) c.new-source.ensures))
+    (c.run-status.ensures.replays c.args.bytes.now (rw c.as_slice.ensures.value c.in_ok-words.ensures) (ap (λ (given : Given). Some given.left) c.new-source.ensures))
