@@ -8,7 +8,6 @@ import json
 import re
 
 from written import (
-    ACTIONS,
     IMPORTS,
     RECORDS,
     account,
@@ -18,11 +17,9 @@ from written import (
     boolean,
     credential,
     drep,
-    field_of,
     hash_of,
     imports,
     lines_of,
-    many,
     num,
     option,
     params,
@@ -31,7 +28,6 @@ from written import (
     ref,
     reading,
     share,
-    together,
     tx_id,
     voter,
 )
@@ -150,7 +146,10 @@ def vote_of(text):
 
 
 def terms(words):
-    return record(("cost", behind(words, "cost")), ("pledge", behind(words, "pledge")), ("margin", behind(words, "margin", fraction)), ("account", behind(words, "account", account)))
+    """The key stands at the end of the line, where there is one."""
+    numbers = ((name, behind(words, name)) for name in ("cost", "pledge"))
+    key = behind(words, "key", hash_of) if "key" in words else None
+    return record(*numbers, ("margin", behind(words, "margin", fraction)), ("account", behind(words, "account", account)), ("key", option(str)(key)))
 
 
 def registration(words):

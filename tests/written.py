@@ -1,6 +1,7 @@
 """Streams of records as rows of ledger_rows: how each record is written as a term of the definitions, and a claim on its text.
 
-The terms use the words of crates/ledger_rows/proofs/Base.antt. A hash that is one byte after zeros is written as that byte."""
+The terms use the words of crates/ledger_rows/proofs/Base.antt. A hash that is one byte after zeros is written as that byte.
+A field or an entry that is not known here is an error, so that no row leaves out what its stream has."""
 
 import json
 import re
@@ -27,8 +28,15 @@ def many(write):
     return lambda items: f"({' ∷ '.join(map(write, items))} ∷ [])" if items else "[]"
 
 
+def each_written(writes, items):
+    """The entries of an array, each as it is written."""
+    if len(writes) != len(items):
+        raise ValueError(f"{items} has not {len(writes)} entries")
+    return [write(it) for write, it in zip(writes, items)]
+
+
 def together(*writes):
-    return lambda items: f"({', '.join(write(it) for write, it in zip(writes, items))})"
+    return lambda items: f"({', '.join(each_written(writes, items))})"
 
 
 def share(fraction):
@@ -41,6 +49,14 @@ def fields(*pairs):
 
 def record(*pairs):
     return f"(record {{ {fields(*pairs)} }})"
+
+
+def known(what, names, given):
+    """The fields of what is written, all of these names."""
+    unknown = sorted(given.keys() - names)
+    if unknown:
+        raise ValueError(f"{what} has the unknown fields {', '.join(unknown)}")
+    return given
 
 
 def but(word, pairs):
@@ -133,10 +149,12 @@ def param(name, it):
 
 
 def params(given):
+    known("params", PARAMS, given)
     return but("base_params", [(field_of(name), param(name, given[name])) for name in PARAMS if given[name] != PARAMS[name]])
 
 
 def update(given):
+    known("update", PARAMS, given)
     return but("no_update", [(field_of(name), f"(Some {param(name, given[name])})") for name in PARAMS if given.get(name) is not None])
 
 
@@ -145,11 +163,15 @@ def update(given):
 
 def genesis(g):
     def committee(c):
+        known("committee", ("threshold", "members"), c)
         return record(("threshold", share(c["threshold"])), ("members", many(together(credential, num, option(credential)))(c["members"])))
 
     def genesis_pool(p):
-        names, writes = ("pool", "deposit", "cost", "pledge", "margin", "account"), (pool, num, num, num, share, account)
-        return record(*((name, write(it)) for name, write, it in zip(names, writes, p)))
+        """Its six entries, and its key, which may be left out."""
+        names = ("pool", "deposit", "cost", "pledge", "margin", "account", "key")
+        writes = (pool, num, num, num, share, account, option(hash_of))
+        entries = p if len(p) == len(names) else [*p, None]
+        return record(*zip(names, each_written(writes, entries)))
 
     parts = {
         "network": num,
@@ -168,6 +190,7 @@ def genesis(g):
         "pools": many(genesis_pool),
         "dreps": many(together(credential, num, num)),
     }
+    known("genesis", {"kind", *parts}, g)
     return f"records.Genesis {record(*((field_of(name), write(g.get(name))) for name, write in parts.items()))}"
 
 
@@ -187,7 +210,7 @@ CERTS = {
     "account-reg": {"cred": credential, "deposit": option(num), "pool": option(pool), "drep": option(drep)},
     "account-unreg": {"cred": credential, "refund": option(num)},
     "delegate": {"cred": credential, "pool": option(pool), "drep": option(drep)},
-    "pool-reg": {"pool": pool, "cost": num, "pledge": num, "margin": share, "account": account},
+    "pool-reg": {"pool": pool, "cost": num, "pledge": num, "margin": share, "account": account, "key": option(hash_of)},
     "pool-retire": {"pool": pool, "epoch": num},
     "drep-reg": {"cred": credential, "deposit": option(num)},
     "drep-unreg": {"cred": credential, "refund": option(num)},
@@ -195,32 +218,38 @@ CERTS = {
     "hot-auth": {"cold": credential, "hot": credential},
     "hot-resign": {"cold": credential},
 }
+# fields of other variants, which streams have to show that they are passed over
+PASSED_OVER = {"actions.Info": ("previous", "policy"), "certs.PoolRetire": ("key",)}
 
 
-def variant(name, parts, given):
-    """A variant with its parts in order."""
+def variant(name, parts, given, word):
+    """A variant with its parts in order. Beside them stands the word that tells which it is."""
+    known(name, {word, *parts, *PASSED_OVER.get(name, ())}, given)
     return " ".join([name, *(write(given.get(part)) for part, write in parts.items())])
 
 
 def action(a):
-    return f"({variant('actions.' + a['type'], ACTIONS[a['type']], a)})"
+    return f"({variant('actions.' + a['type'], ACTIONS[a['type']], a, 'type')})"
 
 
 def cert(c):
     name = "".join(word.capitalize() for word in c["cert"].split("-"))
-    return f"({variant('certs.' + name, CERTS[c['cert']], c)})"
+    return f"({variant('certs.' + name, CERTS[c['cert']], c, 'cert')})"
 
 
 def proposal(p):
+    known("proposal", ("deposit", "return", "action"), p)
     return f"(proposing {p['deposit']} {account(p['return'])} {action(p['action'])})"
 
 
 def vote(v):
+    known("vote", ("voter", "action", "vote"), v)
     return f"(voting {voter(v['voter'])} {action_id(v['action'])} vote.{v['vote'].capitalize()})"
 
 
 def output(o):
-    return f"(paying {address(o[0])} {o[1]} {o[2]})"
+    to, amount, size = o
+    return f"(paying {address(to)} {amount} {size})"
 
 
 # the fields of a transaction that `spend` of Base leaves empty, each with what stands there
@@ -244,6 +273,7 @@ TX_FIELDS = {
 
 
 def transaction(t):
+    known("tx", {"kind", "id", "inputs", "fee", *TX_FIELDS}, t)
     short = is_short(t["id"])
     number = int(t["id"][-2:], 16) if short else 0
     changed = [] if short else [("id", tx_id(t["id"]))]
@@ -255,17 +285,22 @@ def transaction(t):
 
 
 def rewards(r):
+    known("rewards", ("kind", "epoch", "fromReserves", "fromFees", "toTreasury", "rewards"), r)
     numbers = (("epoch", "epoch"), ("from_reserves", "fromReserves"), ("from_fees", "fromFees"), ("to_treasury", "toTreasury"))
     return f"records.Rewards {record(*((field, r[name]) for field, name in numbers), ('rewards', many(together(credential, num))(r['rewards'])))}"
 
 
-RECORDS = {
-    "genesis": genesis,
-    "block": lambda b: f"records.Block {b['slot']} {b['pulse']}",
-    "rewards": rewards,
-    "tx": transaction,
-    "print": lambda p: f"records.Print what.{p['what'].capitalize()}",
-}
+def block(b):
+    known("block", ("kind", "slot", "pulse"), b)
+    return f"records.Block {b['slot']} {b['pulse']}"
+
+
+def print_of(p):
+    known("print", ("kind", "what"), p)
+    return f"records.Print what.{p['what'].capitalize()}"
+
+
+RECORDS = {"genesis": genesis, "block": block, "rewards": rewards, "tx": transaction, "print": print_of}
 
 
 # ---- rows
@@ -317,7 +352,7 @@ IMPORTS = {
     "Rattle.tx_records.specs.declared.tx.Scripts.TheVariants": "as scripts",
     "Rattle.tx_records.specs.declared.record.Reading": "Reading",
     "Rattle.tx_records.specs.declared.record.Reading.TheVariants": "Read Malformed TooLong",
-    "Rattle.ledger_rows.proofs.Base": "h28 h32 key script pool account_on address_with tx_id ref action share base_params "
+    "Rattle.ledger_rows.proofs.Base": "h28 h31 h32 key script pool account_on address_with tx_id ref action share base_params "
     "no_update spend paying proposing voting says_all rule_broken_by",
 }
 SIGNS = {"[]", "◌∷◌", "◌≡◌", "digits", "encode_with"}

@@ -1,3 +1,4 @@
+pub mod Hashes
 pub mod Outputs
 pub mod Pools
 pub mod Dormancy

@@ -1,9 +1,12 @@
 -- What registrations, retirements and a boundary make of the registered pools. (POOL and POOLREAP of the formal specification)
-use Rattle.std.specs.Prelude.{ℕ, ◌==◌, Bool, not, List, Option, Some, None, unwrap_or}
+use Rattle.std.specs.Prelude.{ℕ, ◌==◌, Bool, not, ◌&&◌, ◌||◌, List, Option, Some, None, unwrap_or}
+use Rattle.std.specs.List.{list_any}
 use Rattle.maps.specs.Maps.{value_at, with_value, changed_at, each_value, entries_where}
-use Rattle.maps.specs.Words.{some_and}
+use Rattle.maps.specs.Words.{holds, some_and}
 use Rattle.gov_ids.specs.declared.PoolId.{PoolId}
 use Rattle.gov_ids.specs.Orders.{pool_cmp}
+use Rattle.gov_ids.specs.Same.{same_pool}
+use Rattle.book_records.specs.Hashes.{same_hash}
 use Rattle.book_records.specs.declared.pool.Pool.{Pool}
 use Rattle.book_records.specs.declared.pool.PoolTerms.{PoolTerms}
 
@@ -11,6 +14,18 @@ use Rattle.book_records.specs.declared.pool.PoolTerms.{PoolTerms}
 abbrev pub pool_after : ℕ → PoolTerms → Option Pool → Pool
 pool_after deposit terms None = record { deposit = deposit; terms = terms; future = None; retires = None }
 pool_after deposit terms (Some p) = record p { future = Some terms; retires = None }
+
+-- the key stands in the terms
+abbrev pub is_key_of : List ℕ → PoolTerms → Bool
+is_key_of key terms = holds same_hash terms.key key
+
+-- a pool has the key, in the terms that hold or in its future terms
+abbrev pub uses_key : List ℕ → Pool → Bool
+uses_key key p = is_key_of key p.terms || some_and (is_key_of key) p.future
+
+-- a pool other than p has the key
+abbrev pub is_key_of_other : List ℕ → PoolId → List (PoolId × Pool) → Bool
+is_key_of_other key p pools = list_any (λ e. not (same_pool e.0 p) && uses_key key e.1) pools
 
 -- the pools with this one registered
 abbrev pub with_registration : PoolId → PoolTerms → ℕ → List (PoolId × Pool) → List (PoolId × Pool)

@@ -12,6 +12,8 @@ pub struct PoolTerms {
     pub margin: Unit,
     /// The reward account, whose vote delegation is the pool's default vote.
     pub account: Account,
+    /// The hash of the key by which the pool makes blocks, if it is stated: from version 11.0 on no two pools may take one. (Own)
+    pub key: Option<[u8; 32]>,
 }
 
 /// A registered pool. (PState of the formal specification)

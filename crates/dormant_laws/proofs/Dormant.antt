@@ -136,7 +136,7 @@ cert_dormant : (c : Cert) (d : Ledger) → (changed_by c d).dormant ≡ d.dorman
 cert_dormant (AccountReg cred deposit pool drep) d = refl
 cert_dormant (AccountUnreg cred refund) d = refl
 cert_dormant (Delegate cred pool drep) d = refl
-cert_dormant (PoolReg pool cost pledge margin account) d = refl
+cert_dormant (PoolReg pool cost pledge margin account key) d = refl
 cert_dormant (PoolRetire pool epoch) d = refl
 cert_dormant (DrepReg cred deposit) d = refl
 cert_dormant (DrepUnreg cred refund) d = refl
@@ -266,7 +266,7 @@ module _ (top most : ℕ) (IsLive : List Proposal → Type 0) (stays : (f : Prop
   cert_within (AccountReg cred deposit pool drep) l h = h
   cert_within (AccountUnreg cred refund) l h = h
   cert_within (Delegate cred pool drep) l h = h
-  cert_within (PoolReg pool cost pledge margin account) l h = h
+  cert_within (PoolReg pool cost pledge margin account key) l h = h
   cert_within (PoolRetire pool epoch) l h = h
   cert_within (DrepReg cred deposit) l h =
       dreps_within l (with_value credential_cmp cred (new_drep l) l.dreps) h (each_with_value (IsSoon l.dormant l.epoch) cred (new_drep l) l.dreps (fresh_is_timely l h) h.dreps)

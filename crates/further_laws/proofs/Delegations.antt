@@ -180,8 +180,8 @@ by_cert l (Delegate cred pool to) d e h =
     all_made (λ (x : Credential × Registered). IsPlaced d x.1) (λ (x : Credential × Registered). IsPlaced d x.1)
     (λ x. (x.0, cond (eq_by_cmp credential_cmp cred x.0) (delegating pool to x.1) x.1))
     (λ x k. placed_delegating (eq_by_cmp credential_cmp cred x.0) d pool to x.1 (known_pool d pool b.0) (known_drep d to c.0) k) d.accounts h
-by_cert l (PoolReg pool cost pledge margin account) d e h =
-    grows d (changed_by (PoolReg pool cost pledge margin account) d)
+by_cert l (PoolReg pool cost pledge margin account key) d e h =
+    grows d (changed_by (PoolReg pool cost pledge margin account key) d)
     (λ p k. has_key-with_value pool_total pool _ d.pools p ∙ or_right (eq_by_cmp pool_cmp pool p) (is_pool d p) k) (λ c k. k) refl h
 by_cert l (PoolRetire pool epoch) d e h =
     grows d (changed_by (PoolRetire pool epoch) d)
@@ -361,7 +361,7 @@ as_registered a = record { deposit = a.1; rewards = a.2; pool = a.3; drep = a.4 
 abbrev pool_of_genesis : GenesisPool → Pool
 pool_of_genesis p = record {
   deposit = p.deposit;
-  terms = record { cost = p.cost; pledge = p.pledge; margin = p.margin; account = p.account };
+  terms = record { cost = p.cost; pledge = p.pledge; margin = p.margin; account = p.account; key = p.key };
   future = None;
   retires = None;
 }

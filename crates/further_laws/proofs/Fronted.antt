@@ -48,7 +48,7 @@ unvoted_by_cert : (c : Cert) (d : Ledger) → map unvoted (changed_by c d).propo
 unvoted_by_cert (AccountReg cred deposit pool drep) d = refl
 unvoted_by_cert (AccountUnreg cred refund) d = refl
 unvoted_by_cert (Delegate cred pool drep) d = refl
-unvoted_by_cert (PoolReg pool cost pledge margin account) d = refl
+unvoted_by_cert (PoolReg pool cost pledge margin account key) d = refl
 unvoted_by_cert (PoolRetire pool epoch) d = refl
 unvoted_by_cert (DrepReg cred deposit) d = refl
 unvoted_by_cert (DrepUnreg cred refund) d = unvoted_by (voter.Drep cred) d.proposals

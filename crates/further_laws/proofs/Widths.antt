@@ -50,7 +50,7 @@ use Rattle.text_forms.specs.Lines.{are_short_lines, joined}
 use Rattle.text_forms.specs.States.{are_economic_params, are_governance_params, are_last_ids, are_network_params, are_params, are_technical_params, is_committee}
 use Rattle.text_model.specs.ActionWords as action_words
 use Rattle.text_model.specs.ParamLines.{param, param_lines, shares}
-use Rattle.text_model.specs.StateLines.{account_words, committee_words, drep_words, hot_text, hot_words, member_among, next_words, output_words, pool_lines, proposal_words, registration_words, retires_text, vote_words, words_of_constitution, words_of_enacted, words_of_now}
+use Rattle.text_model.specs.StateLines.{account_words, committee_words, drep_words, hot_text, hot_words, key_words, member_among, next_words, output_words, pool_lines, pool_words, proposal_words, registration_words, retires_text, terms_words, vote_words, words_of_constitution, words_of_enacted, words_of_now}
 use Rattle.text_model.specs.Words.{Text, or_none, share_text, version_text}
 use Rattle.tx_records.specs.declared.limits.TheConstants.{LINE_LIMIT}
 
@@ -265,12 +265,33 @@ retires_word : (o : Option ℕ) → none_or is_u64 o ≡ true → IsWord (retire
 retires_word None h = omega arith
 retires_word (Some e) h = dec e (u64 e h)
 
+-- a line that may end with a key
+with_key : (ws : List Text) (key : Option (List ℕ)) → AllByRecursion IsWord ws → length ws ≤ 68 → none_or (is_hash 32) key ≡ true → IsLine (ws ++ key_words key)
+with_key ws None a few h = (all_append IsWord ws [] a tt, omega (arith, length-append ws [], few))
+with_key ws (Some k) a few h =
+    let last : List Text = codes "key" ∷ hash_text k ∷ [] in
+    (all_append IsWord ws last a (omega arith, (hash_word 32 k (omega arith) h, tt)), omega (arith, length-append ws last, few))
+
+terms_are : (t : PoolTerms) → books.are_terms t ≡ true → AllByRecursion IsWord (terms_words t)
+terms_are t h = (omega arith, (dec t.cost (u64 t.cost (left_of _ _ (left_of _ _ (left_of _ _ (left_of _ _ h))))), (omega arith, (dec t.pledge (u64 t.pledge (right_of _ _ (left_of _ _ (left_of _ _ (left_of _ _ h))))), (omega arith, (unit t.margin (right_of _ _ (left_of _ _ (left_of _ _ h))), (omega arith, (account t.account (right_of _ _ (left_of _ _ h)), tt))))))))
+
 next_lines : (p : PoolId) (o : Option PoolTerms) → is_pool_id p ≡ true → none_or books.are_terms o ≡ true → AreLines (map (next_words p) (option_to_list o))
 next_lines p None k h = tt
-next_lines p (Some t) k h = (((omega arith, (pool p k, (omega arith, (dec t.cost (u64 t.cost (left_of _ _ (left_of _ _ (left_of _ _ h)))), (omega arith, (dec t.pledge (u64 t.pledge (right_of _ _ (left_of _ _ (left_of _ _ h)))), (omega arith, (unit t.margin (right_of _ _ (left_of _ _ h)), (omega arith, (account t.account (right_of _ _ h), tt)))))))))), omega arith), tt)
+next_lines p (Some t) k h = (with_key (codes "next" ∷ pool_text p ∷ terms_words t) t.key (omega arith, (pool p k, terms_are t h)) (omega arith) (right_of _ _ h), tt)
+
+pool_line : (p : PoolId) (t : Pool) → is_pool_id p ≡ true → is_u64 t.deposit ≡ true → books.are_terms t.terms ≡ true → none_or is_u64 t.retires ≡ true → IsLine (pool_words p t)
+pool_line p t k d h r =
+    let last : List Text = codes "retires" ∷ retires_text t.retires ∷ [] in
+    with_key (codes "pool" ∷ pool_text p ∷ codes "deposit" ∷ decimal t.deposit ∷ terms_words t.terms ++ last) t.terms.key
+    (omega arith, (pool p k, (omega arith, (dec t.deposit (u64 t.deposit d), all_append IsWord (terms_words t.terms) last (terms_are t.terms h) (omega arith, (retires_word t.retires r, tt))))))
+    (omega arith) (right_of _ _ h)
 
 pub pool_lines_are : (p : PoolId × Pool) → books.is_pool p ≡ true → AreLines (pool_lines p)
-pool_lines_are p h = (((omega arith, (pool p.0 (left_of _ _ (left_of _ _ (left_of _ _ (left_of _ _ h)))), (omega arith, (dec p.1.deposit (u64 p.1.deposit (right_of _ _ (left_of _ _ (left_of _ _ (left_of _ _ h))))), (omega arith, (dec p.1.terms.cost (u64 p.1.terms.cost (left_of _ _ (left_of _ _ (left_of _ _ (right_of _ _ (left_of _ _ (left_of _ _ h))))))), (omega arith, (dec p.1.terms.pledge (u64 p.1.terms.pledge (right_of _ _ (left_of _ _ (left_of _ _ (right_of _ _ (left_of _ _ (left_of _ _ h))))))), (omega arith, (unit p.1.terms.margin (right_of _ _ (left_of _ _ (right_of _ _ (left_of _ _ (left_of _ _ h))))), (omega arith, (account p.1.terms.account (right_of _ _ (right_of _ _ (left_of _ _ (left_of _ _ h)))), (omega arith, (retires_word p.1.retires (right_of _ _ h), tt)))))))))))))), omega arith), next_lines p.0 p.1.future (left_of _ _ (left_of _ _ (left_of _ _ (left_of _ _ h)))) (right_of _ _ (left_of _ _ h)))
+pool_lines_are p h =
+    let id = left_of _ _ (left_of _ _ (left_of _ _ (left_of _ _ h))) in (
+      pool_line p.0 p.1 id (right_of _ _ (left_of _ _ (left_of _ _ (left_of _ _ h)))) (right_of _ _ (left_of _ _ (left_of _ _ h))) (right_of _ _ h),
+      next_lines p.0 p.1.future id (right_of _ _ (left_of _ _ h)),
+    )
 
 pub account_line : (c : Credential) (e : Entry) → is_credential c ≡ true → e.stake < 2 ^ 64 → none_or books.is_registration e.registered ≡ true → IsLine (account_words (c, e))
 account_line c e h s k = by_registration e.registered k

@@ -1,8 +1,10 @@
 pub mod Texts
 pub mod CheckpointStreams
 pub mod LaterCheckpointStreams
+pub mod KeyCheckpointStreams
 pub mod ResumeStreams
 pub mod LaterResumeStreams
+pub mod KeyResumeStreams
 pub mod ForgedResumeStreams
 pub mod CertificateStreams
 pub mod CheckedStreams

@@ -112,7 +112,7 @@ abbrev as_registered : Account5 → Registered
 as_registered a = record { deposit = a.1; rewards = a.2; pool = a.3; drep = a.4 }
 
 abbrev as_pool : GenesisPool → Pool
-as_pool p = record { deposit = p.deposit; terms = record { cost = p.cost; pledge = p.pledge; margin = p.margin; account = p.account }; future = None; retires = None }
+as_pool p = record { deposit = p.deposit; terms = record { cost = p.cost; pledge = p.pledge; margin = p.margin; account = p.account; key = p.key }; future = None; retires = None }
 
 abbrev Drep3 : Type 0
 Drep3 = Credential × ℕ × ℕ

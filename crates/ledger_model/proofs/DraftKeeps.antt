@@ -74,7 +74,7 @@ cert_keeps (AccountUnreg cred refund) d m =
     maps_alone d _ (record { accounts = IsMap-without_key credential_cmp cred d.accounts m.accounts; pools = m.pools; dreps = m.dreps; hot = m.hot }) refl refl
 cert_keeps (Delegate cred pool drep) d m =
     maps_alone d _ (record { accounts = IsMap-changed_where credential_cmp _ (delegating pool drep) d.accounts m.accounts; pools = m.pools; dreps = m.dreps; hot = m.hot }) refl refl
-cert_keeps (PoolReg pool cost pledge margin account) d m =
+cert_keeps (PoolReg pool cost pledge margin account key) d m =
     maps_alone d _ (record { accounts = m.accounts; pools = IsMap-with_value pool_total pool _ d.pools m.pools; dreps = m.dreps; hot = m.hot }) refl refl
 cert_keeps (PoolRetire pool epoch) d m =
     maps_alone d _ (record { accounts = m.accounts; pools = IsMap-changed_where pool_cmp _ (retiring epoch) d.pools m.pools; dreps = m.dreps; hot = m.hot }) refl refl

@@ -1,5 +1,5 @@
 -- The table of the parameters: for each of the thirty its group, whether it is of the security group, and whether an update may set it to 0. (CIP-1694, Protocol parameter groups; which may not be 0 is own)
-use Rattle.std.specs.Prelude.{◌≡◌, ℕ, Bool, true, false, List, [], ◌∷◌, Some, map, replicate, refl}
+use Rattle.std.specs.Prelude.{◌≡◌, Bool, true, false, List, [], ◌∷◌, Some, map, replicate, refl}
 use Rattle.pparams.specs.declared.Groups.{Groups}
 use Rattle.pparams.specs.declared.Update.{Update}
 use Rattle.pparams.specs.Marks.{groups_of, touches_security, is_well_formed}

@@ -214,7 +214,7 @@ votes_by_cert : (c : Cert) (d : Ledger) → HaveVotes d.proposals → HaveVotes 
 votes_by_cert (AccountReg cred deposit pool drep) d h = h
 votes_by_cert (AccountUnreg cred refund) d h = h
 votes_by_cert (Delegate cred pool drep) d h = h
-votes_by_cert (PoolReg pool cost pledge margin account) d h = h
+votes_by_cert (PoolReg pool cost pledge margin account key) d h = h
 votes_by_cert (PoolRetire pool epoch) d h = h
 votes_by_cert (DrepReg cred deposit) d h = h
 votes_by_cert (DrepUnreg cred refund) d h = votes_unvoted cred d.proposals h

@@ -16,7 +16,7 @@ use Rattle.gov_actions.specs.declared.state.HotState.{HotState}
 use Rattle.gov_actions.specs.declared.state.HotState.TheVariants.{Hot, Resigned}
 use Rattle.tx_records.specs.declared.record.Rewards.{Rewards}
 use Rattle.tx_records.specs.Limits.{is_u64}
-use Rattle.text_forms.specs.Ids.{is_account_id, is_address, is_credential, is_drep_id, is_pool_id, is_ref, is_unit}
+use Rattle.text_forms.specs.Ids.{is_account_id, is_address, is_credential, is_drep_id, is_hash, is_pool_id, is_ref, is_unit}
 
 -- an unspent output
 abbrev pub is_output : OutRef × Output → Bool
@@ -36,7 +36,7 @@ is_entry e = is_credential e.0 && is_u64 e.1.stake && none_or is_registration e.
 
 -- the terms of a pool
 abbrev pub are_terms : PoolTerms → Bool
-are_terms t = is_u64 t.cost && is_u64 t.pledge && is_unit t.margin && is_account_id t.account
+are_terms t = is_u64 t.cost && is_u64 t.pledge && is_unit t.margin && is_account_id t.account && none_or (is_hash 32) t.key
 
 -- a registered pool
 abbrev pub is_pool : PoolId × Pool → Bool

@@ -155,8 +155,8 @@ cert_moves l d (AccountUnreg cred refund) s h =
     let c = unbroken-cons _ _ b.1 in
     unregister d cred (not-false _ a.0) (eqb-true (rewards_at d cred) 0 (not-false _ c.0))
 cert_moves l d (Delegate cred pool drep) s h = delegate d cred pool drep
-cert_moves l d (PoolReg pool cost pledge margin account) s h =
-    pool_by d pool (record { cost = cost; pledge = pledge; margin = margin; account = account }) (value_at pool_cmp d.pools pool) s.pools refl
+cert_moves l d (PoolReg pool cost pledge margin account key) s h =
+    pool_by d pool (record { cost = cost; pledge = pledge; margin = margin; account = account; key = key }) (value_at pool_cmp d.pools pool) s.pools refl
 cert_moves l d (PoolRetire pool epoch) s h = retire d pool epoch
 cert_moves l d (DrepReg cred deposit) s h = drep_comes d cred (unbroken-cons _ _ (unbroken-cons _ _ h).1).0
 cert_moves l d (DrepUnreg cred refund) s h = drep_goes d cred (not-false _ (unbroken-cons _ _ (unbroken-cons _ _ h).1).0)

@@ -58,7 +58,7 @@ cert_deposits : (d : Ledger) (c : Cert) → AreDeposits (flows_of_cert d c)
 cert_deposits d (AccountReg cred deposit pool drep) = paid_in _
 cert_deposits d (AccountUnreg cred refund) = given_back _
 cert_deposits d (Delegate cred pool drep) = none_flow
-cert_deposits d (PoolReg pool cost pledge margin account) = either_flows (is_pool d pool) (params_of d).pool_deposit
+cert_deposits d (PoolReg pool cost pledge margin account key) = either_flows (is_pool d pool) (params_of d).pool_deposit
 cert_deposits d (PoolRetire pool epoch) = none_flow
 cert_deposits d (DrepReg cred deposit) = paid_in _
 cert_deposits d (DrepUnreg cred refund) = given_back _

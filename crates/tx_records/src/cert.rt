@@ -22,13 +22,14 @@ pub enum Cert {
         pool: Option<PoolId>,
         drep: Option<Drep>,
     },
-    /// A pool is registered, or its future terms are set. Cost and pledge are in lovelace; the account is the reward account.
+    /// A pool is registered, or its future terms are set. Cost and pledge are in lovelace; the account is the reward account, and the key is the hash of the one by which the pool makes blocks.
     PoolReg {
         pool: PoolId,
         cost: u64,
         pledge: u64,
         margin: Unit,
         account: Account,
+        key: Option<[u8; 32]>,
     },
     /// A pool will be gone when this epoch begins.
     PoolRetire {

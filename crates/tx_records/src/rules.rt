@@ -99,6 +99,8 @@ pub const RETIREMENT_EPOCH_WRONG: u16 = 70;
 pub const COLD_KEY_UNKNOWN: u16 = 71;
 /// ColdKeyResigned: The cold key resigned.
 pub const COLD_KEY_RESIGNED: u16 = 72;
+/// PoolKeyInUse: From version 11.0 on, a pool takes a key that another pool has in its terms or its future terms.
+pub const POOL_KEY_IN_USE: u16 = 73;
 
 // Proposals.
 /// ProposalDepositWrong: A proposal's deposit is not govActionDeposit. Keeps `want`.
@@ -135,6 +137,8 @@ pub const VOTER_UNKNOWN: u16 = 101;
 pub const VOTER_NOT_ALLOWED: u16 = 102;
 /// VotingExpired: The action has expired.
 pub const VOTING_EXPIRED: u16 = 103;
+/// VoterNotSeated: From version 11.0 on, a hot key votes that no member of the committee has.
+pub const VOTER_NOT_SEATED: u16 = 104;
 
 // The balance.
 /// NotBalanced: What the transaction takes is not what it gives. Keeps `consumed` and `produced`.
