@@ -2,7 +2,7 @@
 use Rattle.std.proofs.Common.{◌≡◌, ◌≢◌, List, [], ◌∷◌, length, get_or, Some, None, refl, arith}
 use Rattle.serde_json.specs.View.{items_view, view}
 use Rattle.serde_json.specs.declared.value.Value.{Value}
-use Rattle.json_fields.specs.Kinds.{two_of, three_of, four_of, five_of, six_of}
+use Rattle.json_fields.specs.Kinds.{two_of, three_of, four_of, five_of, six_or_seven_of}
 
 -- an array of another length has no two entries
 pub not_two : (xs : List Value) → length xs ≢ 2 → two_of (items_view xs) ≡ None
@@ -38,20 +38,21 @@ not_five (a ∷ b ∷ c ∷ d ∷ []) h = refl
 not_five (a ∷ b ∷ c ∷ d ∷ e ∷ []) h = absurd (h refl)
 not_five (a ∷ b ∷ c ∷ d ∷ e ∷ f ∷ xs) h = refl
 
--- an array of another length has no six entries
-pub not_six : (xs : List Value) → length xs ≢ 6 → six_of (items_view xs) ≡ None
-not_six [] h = refl
-not_six (a ∷ []) h = refl
-not_six (a ∷ b ∷ []) h = refl
-not_six (a ∷ b ∷ c ∷ []) h = refl
-not_six (a ∷ b ∷ c ∷ d ∷ []) h = refl
-not_six (a ∷ b ∷ c ∷ d ∷ e ∷ []) h = refl
-not_six (a ∷ b ∷ c ∷ d ∷ e ∷ f ∷ []) h = absurd (h refl)
-not_six (a ∷ b ∷ c ∷ d ∷ e ∷ f ∷ g ∷ xs) h = refl
+-- an array of another length has neither six nor seven entries
+pub not_six_or_seven : (xs : List Value) → length xs ≢ 6 → length xs ≢ 7 → six_or_seven_of (items_view xs) ≡ None
+not_six_or_seven [] h k = refl
+not_six_or_seven (a ∷ []) h k = refl
+not_six_or_seven (a ∷ b ∷ []) h k = refl
+not_six_or_seven (a ∷ b ∷ c ∷ []) h k = refl
+not_six_or_seven (a ∷ b ∷ c ∷ d ∷ []) h k = refl
+not_six_or_seven (a ∷ b ∷ c ∷ d ∷ e ∷ []) h k = refl
+not_six_or_seven (a ∷ b ∷ c ∷ d ∷ e ∷ f ∷ []) h k = absurd (h refl)
+not_six_or_seven (a ∷ b ∷ c ∷ d ∷ e ∷ f ∷ g ∷ []) h k = absurd (k refl)
+not_six_or_seven (a ∷ b ∷ c ∷ d ∷ e ∷ f ∷ g ∷ i ∷ xs) h k = refl
 
--- an array of that length has them
+-- an array of six entries
 pub is_six : (xs : List Value) (a b c d e f : Value) → length xs ≡ 6
-    → six_of (items_view xs) ≡ Some (view (get_or xs 0 a), view (get_or xs 1 b), view (get_or xs 2 c), view (get_or xs 3 d), view (get_or xs 4 e), view (get_or xs 5 f))
+    → six_or_seven_of (items_view xs) ≡ Some (view (get_or xs 0 a), view (get_or xs 1 b), view (get_or xs 2 c), view (get_or xs 3 d), view (get_or xs 4 e), view (get_or xs 5 f), None)
 is_six [] a b c d e f h = cc
 is_six (p ∷ []) a b c d e f h = cc
 is_six (p ∷ q ∷ []) a b c d e f h = cc
@@ -60,3 +61,16 @@ is_six (p ∷ q ∷ r ∷ s ∷ []) a b c d e f h = cc
 is_six (p ∷ q ∷ r ∷ s ∷ t ∷ []) a b c d e f h = cc
 is_six (p ∷ q ∷ r ∷ s ∷ t ∷ u ∷ []) a b c d e f h = refl
 is_six (p ∷ q ∷ r ∷ s ∷ t ∷ u ∷ v ∷ xs) a b c d e f h = absurd (omega (arith, h))
+
+-- one of seven
+pub is_seven : (xs : List Value) (a b c d e f g : Value) → length xs ≡ 7
+    → six_or_seven_of (items_view xs) ≡ Some (view (get_or xs 0 a), view (get_or xs 1 b), view (get_or xs 2 c), view (get_or xs 3 d), view (get_or xs 4 e), view (get_or xs 5 f), Some (view (get_or xs 6 g)))
+is_seven [] a b c d e f g h = cc
+is_seven (p ∷ []) a b c d e f g h = cc
+is_seven (p ∷ q ∷ []) a b c d e f g h = cc
+is_seven (p ∷ q ∷ r ∷ []) a b c d e f g h = cc
+is_seven (p ∷ q ∷ r ∷ s ∷ []) a b c d e f g h = cc
+is_seven (p ∷ q ∷ r ∷ s ∷ t ∷ []) a b c d e f g h = cc
+is_seven (p ∷ q ∷ r ∷ s ∷ t ∷ u ∷ []) a b c d e f g h = cc
+is_seven (p ∷ q ∷ r ∷ s ∷ t ∷ u ∷ v ∷ []) a b c d e f g h = refl
+is_seven (p ∷ q ∷ r ∷ s ∷ t ∷ u ∷ v ∷ w ∷ xs) a b c d e f g h = absurd (omega (arith, h))

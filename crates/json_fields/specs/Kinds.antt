@@ -167,14 +167,15 @@ five_of _ = None
 abbrev pub five_in : Data → Result (Data × Data × Data × Data × Data) FieldFault
 five_in d = items_in d >>= λ ds. or_fault OutOfRange (five_of ds)
 
--- six entries
-abbrev pub six_of : Items → Option (Data × Data × Data × Data × Data × Data)
-six_of (item a (item b (item c (item e (item f (item g no_items)))))) = Some (a, b, c, e, f, g)
-six_of _ = None
+-- six entries, or seven: the seventh may be left out
+abbrev pub six_or_seven_of : Items → Option (Data × Data × Data × Data × Data × Data × Option Data)
+six_or_seven_of (item a (item b (item c (item e (item f (item g no_items)))))) = Some (a, b, c, e, f, g, None)
+six_or_seven_of (item a (item b (item c (item e (item f (item g (item h no_items))))))) = Some (a, b, c, e, f, g, Some h)
+six_or_seven_of _ = None
 
--- an array of six entries
-abbrev pub six_in : Data → Result (Data × Data × Data × Data × Data × Data) FieldFault
-six_in d = items_in d >>= λ ds. or_fault OutOfRange (six_of ds)
+-- an array of six entries, or of seven
+abbrev pub six_or_seven_in : Data → Result (Data × Data × Data × Data × Data × Data × Option Data) FieldFault
+six_or_seven_in d = items_in d >>= λ ds. or_fault OutOfRange (six_or_seven_of ds)
 
 -- the fraction, where it may be one
 abbrev pub fraction_where : Bool → ℕ → ℕ → Result Fraction FieldFault

@@ -1,7 +1,7 @@
 ghost use Rattle.std.specs.Prelude.{◌≡◌, Ok, Err, ◌^◌, option_map};
 ghost use Rattle.std.specs.Result.{result_map_both};
 ghost use Rattle.serde_json.specs.View.{view, items_view};
-ghost use Rattle.json_fields.specs.Kinds.{field_in, optional_in, bool_in, u64_in, number_below, u32_in, u16_in, text_in, hash28_in, hash32_in, tx_id_in, pool_id_in, credential_in, account_in, address_in, ref_in, action_id_in, drep_in, voter_in, items_in, pair_in, three_in, four_in, five_in, six_in, unit_in, ratio_in};
+ghost use Rattle.json_fields.specs.Kinds.{field_in, optional_in, bool_in, u64_in, number_below, u32_in, u16_in, text_in, hash28_in, hash32_in, tx_id_in, pool_id_in, credential_in, account_in, address_in, ref_in, action_id_in, drep_in, voter_in, items_in, pair_in, three_in, four_in, five_in, six_or_seven_in, unit_in, ratio_in};
 
 use crate::fault::FieldFault;
 use coin_frac::{Ratio, Unit};
@@ -221,15 +221,30 @@ pub fn read_five(v: &Value) -> Result<(&Value, &Value, &Value, &Value, &Value), 
     }
 }
 
-/// An array of six entries. (Own)
-#[tactic(auto, using(crate::proofs::Items::not_six))]
-pub fn read_six(v: &Value) -> Result<(&Value, &Value, &Value, &Value, &Value, &Value), FieldFault>
+/// An array of six entries, or of seven. (Own)
+#[tactic(auto, using(crate::proofs::Items::not_six_or_seven))]
+pub fn read_six_or_seven(
+    v: &Value,
+) -> Result<
+    (
+        &Value,
+        &Value,
+        &Value,
+        &Value,
+        &Value,
+        &Value,
+        Option<&Value>,
+    ),
+    FieldFault,
+>
     ensures { result_map_both
-        (λ t. (view t.0.now, view t.1.now, view t.2.now, view t.3.now, view t.4.now, view t.5.now)) (λ e. e) result
-        ≡ six_in (view v.now) }
+        (λ t. (view t.0.now, view t.1.now, view t.2.now, view t.3.now, view t.4.now, view t.5.now, option_map (λ g. view g.now) t.6))
+        (λ e. e) result
+        ≡ six_or_seven_in (view v.now) }
 {
     match read_items(v)? {
-        [a, b, c, d, e, f] => Ok((a, b, c, d, e, f)),
+        [a, b, c, d, e, f] => Ok((a, b, c, d, e, f, None)),
+        [a, b, c, d, e, f, g] => Ok((a, b, c, d, e, f, Some(g))),
         _ => Err(FieldFault::OutOfRange),
     }
 }

@@ -9,7 +9,7 @@ use Rattle.tx_records.specs.declared.cert.Cert.TheVariants as certs
 use Rattle.json_fields.specs.declared.fault.FieldFault.{FieldFault}
 use Rattle.json_fields.specs.declared.fault.FieldFault.TheVariants.{OutOfRange}
 use Rattle.json_fields.specs.Entries.{needed_in, maybe_in}
-use Rattle.json_fields.specs.Kinds.{text_in, u64_in, credential_in, account_in, drep_in, pool_id_in, unit_in}
+use Rattle.json_fields.specs.Kinds.{text_in, u64_in, hash32_in, credential_in, account_in, drep_in, pool_id_in, unit_in}
 use Rattle.json_fields.specs.Steps.{◌>>=◌}
 
 -- the credential of a certificate
@@ -68,7 +68,8 @@ pool_reg_in d = do
   pledge ← needed_in (codes "pledge") u64_in d
   margin ← needed_in (codes "margin") unit_in d
   account ← needed_in (codes "account") account_in d
-  Ok (certs.PoolReg pool cost pledge margin account)
+  key ← maybe_in (codes "key") hash32_in d
+  Ok (certs.PoolReg pool cost pledge margin account key)
 
 -- a pool retires
 unfoldable pub pool_retire_in : Data → Result Cert FieldFault

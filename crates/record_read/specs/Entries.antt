@@ -18,8 +18,8 @@ use Rattle.tx_records.specs.declared.tx.TxOutput.{TxOutput}
 use Rattle.tx_records.specs.declared.tx.VoteRecord.{VoteRecord}
 use Rattle.json_fields.specs.declared.fault.FieldFault.{FieldFault}
 use Rattle.json_fields.specs.declared.fault.FieldFault.TheVariants.{OutOfRange}
-use Rattle.json_fields.specs.Entries.{needed_in, both_in, without_place}
-use Rattle.json_fields.specs.Kinds.{text_in, u64_in, u32_in, number_below, credential_in, account_in, address_in, ref_in, action_id_in, drep_in, voter_in, pool_id_in, unit_in, three_in, five_in, six_in}
+use Rattle.json_fields.specs.Entries.{needed_in, maybe_by, both_in, without_place}
+use Rattle.json_fields.specs.Kinds.{text_in, u64_in, u32_in, number_below, hash32_in, credential_in, account_in, address_in, ref_in, action_id_in, drep_in, voter_in, pool_id_in, unit_in, three_in, five_in, six_or_seven_in}
 use Rattle.json_fields.specs.Lists.{list_in}
 use Rattle.json_fields.specs.Steps.{◌>>=◌}
 use Rattle.action_read.specs.Actions.{action_in}
@@ -113,17 +113,18 @@ genesis_account_in d = do
   drep ← nullable_in drep_in parts.4
   Ok (cred, deposit, rewards, pool, drep)
 
--- a pool: its id, its deposit, its cost, its pledge, its margin, its reward account
+-- a pool: its id, its deposit, its cost, its pledge, its margin, its reward account, and its key, if it has one
 unfoldable pub genesis_pool_in : Data → Result GenesisPool FieldFault
 genesis_pool_in d = do
-  parts ← six_in d
+  parts ← six_or_seven_in d
   pool ← pool_id_in parts.0
   deposit ← u64_in parts.1
   cost ← u64_in parts.2
   pledge ← u64_in parts.3
   margin ← unit_in parts.4
   account ← account_in parts.5
-  Ok (record { pool = pool; deposit = deposit; cost = cost; pledge = pledge; margin = margin; account = account })
+  key ← maybe_by hash32_in parts.6
+  Ok (record { pool = pool; deposit = deposit; cost = cost; pledge = pledge; margin = margin; account = account; key = key })
 
 -- a DRep: its credential, its deposit, its expiry
 unfoldable pub genesis_drep_in : Data → Result (Credential × ℕ × ℕ) FieldFault

@@ -126,12 +126,14 @@ fn pool_reg(alloc: Global, object: &Value) -> Result<Cert, FieldFault>
     let pledge = needed::<u64>(alloc, object, "pledge")?;
     let margin = needed::<Unit>(alloc, object, "margin")?;
     let account = needed::<Account>(alloc, object, "account")?;
+    let key = maybe::<[u8; 32]>(alloc, object, "key")?;
     Ok(Cert::PoolReg {
         pool,
         cost,
         pledge,
         margin,
         account,
+        key,
     })
 }
 

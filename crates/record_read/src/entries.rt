@@ -1,5 +1,7 @@
-ghost use Rattle.std.specs.Prelude.{◌≡◌};
+ghost use Rattle.std.specs.Prelude.{◌≡◌, option_map};
 ghost use Rattle.serde_json.specs.View.{view};
+ghost use Rattle.json_fields.specs.Entries.{maybe_by};
+ghost use Rattle.json_fields.specs.Kinds.{hash32_in};
 ghost use Rattle.json_fields.specs.Reads.{Reads};
 ghost use Rattle.record_read.specs.Entries.{nullable_in};
 
@@ -7,9 +9,9 @@ use action_read::ActionField;
 use gov_actions::Vote;
 use gov_ids::{Account, ActionId, Address, Credential, Drep, OutRef, PoolId, Voter};
 use json_fields::{
-    FieldFault, Kind, needed, read_account, read_address, read_credential, read_five, read_list,
-    read_number_below, read_pool_id, read_ref, read_six, read_text, read_three, read_u32, read_u64,
-    read_unit,
+    FieldFault, Kind, needed, read_account, read_address, read_credential, read_five, read_hash32,
+    read_list, read_number_below, read_pool_id, read_ref, read_six_or_seven, read_text, read_three,
+    read_u32, read_u64, read_unit,
 };
 use listed::Listed;
 use serde_json::Value;
@@ -99,11 +101,12 @@ impl Kind for ScriptsField {
     ghost reading = { scripts_in };
 
     fn read(_alloc: Global, value: &Value) -> Result<Scripts, FieldFault> {
-        match read_text(value)? {
-            "none" => Ok(Scripts::Absent),
-            "ok" => Ok(Scripts::Passed),
-            "failed" => Ok(Scripts::Failed),
-            _ => Err(FieldFault::OutOfRange),
+        match read_text(value) {
+            Ok("none") => Ok(Scripts::Absent),
+            Ok("ok") => Ok(Scripts::Passed),
+            Ok("failed") => Ok(Scripts::Failed),
+            Ok(_) => Err(FieldFault::OutOfRange),
+            Err(fault) => Err(fault),
         }
     }
 }
@@ -119,11 +122,12 @@ impl Kind for VoteField {
     ghost reading = { vote_in };
 
     fn read(_alloc: Global, value: &Value) -> Result<Vote, FieldFault> {
-        match read_text(value)? {
-            "yes" => Ok(Vote::Yes),
-            "no" => Ok(Vote::No),
-            "abstain" => Ok(Vote::Abstain),
-            _ => Err(FieldFault::OutOfRange),
+        match read_text(value) {
+            Ok("yes") => Ok(Vote::Yes),
+            Ok("no") => Ok(Vote::No),
+            Ok("abstain") => Ok(Vote::Abstain),
+            Ok(_) => Err(FieldFault::OutOfRange),
+            Err(fault) => Err(fault),
         }
     }
 }
@@ -178,7 +182,10 @@ impl Kind for Members {
         alloc: Global,
         value: &Value,
     ) -> Result<Listed<(Credential, u64, Option<Credential>)>, FieldFault> {
-        read_list::<Member>(alloc, LIST_LIMIT, value).map_err(|error| error.fault)
+        match read_list::<Member>(alloc, LIST_LIMIT, value) {
+            Ok(members) => Ok(members),
+            Err(error) => Err(error.fault),
+        }
     }
 }
 
@@ -245,7 +252,17 @@ impl Kind for GenesisAccount {
     }
 }
 
-/// A pool of a genesis: its id, its deposit, its cost, its pledge, its margin, its reward account.
+/// The key of a pool, if it has one.
+fn optional_key(value: Option<&Value>) -> Result<Option<[u8; 32]>, FieldFault>
+    ensures { result ≡ maybe_by hash32_in (option_map (λ v. view v.now) value.entry) }
+{
+    match value {
+        Some(value) => Ok(Some(read_hash32(value)?)),
+        None => Ok(None),
+    }
+}
+
+/// A pool of a genesis: its id, its deposit, its cost, its pledge, its margin, its reward account, and its key, if it has one.
 pub struct GenesisPoolEntry;
 
 impl Kind for GenesisPoolEntry {
@@ -257,13 +274,14 @@ impl Kind for GenesisPoolEntry {
 
     #[tactic(auto, unfolding(crate::specs::Entries::genesis_pool_in))]
     fn read(_alloc: Global, value: &Value) -> Result<GenesisPool, FieldFault> {
-        let (pool, deposit, cost, pledge, margin, account) = read_six(value)?;
+        let (pool, deposit, cost, pledge, margin, account, key) = read_six_or_seven(value)?;
         let pool = read_pool_id(pool)?;
         let deposit = read_u64(deposit)?;
         let cost = read_u64(cost)?;
         let pledge = read_u64(pledge)?;
         let margin = read_unit(margin)?;
         let account = read_account(account)?;
+        let key = optional_key(key)?;
         Ok(GenesisPool {
             pool,
             deposit,
@@ -271,6 +289,7 @@ impl Kind for GenesisPoolEntry {
             pledge,
             margin,
             account,
+            key,
         })
     }
 }

@@ -1,12 +1,12 @@
 ghost use Rattle.std.specs.Prelude.{◌≡◌};
 ghost use Rattle.serde_json.specs.View.{view};
-ghost use Rattle.record_read.specs.Faults.{fault_in};
+ghost use Rattle.record_read.specs.Faults.{fault_in, in_field, in_list};
 ghost use Rattle.record_read.specs.Fields.{needed, optional, defaulted, needed_list, needed_distinct_list, optional_list, optional_distinct_list};
 ghost use Rattle.record_read.specs.Reads.{ReadsRecord};
 
 use crate::fault::RecordFault;
 use gov_ids::Named;
-use json_fields::{FieldFault, Kind, read_distinct_list, read_list};
+use json_fields::{FieldFault, Kind, ListFault, read_distinct_list, read_list};
 use listed::Listed;
 use record_members::Members;
 use std::alloc::Global;
@@ -22,6 +22,26 @@ fn fault_in(name: FieldName, place: Option<u32>, fault: FieldFault) -> RecordFau
     }
 }
 
+/// The value, or its fault as that of the field.
+fn in_field<T>(name: FieldName, read: Result<T, FieldFault>) -> Result<T, RecordFault>
+    ensures { result ≡ in_field name read }
+{
+    match read {
+        Ok(value) => Ok(value),
+        Err(fault) => Err(fault_in(name, None, fault)),
+    }
+}
+
+/// The list, or its fault as that of the field.
+fn in_list<T>(name: FieldName, read: Result<Listed<T>, ListFault>) -> Result<Listed<T>, RecordFault>
+    ensures { result ≡ in_list name read }
+{
+    match read {
+        Ok(items) => Ok(items),
+        Err(error) => Err(fault_in(name, error.place, error.fault)),
+    }
+}
+
 /// A field that has to be there.
 pub fn needed_field<K: Kind>(
     alloc: Global,
@@ -30,10 +50,8 @@ pub fn needed_field<K: Kind>(
 ) -> Result<K::Entry, RecordFault>
     ensures { ReadsRecord result (needed name K.reading (view object.now)) }
 {
-    let value = object
-        .field(name)
-        .map_err(|fault| fault_in(name, None, fault))?;
-    K::read(alloc, value).map_err(|fault| fault_in(name, None, fault))
+    let value = in_field(name, object.field(name))?;
+    in_field(name, K::read(alloc, value))
 }
 
 /// A field that may be absent or null.
@@ -44,14 +62,8 @@ pub fn optional_field<K: Kind>(
 ) -> Result<Option<K::Entry>, RecordFault>
     ensures { ReadsRecord result (optional name K.reading (view object.now)) }
 {
-    let found = object
-        .optional_field(name)
-        .map_err(|fault| fault_in(name, None, fault))?;
-    match found {
-        Some(value) => {
-            let entry = K::read(alloc, value).map_err(|fault| fault_in(name, None, fault))?;
-            Ok(Some(entry))
-        }
+    match in_field(name, object.optional_field(name))? {
+        Some(value) => Ok(Some(in_field(name, K::read(alloc, value))?)),
         None => Ok(None),
     }
 }
@@ -78,10 +90,8 @@ pub fn needed_list<K: Kind>(
 ) -> Result<Listed<K::Entry>, RecordFault>
     ensures { ReadsRecord result (needed_list name limit K.reading (view object.now)) }
 {
-    let value = object
-        .field(name)
-        .map_err(|fault| fault_in(name, None, fault))?;
-    read_list::<K>(alloc, limit, value).map_err(|error| fault_in(name, error.place, error.fault))
+    let value = in_field(name, object.field(name))?;
+    in_list(name, read_list::<K>(alloc, limit, value))
 }
 
 /// The same, each entry with a name of its own.
@@ -96,14 +106,8 @@ where
     ensures { ReadsRecord result
         (needed_distinct_list name K.Entry.Name.order K.Entry.name limit K.reading (view object.now)) }
 {
-    let value = object
-        .field(name)
-        .map_err(|fault| fault_in(name, None, fault))?;
-    read_distinct_list::<K>(alloc, limit, value).map_err(|error| fault_in(
-        name,
-        error.place,
-        error.fault,
-    ))
+    let value = in_field(name, object.field(name))?;
+    in_list(name, read_distinct_list::<K>(alloc, limit, value))
 }
 
 /// A list of at most `limit` entries, in a field that may be absent or null.
@@ -115,17 +119,8 @@ pub fn optional_list<K: Kind>(
 ) -> Result<Listed<K::Entry>, RecordFault>
     ensures { ReadsRecord result (optional_list name limit K.reading (view object.now)) }
 {
-    let found = object
-        .optional_field(name)
-        .map_err(|fault| fault_in(name, None, fault))?;
-    match found {
-        Some(value) => {
-            read_list::<K>(alloc, limit, value).map_err(|error| fault_in(
-                name,
-                error.place,
-                error.fault,
-            ))
-        }
+    match in_field(name, object.optional_field(name))? {
+        Some(value) => in_list(name, read_list::<K>(alloc, limit, value)),
         None => Ok(Listed::new(alloc)),
     }
 }
@@ -142,15 +137,8 @@ where
     ensures { ReadsRecord result
         (optional_distinct_list name K.Entry.Name.order K.Entry.name limit K.reading (view object.now)) }
 {
-    let found = object
-        .optional_field(name)
-        .map_err(|fault| fault_in(name, None, fault))?;
-    match found {
-        Some(value) => read_distinct_list::<K>(alloc, limit, value).map_err(|error| fault_in(
-            name,
-            error.place,
-            error.fault,
-        )),
+    match in_field(name, object.optional_field(name))? {
+        Some(value) => in_list(name, read_distinct_list::<K>(alloc, limit, value)),
         None => Ok(Listed::new(alloc)),
     }
 }

@@ -430,10 +430,11 @@ impl Kind for WhatField {
     ghost reading = { what_in };
 
     fn read(_alloc: Global, value: &Value) -> Result<What, FieldFault> {
-        match read_text(value)? {
-            "pots" => Ok(What::Pots),
-            "state" => Ok(What::State),
-            _ => Err(FieldFault::OutOfRange),
+        match read_text(value) {
+            Ok("pots") => Ok(What::Pots),
+            Ok("state") => Ok(What::State),
+            Ok(_) => Err(FieldFault::OutOfRange),
+            Err(fault) => Err(fault),
         }
     }
 }
