@@ -1,4 +1,4 @@
-//! The book of pools: a later registration, an epoch's end, and an entry that is put back.
+//! The book of pools: a later registration, an epoch's end, an entry that is put back, and the keys of other pools.
 use book_records::{Pool, PoolTerms};
 use cert_pool::{PoolBook, Reaped};
 use coin_frac::Unit;
@@ -24,6 +24,14 @@ fn terms(margin: Unit, to: u8) -> PoolTerms {
         pledge: 0,
         margin,
         account: account(to),
+        key: None,
+    }
+}
+
+fn terms_with_key(margin: Unit, key: u8) -> PoolTerms {
+    PoolTerms {
+        key: Some([key; 32]),
+        ..terms(margin, 10)
     }
 }
 
@@ -75,5 +83,44 @@ fn reaps_the_pools_of_an_epoch(rt: HostRuntime) -> Result<(), Fail> {
     assert!(rt; book.get(&pool(50)).is_none() && book.get(&pool(60)) == Some(turned));
     let ids = book.ids(rt.alloc())?;
     assert!(rt; ids.as_slice() == [pool(60)].as_slice());
+    Ok(())
+}
+
+/// Whether each key is one of another pool than the named one exactly where that is wanted.
+fn are_keys(book: &PoolBook, wanted: &[(u8, u8, bool)]) -> bool {
+    wanted.iter().all(|(key, byte, of_other)| book.key_of_other(&[*key; 32], &pool(*byte))
+        == *of_other)
+}
+
+/// Pool 50 has key 1 and in its future terms key 2; 51 and 52 share key 3, and 52 leaves.
+#[test]
+fn tells_the_keys_of_other_pools(rt: HostRuntime) -> Result<(), Fail> {
+    let margin = Unit::new(0, 1)?;
+    let mut book = PoolBook::new(rt.alloc());
+    for (byte, key) in [(50, 1), (50, 2), (51, 3), (52, 3)] {
+        book.register(pool(byte), terms_with_key(margin, key), 5)?;
+    }
+    book.retire(&pool(52), 1);
+    let before = [
+        (1, 50, false),
+        (1, 51, true),
+        (2, 50, false),
+        (2, 51, true),
+        (3, 51, true),
+        (3, 60, true),
+        (4, 60, false),
+    ];
+    assert!(rt; are_keys(&book, &before));
+    book.reap(1)?;
+    let after = [
+        (1, 51, false),
+        (2, 50, false),
+        (2, 51, true),
+        (3, 51, false),
+        (3, 60, true),
+    ];
+    assert!(rt; are_keys(&book, &after));
+    book.restore(pool(51), None)?;
+    assert!(rt; are_keys(&book, &[(3, 60, false)]));
     Ok(())
 }

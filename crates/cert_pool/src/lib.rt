@@ -1,41 +1,45 @@
 //! The book of registered pools: their terms, and the boundary that turns terms and reaps pools.
 #![tactic(auto)]
 
+mod keys;
+
 ghost use Rattle.std.specs.Prelude.{◌≡◌, [], ◌++◌, None, option_map, is_none, unwrap_or, OnOk, OnErr, IfOk};
 ghost use Rattle.std.specs.Map.{keys_of};
 ghost use Rattle.gov_ids.specs.Orders.{pool_cmp};
-ghost use Rattle.maps.specs.Maps.{IsMap, value_at, with_value, entry_after};
+ghost use Rattle.maps.specs.Maps.{IsMap, value_at, with_value, with_values, without_key, entry_after};
 ghost use Rattle.maps.specs.Replaced.{with_option};
-ghost use Rattle.book_records.specs.Pools.{pool_after, with_registration, with_retirement, turned, retires_at};
+ghost use Rattle.book_records.specs.Pools.{is_key_of, is_key_of_other, pool_after, with_registration, with_retirement, turned, retires_at, uses_key};
+ghost use Rattle.cert_pool.specs.Keys.{AreCounted, count_in_option, count_of_others};
 ghost use Rattle.cert_pool.specs.Reaping.{reaped_of, left_of};
 
 pub use book_records::{Pool, PoolTerms};
 use coin_frac::NoMemory;
 use gov_ids::{Account, PoolId};
+use keys::KeyCounts;
 use maps::keys_past;
 use std::alloc::Global;
 use std::collections::BTreeMap;
 use std::marker::Model;
 
-/// The registered pools in the order of their ids. (PState of the formal specification)
+/// The registered pools in the order of their ids. How many of them have a key is kept beside them, so that no pool is walked for it. (PState of the formal specification; that they are counted is own)
 #[derive(Debug, Drop)]
 pub struct PoolBook {
     alloc: Global,
     pools: BTreeMap<PoolId, Pool>,
+    keys: KeyCounts,
 }
 
 impl Model for PoolBook {
     ghost use Rattle.std.specs.Prelude.{List};
     ghost use Rattle.gov_ids.specs.declared.PoolId.{PoolId};
-    ghost use Rattle.gov_ids.specs.Orders.{pool_cmp};
     ghost use Rattle.book_records.specs.declared.pool.Pool.{Pool};
-    ghost use Rattle.maps.specs.Maps.{IsMap};
+    ghost use Rattle.cert_pool.specs.Keys.{IsIndexed};
 
     ghost Value = { List (PoolId × Pool) };
 
     ghost view = { λ a. a.pools.entries };
 
-    ghost invariant = { λ a. IsMap pool_cmp a.pools.entries };
+    ghost invariant = { λ a. IsIndexed a.pools.entries a.keys };
 }
 
 /// A pool that a boundary removed. (POOLREAP of the formal specification)
@@ -56,6 +60,7 @@ impl PoolBook {
         PoolBook {
             alloc,
             pools: BTreeMap::new(alloc),
+            keys: KeyCounts::new(alloc),
         }
     }
 
@@ -67,6 +72,22 @@ impl PoolBook {
         self.pools.get(p).copied()
     }
 
+    /// Whether a pool other than `p` has this key, in its terms or its future terms. No pool is walked for it. (Own)
+    pub fn key_of_other(&self, key: &[u8; 32], p: &PoolId) -> bool
+        ensures value { result ≡ is_key_of_other key.now p.now self.now }
+        ensures in_order { IsMap pool_cmp self.now }
+    {
+        self.count_of_others(key, p) > 0
+    }
+
+    /// How many pools other than `p` have this key, in their terms or their future terms. No pool is walked for it. (Own)
+    pub fn count_of_others(&self, key: &[u8; 32], p: &PoolId) -> u64
+        ensures count { result ≡ count_of_others key.now p.now self.now }
+        ensures in_order { IsMap pool_cmp self.now }
+    {
+        self.keys.of(key) - count_in(self.get(p), key)
+    }
+
     /// What the id has becomes `to`. Want of memory changes nothing. (Own)
     pub fn restore(&mut self, p: PoolId, to: Option<Pool>) -> Result<(), NoMemory>
         ensures ok { OnOk result (self.new ≡ with_option pool_cmp p to self.old) }
@@ -75,10 +96,18 @@ impl PoolBook {
         match to {
             Some(pool) => self.put(p, pool),
             None => {
-                self.pools.remove(&p);
+                self.forget(&p);
                 Ok(())
             }
         }
+    }
+
+    /// What the id has is forgotten. It takes no memory. (Own)
+    pub fn forget(&mut self, p: &PoolId)
+        ensures { self.new ≡ without_key pool_cmp p.now self.old }
+    {
+        let forgotten = self.pools.remove(p);
+        self.keys.take(forgotten);
     }
 
     /// Registers a pool with its deposit, in lovelace, and its terms; of a registered pool they become the future terms, its retirement is cancelled, and its deposit stays. It gives whether this is the first registration. Want of memory changes nothing. (POOL of the formal specification)
@@ -109,11 +138,24 @@ impl PoolBook {
         ensures err { OnErr result (self.new ≡ self.old) }
     {
         let reaped = self.reaped(epoch)?;
+        let keys = self.keys_left(epoch)?;
         self.pools.retain(|_, pool| {
             *pool = turned(*pool);
             !retires_at(pool, epoch)
         });
+        self.keys = keys;
         Ok(reaped)
+    }
+
+    /// With each pool of another book in place of what its id had. (Own)
+    pub fn with_all(self, changed: PoolBook) -> Result<PoolBook, NoMemory>
+        ensures { IfOk result (λ after. after ≡ with_values pool_cmp changed self) }
+    {
+        let mut book = self;
+        for (p, pool) in changed.pools {
+            book.put(p, pool)?;
+        }
+        Ok(book)
     }
 
     /// The first pool past an id, or the first of all, in the order of ids; none at the end. (PState of the formal specification)
@@ -138,8 +180,12 @@ impl PoolBook {
         ensures ok { OnOk result (self.new ≡ with_value pool_cmp p pool self.old) }
         ensures err { OnErr result (self.new ≡ self.old) }
     {
-        let terms: PoolTerms = pool.terms;
-        self.pools.insert(p, Pool { terms, ..pool })?;
+        self.keys.add(&pool)?;
+        let Ok(before) = self.pools.insert(p, pool) else {
+            self.keys.take(Some(pool));
+            return Err(NoMemory);
+        };
+        self.keys.take(before);
         Ok(())
     }
 
@@ -159,6 +205,19 @@ impl PoolBook {
         }
         Ok(reaped)
     }
+
+    // How many have each key of the pools that do not retire with the epoch, by the terms that take effect then.
+    fn keys_left(&self, epoch: u64) -> Result<KeyCounts, NoMemory>
+        ensures { IfOk result (λ counts. AreCounted (left_of epoch self.now) counts) }
+    {
+        let mut counts = KeyCounts::new(self.alloc);
+        for pool in self.pools.values() {
+            if !retires_at(pool, epoch) {
+                counts.add(&turned(*pool))?;
+            }
+        }
+        Ok(counts)
+    }
 }
 
 /// What a registration with its terms and its deposit, in lovelace, makes of what the id had: a new pool, or the known one with these as its future terms and no retirement. (POOL of the formal specification)
@@ -177,6 +236,33 @@ pub fn registered(known: Option<Pool>, terms: PoolTerms, deposit: u64) -> Pool
             future: None,
             retires: None,
         },
+    }
+}
+
+// One where there is a pool that has the key, in its terms or its future terms, and else none.
+fn count_in(pool: Option<Pool>, key: &[u8; 32]) -> u64
+    ensures { result ≡ count_in_option key.now pool }
+{
+    match pool {
+        Some(p) => u64::from(uses_key(&p, key)),
+        None => 0,
+    }
+}
+
+// Whether the pool has the key, in its terms or its future terms.
+fn uses_key(pool: &Pool, key: &[u8; 32]) -> bool
+    ensures { result ≡ uses_key key.now pool.now }
+{
+    has_key(&pool.terms, key) || pool.future.is_some_and(|terms| has_key(&terms, key))
+}
+
+// Whether the key stands in the terms.
+fn has_key(terms: &PoolTerms, key: &[u8; 32]) -> bool
+    ensures { result ≡ is_key_of key.now terms.now }
+{
+    match &terms.key {
+        Some(stated) => stated.cmp(key).is_eq(),
+        None => false,
     }
 }
 

@@ -1,8 +1,11 @@
 pub mod Laid
 pub mod AccountChanging
 pub mod Numbers
-pub mod HotNames
+pub mod Covering
+pub mod Passing
+pub mod Seating
 pub mod HotChanging
+pub mod PoolChanging
 pub mod Ending
 pub mod Awaking
 pub mod Lowering

@@ -1,9 +1,9 @@
 -- The hot entries that a draft changed, as contracts see them. (Own)
 use Rattle.std.specs.Prelude.{◌≡◌, List, []}
-use Rattle.maps.specs.Maps.{entries_where, has_key}
 use Rattle.gov_ids.specs.declared.Credential.{Credential}
 use Rattle.gov_ids.specs.Orders.{credential_cmp}
 use Rattle.gov_actions.specs.declared.state.HotState.{HotState}
+use Rattle.draft_changes.specs.Covered.{covered_entries}
 
 -- the entries that changed, and those of the ledger that they cover
 pub record ChangedHot : Type 0 where
@@ -16,7 +16,7 @@ none_changed = record { entries = []; covered = [] }
 
 -- the entries whose cold key is among the changed
 abbrev pub covered_by : List (Credential × HotState) → List (Credential × HotState) → List (Credential × HotState)
-covered_by changed hot = entries_where (λ cold s. has_key credential_cmp changed cold) hot
+covered_by changed hot = covered_entries credential_cmp changed hot
 
 -- what is covered are entries of this ledger
 abbrev pub IsOver : List (Credential × HotState) → ChangedHot → Type 0

@@ -1,7 +1,9 @@
 pub mod Changed
 pub mod ChangedAccounts
 pub mod ChangedDreps
+pub mod Covered
 pub mod ChangedHot
+pub mod ChangedPools
 pub mod ChangedParts
 pub mod Numbered
 pub mod Balances

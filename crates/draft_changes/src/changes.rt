@@ -12,14 +12,12 @@ ghost use Rattle.stake_book.specs.Stakes.{HasRoom, accounts_of, without_dreps};
 use crate::account_changes::AccountChanges;
 use crate::drep_changes::DrepChanges;
 use crate::hot_changes::HotChanges;
+use crate::pool_changes::PoolChanges;
 use crate::voters::{VoterChanges, Voters};
-use book_records::Pool;
 use coin_frac::NoMemory;
-use gov_ids::PoolId;
 use proposal_store::ProposalStore;
 use stake_book::StakeBook;
 use std::alloc::Global;
-use std::collections::BTreeMap;
 use std::marker::Model;
 
 /// What a draft changes. (Own)
@@ -42,7 +40,7 @@ impl Changes {
     /// The changes of these parts. (Own)
     pub fn of_parts(
         accounts: AccountChanges,
-        pools: BTreeMap<PoolId, Pool>,
+        pools: PoolChanges,
         dreps: DrepChanges,
         hot: HotChanges,
     ) -> Changes

@@ -1,12 +1,13 @@
-ghost use Rattle.std.specs.Prelude.{◌≡◌, IfOk, OnOk, OnErr};
+ghost use Rattle.std.specs.Prelude.{◌≡◌, IfOk, OnOk, OnErr, option_map};
 ghost use Rattle.gov_ids.specs.Orders.{credential_cmp};
-ghost use Rattle.gov_model.specs.Hot.{is_named};
+ghost use Rattle.gov_model.specs.Hot.{is_hot_key, is_named, of_members};
 ghost use Rattle.draft_changes.specs.ChangedHot.{IsOver, none_changed};
 ghost use Rattle.maps.specs.Maps.{IsMap, value_at, with_value, with_values};
+ghost use Rattle.maps.specs.Words.{some_and};
 
 use coin_frac::NoMemory;
 use committee_book::HotBook;
-use gov_actions::HotState;
+use gov_actions::{Committee, HotState};
 use gov_ids::Credential;
 use std::alloc::Global;
 use std::marker::Model;
@@ -57,6 +58,21 @@ impl HotChanges {
         self.entries.names_hot(hot) || covered < before
     }
 
+    /// Whether a member of the committee has this hot key, over this book. It walks the members, and no entry.
+    pub fn seats(&self, hot: &Credential, book: &HotBook, c: Option<&Committee>) -> bool
+        requires in_order { IsMap credential_cmp book.now }
+        ensures { result ≡ is_named (of_members (option_map (λ c. c.now) c.entry)
+            (with_values credential_cmp self.now.entries book.now)) hot.now }
+    {
+        let Some(committee) = c else {
+            return false;
+        };
+        let members = committee.members.as_slice();
+        members
+            .iter()
+            .any(|(cold, _)| is_hot_key(self.latest(cold, book), hot))
+    }
+
     /// A hot key or a resignation in place of what the cold key had, over this book. Want of memory changes nothing.
     pub fn set(&mut self, cold: Credential, s: HotState, book: &HotBook) -> Result<(), NoMemory>
         requires over { IsOver book.now self.old }
@@ -81,5 +97,15 @@ impl HotChanges {
         ensures { IfOk result (λ after. after ≡ with_values credential_cmp self.entries book) }
     {
         book.with_all(self.entries)
+    }
+}
+
+/// Whether a cold key has this hot key.
+fn is_hot_key(s: Option<HotState>, hot: &Credential) -> bool
+    ensures { result ≡ some_and (is_hot_key hot.now) s }
+{
+    match s {
+        Some(HotState::Hot(key)) => key == *hot,
+        Some(HotState::Resigned) | None => false,
     }
 }

@@ -6,13 +6,11 @@ ghost use Rattle.maps.specs.Maps.{with_values};
 
 use crate::drep_changes::DrepChanges;
 use crate::hot_changes::HotChanges;
-use book_records::Pool;
+use crate::pool_changes::PoolChanges;
 use cert_pool::PoolBook;
 use coin_frac::NoMemory;
 use committee_book::HotBook;
 use drep_book::DrepBook;
-use gov_ids::PoolId;
-use std::collections::BTreeMap;
 
 /// All who can vote. (Own)
 #[derive(Drop)]
@@ -28,7 +26,7 @@ pub struct Voters {
 /// What a draft changes of them.
 #[derive(Drop)]
 pub(crate) struct VoterChanges {
-    pub(crate) pools: BTreeMap<PoolId, Pool>,
+    pub(crate) pools: PoolChanges,
     pub(crate) dreps: DrepChanges,
     pub(crate) hot: HotChanges,
 }
@@ -56,7 +54,7 @@ impl VoterChanges {
 /// The pools, the DReps and the hot keys of an epoch with what changed of them. (They are passed one by one, and few are left where memory can run out: a proof follows the end of each value that is held there)
 fn with_parts(
     epoch: u64,
-    changed_pools: BTreeMap<PoolId, Pool>,
+    changed_pools: PoolChanges,
     pools: PoolBook,
     changed_dreps: DrepChanges,
     dreps: DrepBook,
@@ -69,7 +67,7 @@ fn with_parts(
     ensures hot { IfOk result (λ after. after.hot ≡ with_values credential_cmp changed_hot.entries hot) }
 {
     let (dreps, hot) = with_keys(epoch, changed_dreps, dreps, changed_hot, hot)?;
-    let pools = with_pools(pools, changed_pools)?;
+    let pools = changed_pools.lay_over(pools)?;
     Ok(Voters { pools, dreps, hot })
 }
 
@@ -88,15 +86,4 @@ fn with_keys(
     let dreps = changed_dreps.lay_over(dreps, epoch)?;
     let hot = changed_hot.lay_over(hot)?;
     Ok((dreps, hot))
-}
-
-/// The pools with these.
-fn with_pools(pools: PoolBook, changed: BTreeMap<PoolId, Pool>) -> Result<PoolBook, NoMemory>
-    ensures { IfOk result (λ after. after ≡ with_values pool_cmp changed.entries pools) }
-{
-    let mut pools = pools;
-    for (p, pool) in changed {
-        pools.restore(p, Some(pool))?;
-    }
-    Ok(pools)
 }

@@ -162,7 +162,7 @@ module _ (new : List (OutRef × Address × ℕ)) (u v w : Utxos) (i : ℕ) (d : 
 
 -- what is registered of a pool of a genesis
 abbrev pub first_pool : GenesisPool → Pool
-first_pool p = pool_after p.deposit (record { cost = p.cost; pledge = p.pledge; margin = p.margin; account = p.account }) None
+first_pool p = pool_after p.deposit (record { cost = p.cost; pledge = p.pledge; margin = p.margin; account = p.account; key = p.key }) None
 
 -- with these pools
 abbrev pub with_listed_pools : List GenesisPool → List (PoolId × Pool) → List (PoolId × Pool)

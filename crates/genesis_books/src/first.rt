@@ -107,6 +107,7 @@ fn first_pools(alloc: Global, genesis: &Genesis) -> Result<PoolBook, NoMemory>
             pledge: listed.pledge,
             margin: listed.margin,
             account: listed.account,
+            key: listed.key,
         };
         pools.restore(listed.pool, Some(registered(None, terms, listed.deposit)))?;
     }

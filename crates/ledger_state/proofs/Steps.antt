@@ -1,5 +1,5 @@
 -- A sound World stays sound where a record that breaks no rule acts.
-use Rattle.std.proofs.Common.{◌≡◌, ℕ, zero, suc, ◌+◌, ◌==◌, ◌^◌, ◌<◌, ◌≤◌, ◌&&◌, [], ◌∷◌, Bool, true, false, Option, Some, None, Err, cond, find, is_none, nat_le, nat_lt, option_map, refl, ap, subst, ◌∙◌, arith}
+use Rattle.std.proofs.Common.{◌≡◌, ℕ, zero, suc, ◌+◌, ◌==◌, ◌^◌, ◌<◌, ◌≤◌, ◌&&◌, [], ◌∷◌, Bool, true, false, Option, Some, None, Ok, Err, cond, find, is_none, nat_le, nat_lt, option_map, refl, ap, subst, ◌∙◌, arith}
 use Rattle.std.proofs.lemmas.Bool.{lt-ltb}
 use Rattle.tx_records.specs.declared.record.Record.{Record}
 use Rattle.tx_records.specs.declared.record.Record.TheVariants as records
@@ -10,7 +10,7 @@ use Rattle.tx_records.specs.declared.reply.Rule.{Rule}
 use Rattle.tx_records.specs.declared.tx.Tx.{Tx}
 use Rattle.tx_records.specs.RecordLimits.{is_within_limits}
 use Rattle.ledger_model.specs.Broken.{is_allowed}
-use Rattle.ledger_model.specs.Checks.{Check, breaks, breaks_keeping, first_among, is_broken, rule_of}
+use Rattle.ledger_model.specs.Checks.{Check, answer_by, breaks, breaks_keeping, first_among, is_broken, rule_of}
 use Rattle.tx_records.specs.declared.rules.TheConstants.{EPOCH_SKIPPED, SLOT_NOT_LATER, ZERO_PULSE}
 use Rattle.ledger_model.specs.Ledger.{Ledger}
 use Rattle.ledger_model.specs.Transaction.{ledger_after_tx}
@@ -29,6 +29,10 @@ not_broken (Some rule) h = cc
 pub not_entered : (o : Option Rule) (b : Bool) (rule : Rule) → Err rule ≡ entry_by o b → o ≡ Some rule
 not_entered None b rule h = cc
 not_entered (Some other) b rule h = cc
+
+pub accepted : (o : Option Rule) (x : Unit {0}) → Ok x ≡ answer_by o → o ≡ None
+accepted None x h = refl
+accepted (Some rule) x h = cc
 
 -- ---- a record that breaks no rule
 

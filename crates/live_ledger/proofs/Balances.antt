@@ -105,7 +105,7 @@ cert_lowers (Delegate cred pool drep) d m = record {
     changed_or (eq_by_cmp credential_cmp cred q) (delegating pool drep) (value_at credential_cmp d.accounts q) (λ r. omega arith),
   );
 }
-cert_lowers (PoolReg pool cost pledge margin account) d m = record { map = m; lower = λ q. omega arith }
+cert_lowers (PoolReg pool cost pledge margin account key) d m = record { map = m; lower = λ q. omega arith }
 cert_lowers (PoolRetire pool epoch) d m = record { map = m; lower = λ q. omega arith }
 cert_lowers (DrepReg cred deposit) d m = record { map = m; lower = λ q. omega arith }
 cert_lowers (DrepUnreg cred refund) d m = record {

@@ -1,8 +1,10 @@
 ghost use Rattle.std.specs.Prelude.{◌≡◌, ◌+◌, ◌<◌, ◌≤◌, ◌^◌, true, Some, None, is_some, if◌then◌else◌, OnOk, OnErr};
-ghost use Rattle.std.specs.Option.{ForSome, option_copied, option_or};
+ghost use Rattle.std.specs.Option.{ForSome};
+ghost use Rattle.book_records.specs.Pools.{is_key_of_other};
 ghost use Rattle.gov_model.specs.Hot.{is_named};
 ghost use Rattle.gov_ids.specs.Orders.{credential_cmp, pool_cmp};
 ghost use Rattle.ledger_model.specs.Ledger.{account_at, is_pool};
+ghost use Rattle.ledger_model.specs.ProposalRules.{is_seated};
 ghost use Rattle.draft_changes.specs.Changed.{laid_over};
 ghost use Rattle.live_ledger.specs.Drafts.{IsDraftOf, IsTimely, deposit_in, draft_at, drep_deposit_in, given_back, paid_by};
 ghost use Rattle.live_ledger.specs.Drafts.{with_account, with_drep, with_hot, with_pool, with_pool_registered};
@@ -14,11 +16,10 @@ use crate::state::LiveLedger;
 use book_records::{DrepState, Pool, PoolTerms, Registered};
 use cert_pool::registered;
 use coin_frac::NoMemory;
-use draft_changes::{AccountChanges, Changes, DrepChanges, HotChanges};
+use draft_changes::{AccountChanges, Changes, DrepChanges, HotChanges, PoolChanges};
 use gov_actions::HotState;
 use gov_ids::{Credential, PoolId};
 use std::alloc::Global;
-use std::collections::BTreeMap;
 use std::marker::Model;
 
 /// A ledger with the changes of a transaction so far, beside what its certificates gave back and paid. It borrows the ledger. (CERTS of the formal specification)
@@ -26,7 +27,7 @@ use std::marker::Model;
 pub struct Draft<'a> {
     start: &'a LiveLedger,
     accounts: AccountChanges,
-    pools: BTreeMap<PoolId, Pool>,
+    pools: PoolChanges,
     dreps: DrepChanges,
     hot: HotChanges,
     refunds: u128,
@@ -54,7 +55,7 @@ impl<'a> Model for Draft<'a> {
     } };
 
     ghost invariant = { λ a. IsDrafted a.start.now.ledger (changed_of a.accounts a.pools.entries a.dreps a.hot.entries)
-        a.hot a.refunds a.deposits a.accounts.changes a.changes };
+        a.pools a.hot a.refunds a.deposits a.accounts.changes a.changes };
 }
 
 /// The deposit of a registration, in lovelace.
@@ -91,16 +92,6 @@ fn given_back(before: Option<u64>, after: Option<u64>) -> u64
     }
 }
 
-/// The pool that was changed, or else the one before.
-fn latest(changed: Option<&Pool>, before: Option<Pool>) -> Option<Pool>
-    ensures { result ≡ option_or (option_copied changed.entry) before }
-{
-    match changed {
-        Some(pool) => Some(*pool),
-        None => before,
-    }
-}
-
 /// What the registration of a pool pays: its deposit where it was not registered, in lovelace.
 fn paid_for(known: &Option<Pool>, deposit: u64) -> u64
     ensures { result ≡ (if is_some known.now then 0 else deposit) }
@@ -116,7 +107,7 @@ impl<'a> Draft<'a> {
         Draft {
             start: s,
             accounts: AccountChanges::new(alloc),
-            pools: BTreeMap::new(alloc),
+            pools: PoolChanges::new(alloc),
             dreps: DrepChanges::new(alloc, s.dreps().dormant() == 0),
             hot: HotChanges::new(alloc),
             refunds: 0,
@@ -148,8 +139,14 @@ impl<'a> Draft<'a> {
         ensures map { IsMap pool_cmp self.now.ledger.pools }
         ensures start_map { IsMap pool_cmp self.now.start.pools }
     {
-        let before = self.start.pool(p);
-        latest(self.pools.get(p), before)
+        self.pools.latest(p, self.start.pools())
+    }
+
+    /// Whether a pool other than this one has the key, in the terms that hold or in its future terms. It walks no pool. (Own)
+    pub fn key_of_other(&self, key: &[u8; 32], p: &PoolId) -> bool
+        ensures { result ≡ is_key_of_other key.now p.now self.now.ledger.pools }
+    {
+        self.pools.key_of_other(key, p, self.start.pools())
     }
 
     /// A registered DRep, none where it is not registered. (GState of the formal specification)
@@ -183,6 +180,14 @@ impl<'a> Draft<'a> {
         ensures { result ≡ is_named self.now.ledger.hot hot.now }
     {
         self.hot.names(hot, self.start.hot())
+    }
+
+    /// Whether a member of the committee has this hot key. It walks the members, and no other cold key. (Own)
+    pub fn seats_hot(&self, hot: &Credential) -> bool
+        ensures { result ≡ is_seated self.now.ledger hot.now }
+    {
+        let committee = self.start.state().committee.as_ref();
+        self.hot.seats(hot, self.start.hot(), committee)
     }
 
     /// What the certificates so far gave back, and what they paid, in lovelace. (DELEG, POOL and GOVCERT of the formal specification)
@@ -248,8 +253,7 @@ impl<'a> Draft<'a> {
         ensures ok { OnOk result (self.new ≡ with_pool p pool paid self.old) }
         ensures err { OnErr result (self.new ≡ self.old) }
     {
-        let terms: PoolTerms = pool.terms;
-        self.pools.insert(p, Pool { terms, ..pool })?;
+        self.pools.set(p, pool, self.start.pools())?;
         self.deposits += u128::from(paid);
         self.changes += 1;
         Ok(())

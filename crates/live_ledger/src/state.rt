@@ -1,7 +1,7 @@
 ghost use Rattle.std.specs.Prelude.{◌≡◌};
 ghost use Rattle.gov_ids.specs.Orders.{credential_cmp, pool_cmp};
 ghost use Rattle.gov_model.specs.Hot.{is_member};
-ghost use Rattle.ledger_model.specs.Ledger.{params_of};
+ghost use Rattle.ledger_model.specs.Ledger.{is_from_version_eleven, params_of};
 ghost use Rattle.ledger_model.specs.Supply.{pots_of};
 ghost use Rattle.live_ledger.specs.Kept.{IsKept};
 ghost use Rattle.maps.specs.Maps.{IsMap, value_at};
@@ -132,6 +132,13 @@ impl LiveLedger {
         ensures { result.now ≡ params_of self.now.ledger }
     {
         &self.state.get().params
+    }
+
+    /// Whether the protocol version is 11.0 or later. (Own)
+    pub fn is_from_version_eleven(&self) -> bool
+        ensures { result ≡ is_from_version_eleven self.now.ledger }
+    {
+        self.state.get().version.0 >= 11
     }
 
     /// The unspent outputs and the used transaction ids. (UTxOState of the formal specification; that used ids are kept is own)

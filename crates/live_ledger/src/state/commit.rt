@@ -58,24 +58,29 @@ impl LiveLedger {
             dreps: self.dreps,
             hot: self.hot,
         };
-        let (laid, cleared, voters) = changes.lay_over(
-            self.alloc,
-            self.epoch,
-            self.stake,
-            self.proposals,
-            voters,
-        )?;
-        let (stake, proposals) = with_tx(self.alloc, last, laid, cleared, tx)?;
-        Ok(LiveLedger {
-            fees: self.fees + tx.fee,
-            donations: self.donations + tx.donation,
-            stake,
-            pools: voters.pools,
-            dreps: voters.dreps,
-            hot: voters.hot,
-            proposals,
-            ..self
-        })
+        match changes.lay_over(self.alloc, self.epoch, self.stake, self.proposals, voters) {
+            Ok((laid, cleared, voters)) => match with_tx(self.alloc, last, laid, cleared, tx) {
+                Ok((stake, proposals)) => Ok(LiveLedger {
+                    fees: self.fees + tx.fee,
+                    donations: self.donations + tx.donation,
+                    stake,
+                    pools: voters.pools,
+                    dreps: voters.dreps,
+                    hot: voters.hot,
+                    proposals,
+                    ..self
+                }),
+                Err(error) => {
+                    // let go in one call: a `?` would prove it part by part
+                    drop((self.state, voters));
+                    Err(error)
+                }
+            },
+            Err(error) => {
+                drop(self.state);
+                Err(error)
+            }
+        }
     }
 
     /// The ledger after an allowed transaction whose scripts failed: its collateral is spent, and what the return leaves of it joins the fees.
@@ -85,12 +90,18 @@ impl LiveLedger {
         requires failed { is_failed tx.now.scripts ≡ true }
         ensures { IfOk result (λ s. s ≡ on_ledger (λ l. ledger_after_tx l tx.now) self) }
     {
-        let (stake, collateral) = with_tx_collateral(self.stake, tx)?;
-        Ok(LiveLedger {
-            fees: self.fees + (collateral - returned(tx)),
-            stake,
-            ..self
-        })
+        match with_tx_collateral(self.stake, tx) {
+            Ok((stake, collateral)) => Ok(LiveLedger {
+                fees: self.fees + (collateral - returned(tx)),
+                stake,
+                ..self
+            }),
+            Err(error) => {
+                // let go in one call: a `?` would prove it part by part
+                drop((self.state, self.pools, self.dreps, self.hot, self.proposals));
+                Err(error)
+            }
+        }
     }
 }
 

@@ -1,15 +1,23 @@
-ghost use Rattle.std.specs.Prelude.{◌≡◌, true, IfOk};
-ghost use Rattle.run_model.specs.Genesis.{state_of_genesis};
+ghost use Rattle.std.specs.Prelude.{◌≡◌, None, true, IfOk};
+ghost use Rattle.gov_ids.specs.Orders.{credential_cmp};
+ghost use Rattle.run_model.specs.Freeze.{entries_of};
+ghost use Rattle.run_model.specs.Genesis.{genesis_fault, hot_of_genesis, ledger_of_genesis, state_of_genesis};
+ghost use Rattle.stake_book.specs.Stakes.{accounts_of};
+ghost use Rattle.view_map.specs.View.{frozen_of};
 ghost use Rattle.tx_records.specs.GenesisLimits.{is_within_limits};
 ghost use Rattle.live_ledger.specs.Starts.{StartsAs};
 
 use super::LiveLedger;
 use crate::fault::GenesisFault;
+use cert_pool::PoolBook;
 use coin_frac::NoMemory;
+use committee_book::HotBook;
+use drep_book::DrepBook;
 use genesis_books::{broken_rule, first_committee, first_holdings, first_keys};
 use gov_actions::{EnactState, LastIds};
 use listed::Boxed;
 use proposal_store::ProposalStore;
+use stake_book::StakeBook;
 use std::alloc::Global;
 use tx_records::Genesis;
 
@@ -23,25 +31,56 @@ impl LiveLedger {
             return Err(GenesisFault::Broken(rule));
         }
         let state = first_state(alloc, genesis)?;
-        let (stake, pools) = first_holdings(alloc, genesis)?;
-        let (dreps, hot) = first_keys(alloc, genesis)?;
-        Ok(LiveLedger {
-            alloc,
-            network: genesis.network,
-            epoch_length: genesis.epoch_length,
-            supply: genesis.supply,
-            slot: genesis.slot,
-            epoch: genesis.slot / u64::from(genesis.epoch_length),
-            reserves: genesis.reserves,
-            fees: 0,
-            donations: 0,
-            state,
-            stake,
-            pools,
-            dreps,
-            hot,
-            proposals: ProposalStore::new(alloc),
-        })
+        match first_books(alloc, genesis) {
+            Ok((stake, pools, dreps, hot)) => Ok(LiveLedger {
+                alloc,
+                network: genesis.network,
+                epoch_length: genesis.epoch_length,
+                supply: genesis.supply,
+                slot: genesis.slot,
+                epoch: genesis.slot / u64::from(genesis.epoch_length),
+                reserves: genesis.reserves,
+                fees: 0,
+                donations: 0,
+                state,
+                stake,
+                pools,
+                dreps,
+                hot,
+                proposals: ProposalStore::new(alloc),
+            }),
+            Err(error) => {
+                // let go in one call: a `?` would prove it part by part
+                drop(state);
+                Err(error.into())
+            }
+        }
+    }
+}
+
+/// The books of a genesis: of accounts and outputs, of pools, of DReps and of hot keys.
+fn first_books(
+    alloc: Global,
+    genesis: &Genesis,
+) -> Result<(StakeBook, PoolBook, DrepBook, HotBook), NoMemory>
+    requires unbroken { genesis_fault genesis.now ≡ None }
+    ensures outputs { IfOk result (λ first. first.0.outputs.outputs ≡ (ledger_of_genesis genesis.now).outputs) }
+    ensures used { IfOk result (λ first. first.0.outputs.used ≡ (ledger_of_genesis genesis.now).used) }
+    ensures accounts { IfOk result (λ first. accounts_of first.0 ≡ (ledger_of_genesis genesis.now).accounts) }
+    ensures frozen { IfOk result (λ first. frozen_of credential_cmp first.0.accounts ≡
+        entries_of (ledger_of_genesis genesis.now)) }
+    ensures pools { IfOk result (λ first. first.1 ≡ (ledger_of_genesis genesis.now).pools) }
+    ensures dreps { IfOk result (λ first. first.2.dreps ≡ (ledger_of_genesis genesis.now).dreps) }
+    ensures dormant { IfOk result (λ first. first.2.dormant ≡ 0) }
+    ensures hot { IfOk result (λ first. first.3 ≡ hot_of_genesis genesis.now.committee) }
+{
+    let (stake, pools) = first_holdings(alloc, genesis)?;
+    match first_keys(alloc, genesis) {
+        Ok((dreps, hot)) => Ok((stake, pools, dreps, hot)),
+        Err(error) => {
+            drop((stake, pools));
+            Err(error)
+        }
     }
 }
 

@@ -1,11 +1,13 @@
 use Rattle.std.proofs.Common.{◌≡◌, List, false, true, is_some, Option, ap, subst, sym, ◌∙◌}
 use Rattle.gov_ids.specs.declared.Credential.{Credential}
 use Rattle.gov_ids.specs.Orders.{credential_cmp}
+use Rattle.gov_ids.proofs.Exacts.{credential_exact}
+use Rattle.gov_ids.proofs.Totals.{credential_total}
 use Rattle.gov_actions.specs.declared.state.HotState.{HotState}
 use Rattle.maps.specs.Maps.{has_key, without_key}
 use Rattle.maps.specs.Replaced.{with_option}
 use Rattle.draft_changes.specs.ChangedHot.{ChangedHot, IsOver, covered_by}
-use Rattle.draft_changes.proofs.HotChanging.{at_err, covered_more, covered_put, covered_undone, on_err, on_ok}
+use Rattle.draft_changes.proofs.Covering.{at_err, covered_more, covered_put, covered_undone, on_err, on_ok}
 use Rattle.draft_changes.proofs.hot_changes.HotChanges.set.Goals as goal
 
 pub returns-then-is_some-clause-over : goal.returns-then-is_some-clause-over
@@ -14,7 +16,7 @@ returns-then-is_some-clause-over c =
     let book = c.args.book.now in
     let over : c.self.inside.covered ≡ covered_by changed book = subst (λ (x : ChangedHot). IsOver book x) (sym c.self.view_is) c.requires.over in
     let known : has_key credential_cmp changed c.args.cold ≡ true = ap (λ (o : Option HotState). is_some o) (sym c.get.ensures.value) ∙ sym c.is_some.ensures ∙ c.if-is_some.true in
-    over ∙ covered_put c.args.cold c.args.s changed c.set.result book c.set.new.self c.set.ensures.ok c.set.ensures.err known
+    over ∙ covered_put credential_total c.args.cold c.args.s changed c.set.result book c.set.new.self c.set.ensures.ok c.set.ensures.err known
 
 -- where memory ran out, nothing is changed and what is covered is as before
 same : (c : goal.After-forget) → c.set-put.new.self ≡ c.self.inside.entries
@@ -29,7 +31,7 @@ undone c =
     let unknown : has_key credential_cmp changed cold ≡ false = ap (λ (o : Option HotState). is_some o) (sym c.get.ensures.value) ∙ sym c.is_some.ensures ∙ c.if-is_some.false in
     c.forget.ensures
     ∙ ap (λ (es : List (Credential × HotState)). without_key credential_cmp cold es) (c.in_ok-restore.ensures.ok ∙ ap (λ (es : List (Credential × HotState)). with_option credential_cmp cold c.get-2.result es) over)
-    ∙ covered_undone cold c.args.s changed book c.get-2.result c.get-2.ensures.in_order unknown
+    ∙ covered_undone credential_total cold c.args.s changed credential_exact book c.get-2.ensures.in_order c.get-2.result unknown
 
 pub returns-then-is_err-clause-over : goal.returns-then-is_err-clause-over
 returns-then-is_err-clause-over c = undone c ∙ ap (λ (es : List (Credential × HotState)). covered_by es c.args.book.now) (sym (same c))
@@ -49,5 +51,5 @@ returns-else-is_err-clause-over c =
     let put = on_ok c.set-put.result (sym c.is_err.ensures.value ∙ c.if-is_err.false) c.set-put.ensures.ok in
     c.in_ok-restore.ensures.ok
     ∙ (λ i. with_option credential_cmp cold (c.get-2.ensures.value i) (over i))
-    ∙ covered_more cold c.args.s changed book c.get-2.ensures.in_order
+    ∙ covered_more credential_total cold c.args.s changed credential_exact book c.get-2.ensures.in_order
     ∙ ap (λ (es : List (Credential × HotState)). covered_by es book) (sym put)

@@ -29,7 +29,8 @@ invariant_of-self-in_err-leave c =
       pools = h.pools;
       dreps = subst (λ (x : ChangedDreps). IsMap credential_cmp x.dreps) (sym put) (IsMap-with_value credential_total c.args.c None a.dreps.dreps h.dreps);
       hot = h.hot;
-      over = h.over;
+      pools_over = h.pools_over;
+      hot_over = h.hot_over;
       timely = subst (λ (l : Ledger). IsWithinDormantBound l) (sym laid)
           (timely_without (now start h.kept a.accounts a.pools.entries a.dreps a.hot.entries) c.args.c h.timely (dreps_are_map start h.kept a.accounts a.pools.entries a.dreps a.hot.entries));
       refunds_fit = h.refunds_fit;
@@ -52,7 +53,8 @@ invariant_of-self-2 c =
       pools = h.pools;
       dreps = subst (λ (x : ChangedDreps). IsMap credential_cmp x.dreps) (sym put) (IsMap-with_value credential_total c.args.c None a.dreps.dreps h.dreps);
       hot = h.hot;
-      over = h.over;
+      pools_over = h.pools_over;
+      hot_over = h.hot_over;
       timely = subst (λ (l : Ledger). IsWithinDormantBound l) (sym laid)
           (timely_left (now start h.kept a.accounts a.pools.entries a.dreps a.hot.entries) c.args.c h.timely (dreps_are_map start h.kept a.accounts a.pools.entries a.dreps a.hot.entries));
       refunds_fit = omega (arith, h.refunds_fit, c.from.ensures, c.given_back.type_inv);

@@ -22,7 +22,8 @@ invariant_of-self-2 c =
       pools = h.pools;
       dreps = h.dreps;
       hot = subst (λ (es : List (Credential × HotState)). IsMap credential_cmp es) (sym put) (IsMap-with_value credential_total c.args.cold c.args.s a.hot.entries h.hot);
-      over = subst (λ (es : List (Credential × HotState)). IsOver es c.set.new.self) c.hot.ensures c.set.ensures.over;
+      pools_over = h.pools_over;
+      hot_over = subst (λ (es : List (Credential × HotState)). IsOver es c.set.new.self) c.hot.ensures c.set.ensures.over;
       timely = record { awake = h.timely.awake; at_most = h.timely.at_most; expiries = h.timely.expiries };
       refunds_fit = omega (arith, h.refunds_fit);
       deposits_fit = omega (arith, h.deposits_fit);

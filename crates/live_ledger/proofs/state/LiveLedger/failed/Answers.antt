@@ -27,26 +27,26 @@ overflow_sub-result c =
     let l = (the_view c.self.inside).ledger in
     let e = ap (λ (s : Standing). s.ledger) c.self.view_is in
     let f = failing l c.args.self.ledger c.args.tx.now e c.self.invariant c.requires.within c.requires.allowed c.requires.failed in
-    omega (arith, c.in_ok-stake.ensures.left, f.taken, f.covered, c.returned.ensures)
+    omega (arith, c.in-Ok.ensures.left, f.taken, f.covered, c.returned.ensures)
 
 pub overflow_add-result : goal.overflow_add-result
-overflow_add-result c = omega (arith, c.in_ok-stake.ensures.left, c.self.invariant.balanced, c.self.invariant.within)
+overflow_add-result c = omega (arith, c.in-Ok.ensures.left, c.self.invariant.balanced, c.self.invariant.within)
 
 pub invariant_of-result : goal.invariant_of-result
 invariant_of-result c =
     let l = (the_view c.self.inside).ledger in
     let e = ap (λ (s : Standing). s.ledger) c.self.view_is in
     let f = failing l c.args.self.ledger c.args.tx.now e c.self.invariant c.requires.within c.requires.allowed c.requires.failed in
-    let paid : c.in_ok-stake.collateral - c.returned.result ≡ collateral_left (the_view c.self.inside).ledger c.args.tx.now = omega (arith, c.in_ok-stake.ensures.left, f.taken, f.covered, c.returned.ensures) in
-    subst (λ (x : Ledger). IsKept x) (sym (failed_parts l c.args.tx.now c.self.inside.stake c.in_ok-stake.stake _ c.in_ok-stake.ensures.made paid)) f.kept
+    let paid : c.in-Ok.collateral - c.returned.result ≡ collateral_left (the_view c.self.inside).ledger c.args.tx.now = omega (arith, c.in-Ok.ensures.left, f.taken, f.covered, c.returned.ensures) in
+    subst (λ (x : Ledger). IsKept x) (sym (failed_parts l c.args.tx.now c.self.inside.stake c.in-Ok.stake _ c.in-Ok.ensures.made paid)) f.kept
 
-pub returns : goal.returns
-returns c =
+pub returns-in-Ok : goal.returns-in-Ok
+returns-in-Ok c =
     let l = (the_view c.self.inside).ledger in
     let e = ap (λ (s : Standing). s.ledger) c.self.view_is in
     let f = failing l c.args.self.ledger c.args.tx.now e c.self.invariant c.requires.within c.requires.allowed c.requires.failed in
-    let paid : c.in_ok-stake.collateral - c.returned.result ≡ collateral_left (the_view c.self.inside).ledger c.args.tx.now = omega (arith, c.in_ok-stake.ensures.left, f.taken, f.covered, c.returned.ensures) in
-    let made = c.in_ok-stake.ensures.made in
-    let ledger = failed_parts l c.args.tx.now c.self.inside.stake c.in_ok-stake.stake _ made paid ∙ f.is ∙ ap (λ (x : Ledger). ledger_after_tx x c.args.tx.now) e in
+    let paid : c.in-Ok.collateral - c.returned.result ≡ collateral_left (the_view c.self.inside).ledger c.args.tx.now = omega (arith, c.in-Ok.ensures.left, f.taken, f.covered, c.returned.ensures) in
+    let made = c.in-Ok.ensures.made in
+    let ledger = failed_parts l c.args.tx.now c.self.inside.stake c.in-Ok.stake _ made paid ∙ f.is ∙ ap (λ (x : Ledger). ledger_after_tx x c.args.tx.now) e in
     let frozen = made.kept.frozen ∙ ap (λ (s : Standing). s.frozen) c.self.view_is in
     λ i. record { ledger = ledger i; frozen = frozen i }

@@ -1,28 +1,25 @@
-use Rattle.std.proofs.Common.{◌≡◌, None, sym, subst, ◌∙◌}
+use Rattle.std.proofs.Common.{sym, subst, ◌∙◌}
 use Rattle.ledger_model.specs.Ledger.{Ledger}
-use Rattle.run_model.specs.Genesis.{genesis_fault}
 use Rattle.live_ledger.specs.Kept.{IsKept}
 use Rattle.live_ledger.proofs.Starting.{genesis_kept, made_ledger}
 use Rattle.live_ledger.proofs.state.LiveLedger.from_genesis.Goals as goal
 
-unbroken : (c : goal.After-new) → genesis_fault c.args.genesis.now ≡ None
-unbroken c = sym c.in_ok-rule.ensures ∙ c.in_default.is
+pub first_books-requires : goal.first_books-requires
+first_books-requires c = record { unbroken = sym c.in_ok-rule.ensures ∙ c.in_default.is }
 
 pub invariant_of-result : goal.invariant_of-result
 invariant_of-result c =
-    let stake = c.in_ok-stake.ensures in
+    let books = c.in-Ok.ensures in
     subst (λ (l : Ledger). IsKept l)
     (sym (
-    made_ledger c.args.genesis.now c.in_ok-state.state c.from.result c.in_ok-stake.stake c.in_ok-stake.pools c.in_ok-dreps.dreps c.in_ok-dreps.hot c.new.result
-    c.in_ok-state.ensures c.from.ensures stake.outputs stake.used stake.accounts c.in_ok-stake.ensures.pools c.in_ok-dreps.ensures.dreps c.in_ok-dreps.ensures.dormant
-    c.in_ok-dreps.ensures.hot c.new.ensures
+    made_ledger c.args.genesis.now c.in_ok-state.state c.from.result c.in-Ok.stake c.in-Ok.pools c.in-Ok.dreps c.in-Ok.hot c.new.result
+    c.in_ok-state.ensures c.from.ensures books.outputs books.used books.accounts books.pools books.dreps books.dormant books.hot c.new.ensures
     ))
-    (genesis_kept c.args.genesis.now c.requires.within (unbroken c))
+    (genesis_kept c.args.genesis.now c.requires.within (sym c.in_ok-rule.ensures ∙ c.in_default.is))
 
-pub returns : goal.returns
-returns c =
-    let stake = c.in_ok-stake.ensures in
-    let ledger = made_ledger c.args.genesis.now c.in_ok-state.state c.from.result c.in_ok-stake.stake c.in_ok-stake.pools c.in_ok-dreps.dreps c.in_ok-dreps.hot c.new.result
-    c.in_ok-state.ensures c.from.ensures stake.outputs stake.used stake.accounts c.in_ok-stake.ensures.pools c.in_ok-dreps.ensures.dreps c.in_ok-dreps.ensures.dormant
-    c.in_ok-dreps.ensures.hot c.new.ensures in
-    (unbroken c, λ i. record { ledger = ledger i; frozen = stake.frozen i })
+pub returns-in-Ok : goal.returns-in-Ok
+returns-in-Ok c =
+    let books = c.in-Ok.ensures in
+    let ledger = made_ledger c.args.genesis.now c.in_ok-state.state c.from.result c.in-Ok.stake c.in-Ok.pools c.in-Ok.dreps c.in-Ok.hot c.new.result
+    c.in_ok-state.ensures c.from.ensures books.outputs books.used books.accounts books.pools books.dreps books.dormant books.hot c.new.ensures in
+    (sym c.in_ok-rule.ensures ∙ c.in_default.is, λ i. record { ledger = ledger i; frozen = books.frozen i })

@@ -1,0 +1,88 @@
+ghost use Rattle.std.specs.Prelude.{◌≡◌, IfOk, OnOk, OnErr};
+ghost use Rattle.gov_ids.specs.Orders.{pool_cmp};
+ghost use Rattle.book_records.specs.Pools.{is_key_of_other};
+ghost use Rattle.draft_changes.specs.ChangedPools.{IsOver, none_changed};
+ghost use Rattle.maps.specs.Maps.{IsMap, value_at, with_value, with_values};
+
+use book_records::Pool;
+use cert_pool::PoolBook;
+use coin_frac::NoMemory;
+use gov_ids::PoolId;
+use std::alloc::Global;
+use std::marker::Model;
+
+/// The pools that a draft changed, and those of the book before that they cover: counts of both tell whether a pool has a key, so that no pool is walked. (Own)
+#[derive(Drop)]
+pub struct PoolChanges {
+    entries: PoolBook,
+    covered: PoolBook,
+}
+
+impl Model for PoolChanges {
+    ghost use Rattle.draft_changes.specs.ChangedPools.{ChangedPools};
+
+    ghost Value = { ChangedPools };
+
+    ghost view = { λ a. record { entries = a.entries; covered = a.covered } };
+}
+
+impl PoolChanges {
+    /// No change.
+    pub fn new(alloc: Global) -> PoolChanges
+        ensures { result ≡ none_changed }
+    {
+        PoolChanges {
+            entries: PoolBook::new(alloc),
+            covered: PoolBook::new(alloc),
+        }
+    }
+
+    /// The pool of an id, over this book.
+    pub fn latest(&self, p: &PoolId, book: &PoolBook) -> Option<Pool>
+        ensures value { result ≡
+            value_at pool_cmp (with_values pool_cmp self.now.entries book.now) p.now }
+        ensures in_order { IsMap pool_cmp (with_values pool_cmp self.now.entries book.now) }
+    {
+        let before = book.get(p);
+        match self.entries.get(p) {
+            Some(pool) => Some(pool),
+            None => before,
+        }
+    }
+
+    /// Whether a pool other than `p` has this key, over this book: a changed one has it, or more of the book have it than are covered.
+    pub fn key_of_other(&self, key: &[u8; 32], p: &PoolId, book: &PoolBook) -> bool
+        requires over { IsOver book.now self.now }
+        ensures { result ≡ is_key_of_other key.now p.now (with_values pool_cmp self.now.entries book.now) }
+    {
+        let covered = self.covered.count_of_others(key, p);
+        let before = book.count_of_others(key, p);
+        self.entries.key_of_other(key, p) || covered < before
+    }
+
+    /// A pool in place of what the id had, over this book. Want of memory changes nothing.
+    pub fn set(&mut self, p: PoolId, pool: Pool, book: &PoolBook) -> Result<(), NoMemory>
+        requires over { IsOver book.now self.old }
+        ensures ok { OnOk result (self.new.entries ≡ with_value pool_cmp p pool self.old.entries) }
+        ensures in_order { IsMap pool_cmp self.old.entries }
+        ensures over { IsOver book.now self.new }
+        ensures err { OnErr result (self.new ≡ self.old) }
+    {
+        if self.entries.get(&p).is_some() {
+            return self.entries.restore(p, Some(pool));
+        }
+        self.covered.restore(p, book.get(&p))?;
+        let put = self.entries.restore(p, Some(pool));
+        if put.is_err() {
+            self.covered.forget(&p);
+        }
+        put
+    }
+
+    /// The book with these pools.
+    pub fn lay_over(self, book: PoolBook) -> Result<PoolBook, NoMemory>
+        ensures { IfOk result (λ after. after ≡ with_values pool_cmp self.entries book) }
+    {
+        book.with_all(self.entries)
+    }
+}
