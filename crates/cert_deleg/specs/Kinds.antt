@@ -14,7 +14,7 @@ abbrev pub is_account_or_pool_cert : Cert → Bool
 is_account_or_pool_cert (AccountReg cred deposit pool drep) = true
 is_account_or_pool_cert (AccountUnreg cred refund) = true
 is_account_or_pool_cert (Delegate cred pool drep) = true
-is_account_or_pool_cert (PoolReg pool cost pledge margin account) = true
+is_account_or_pool_cert (PoolReg pool cost pledge margin account key) = true
 is_account_or_pool_cert (PoolRetire pool epoch) = true
 is_account_or_pool_cert _ = false
 

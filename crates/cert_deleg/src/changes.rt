@@ -41,12 +41,14 @@ pub fn change(d: &mut Draft, c: &Cert) -> Result<(), NoMemory>
             pledge,
             margin,
             account,
+            key,
         } => {
             let terms = PoolTerms {
                 cost,
                 pledge,
                 margin,
                 account,
+                key,
             };
             register(d, pool, terms)
         }

@@ -12,7 +12,7 @@ use live_ledger::Draft;
 pub fn register(d: &mut Draft, pool: PoolId, terms: PoolTerms) -> Result<(), NoMemory>
     requires few { d.old.changes < 2 ^ 32 }
     ensures ok { OnOk result
-        (IsCertified (PoolReg pool terms.cost terms.pledge terms.margin terms.account) d.old d.new) }
+        (IsCertified (PoolReg pool terms.cost terms.pledge terms.margin terms.account terms.key) d.old d.new) }
     ensures err { OnErr result (d.new ≡ d.old) }
 {
     let due = d.start().params().pool_deposit;

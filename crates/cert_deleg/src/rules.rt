@@ -24,19 +24,21 @@ pub fn check_cert(d: &Draft, c: &Cert) -> Result<(), Rule>
         Cert::AccountUnreg { cred, refund } => check_end(d, &cred, refund),
         Cert::Delegate { cred, pool, drep } => check_delegation(d, &cred, pool, drep),
         Cert::PoolReg {
+            pool,
             cost,
             pledge,
             margin,
             account,
-            ..
+            key,
         } => {
             let terms = PoolTerms {
                 cost,
                 pledge,
                 margin,
                 account,
+                key,
             };
-            check_terms(d, &terms)
+            check_terms(d, &pool, &terms)
         }
         Cert::PoolRetire { pool, epoch } => check_retirement(d, &pool, epoch),
         _ => unreachable!(),

@@ -1,5 +1,6 @@
 -- The state after a transaction, by what its judgement comes to.
-use Rattle.std.proofs.Common.{◌≡◌, Option, Some, None, ap, sym, ◌∙◌}
+use Rattle.std.proofs.Common.{◌≡◌, Option, Some, None, Result, Ok, Err, IfOk, ap, sym, ◌∙◌}
+use Rattle.tx_records.specs.declared.reply.Reply.{Reply}
 use Rattle.tx_records.specs.declared.reply.Reply.TheVariants.{Refused}
 use Rattle.tx_records.specs.declared.reply.Rule.{Rule}
 use Rattle.tx_records.specs.declared.tx.Scripts.{Scripts}
@@ -32,3 +33,9 @@ reply_accepted l tx none = sym (ap (λ (o : Option Rule). (tx_step_by o l tx).1)
 
 pub reply_refused : (l : Ledger) (tx : Tx) (rule : Rule) → first_broken l tx ≡ Some rule → Refused rule ≡ (tx_step l tx).1
 reply_refused l tx rule some = sym (ap (λ (o : Option Rule). (tx_step_by o l tx).1) some)
+
+-- an accepted one is not refused, so it keeps what a refused one does
+pub kept_accepted : {E : Type 0} (r : Result (World × Reply) E) (s : Scripts) (rule : Rule) (w : World) → IfOk r (λ (x : World × Reply). x.1 ≡ accepted_as s)
+    → IfOk r (λ (x : World × Reply). x.1 ≡ Refused rule → x.0 ≡ w)
+kept_accepted (Ok x) s rule w h = λ e. absurd (not_refused s rule (sym h ∙ e))
+kept_accepted (Err e) s rule w h = tt

@@ -2,11 +2,12 @@
 #![tactic(auto)]
 
 ghost use Rattle.std.specs.Prelude.{◌≡◌, true, IfOk, OnOk};
-ghost use Rattle.ledger_model.specs.Broken.{body_checks, first_broken};
+ghost use Rattle.ledger_model.specs.Broken.{body_checks, first_broken, is_allowed};
 ghost use Rattle.ledger_model.specs.Checks.{first_among};
 ghost use Rattle.ledger_model.specs.Draft.{last_draft};
-ghost use Rattle.ledger_model.specs.Transaction.{accepted_as, tx_step};
+ghost use Rattle.ledger_model.specs.Transaction.{accepted_as, ledger_after_tx, tx_step};
 ghost use Rattle.ledger_model.specs.UtxoRules.{unless_failed};
+ghost use Rattle.draft_changes.specs.Changed.{laid_over};
 ghost use Rattle.live_ledger.specs.Drafts.{draft_at, draft_of};
 ghost use Rattle.rule_checks.specs.Answered.{IsAnswered};
 ghost use Rattle.run_model.specs.World.{on_ledger};
@@ -37,9 +38,12 @@ pub fn apply_tx(alloc: Global, s: LedgerState, tx: &Tx) -> Result<(LedgerState, 
     ensures kept { (rule : Rule) → IfOk result (λ r. r.1 ≡ Reply.Refused rule → r.0 ≡ s) }
 {
     match changes_of(alloc, s.live(), tx) {
-        Ok(changes) => Ok((s.commit(changes, tx)?, accepted_as(tx.scripts))),
+        Ok(changes) => accepted(s, changes, tx),
         Err(TxFault::Refused(rule)) => Ok((s, Reply::Refused(rule))),
-        Err(TxFault::NoMemory) => Err(NoMemory),
+        Err(TxFault::NoMemory) => {
+            drop(s);
+            Err(NoMemory)
+        }
     }
 }
 
@@ -48,7 +52,7 @@ pub fn judge(alloc: Global, s: &LedgerState, tx: &Tx) -> Result<(), TxFault>
     requires within { is_within_limits tx.now ≡ true }
     ensures rule { IsAnswered (first_broken s.now.ledger tx.now) result }
 {
-    let _changes = changes_of(alloc, s.live(), tx)?;
+    drop(changes_of(alloc, s.live(), tx)?);
     Ok(())
 }
 
@@ -59,8 +63,13 @@ fn changes_of(alloc: Global, s: &LiveLedger, tx: &Tx) -> Result<Changes, TxFault
 {
     as_fault(check(s, tx))?;
     let mut draft = Draft::new(alloc, s);
-    judge_body(&mut draft, tx)?;
-    Ok(draft.into_changes())
+    match judge_body(&mut draft, tx) {
+        Ok(()) => Ok(draft.into_changes()),
+        Err(fault) => {
+            drop(draft);
+            Err(fault)
+        }
+    }
 }
 
 /// Makes the draft of the transaction, or tells the first rule of its body that it breaks. One whose scripts failed need not keep them, and changes nothing in the draft.
@@ -89,6 +98,20 @@ fn judge_passed(draft: &mut Draft, tx: &Tx) -> Result<(), TxFault>
     refresh(draft, tx)?;
     certify(draft, tx)?;
     as_fault(check_drafted(draft, tx))
+}
+
+/// The state after a transaction that breaks no rule, whose changes these are, and the reply to it.
+fn accepted(s: LedgerState, changes: Changes, tx: &Tx) -> Result<(LedgerState, Reply), NoMemory>
+    requires within { is_within_limits tx.now ≡ true }
+    requires allowed { is_allowed s.ledger tx.now ≡ true }
+    requires drafted { laid_over changes s.ledger ≡ draft_of s.ledger tx.now }
+    ensures ledger { IfOk result (λ r. r.0 ≡ on_ledger (λ l. ledger_after_tx l tx.now) s) }
+    ensures reply { IfOk result (λ r. r.1 ≡ accepted_as tx.now.scripts) }
+{
+    match s.commit(changes, tx) {
+        Ok(after) => Ok((after, accepted_as(tx.scripts))),
+        Err(error) => Err(error),
+    }
 }
 
 /// The reply to a transaction that breaks no rule.

@@ -8,11 +8,13 @@ ghost use Rattle.tx_records.specs.TxLimits.{is_within_limits};
 
 mod voter;
 
-use crate::voter::is_known_voter;
+use crate::voter::{is_known_voter, is_unseated};
 use gov_actions::may_vote;
 use live_ledger::Draft;
 use rule_checks::{ItemRules, check_each};
-use tx_records::rules::{ACTION_UNKNOWN, VOTER_NOT_ALLOWED, VOTER_UNKNOWN, VOTING_EXPIRED};
+use tx_records::rules::{
+    ACTION_UNKNOWN, VOTER_NOT_ALLOWED, VOTER_NOT_SEATED, VOTER_UNKNOWN, VOTING_EXPIRED,
+};
 use tx_records::{Rule, Tx, VoteRecord};
 
 /// The rules on each vote.
@@ -41,6 +43,9 @@ impl<'a> ItemRules for Votes<'a> {
         }
         if proposal.expires_after() < s.epoch() {
             return Err(Rule::new(VOTING_EXPIRED));
+        }
+        if s.is_from_version_eleven() && is_unseated(self.d, &v.voter) {
+            return Err(Rule::new(VOTER_NOT_SEATED));
         }
         Ok(())
     }

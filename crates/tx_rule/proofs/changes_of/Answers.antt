@@ -22,24 +22,22 @@ returns-in_err-as_fault c =
     subst (λ (r : Result ⊤ TxFault). IsAnswered (first_among (utxo_checks l tx)) r) (sym (c.in_err-as_fault.ensures ∙ ap as_fault c.check.ensures)) (answered (first_among (utxo_checks l tx))) in
     subst (λ (x : Result Changed TxFault). IsJudged x l tx) (sym is) (faulted _ _ _ _ (two_groups l tx) rule)
 
-pub returns-in_err-judge_body : goal.returns-in_err-judge_body
-returns-in_err-judge_body c =
+pub returns-in-Err : goal.returns-in-Err
+returns-in-Err c =
     let l = c.args.s.now.ledger in
     let tx = c.args.tx.now in
-    let is : c.from_residual-in_err-judge_body.result ≡ Err c.in_err-judge_body.field-0.0 = search rules in
-    let rule = subst (λ (d : Drafted). IsAnswered (first_among (unless_failed tx.scripts (body_checks d.start tx))) (Err c.in_err-judge_body.field-0.0)) c.new-draft.ensures c.in_err-judge_body.ensures.rule in
-    subst (λ (x : Result Changed TxFault). IsJudged x l tx) (sym is)
-    (answered_later _ _ _ (Err c.in_err-judge_body.field-0.0) (two_groups l tx) (passed _ (c.in_ok-as_fault.ensures ∙ ap as_fault c.check.ensures)) rule)
+    let rule = subst (λ (d : Drafted). IsAnswered (first_among (unless_failed tx.scripts (body_checks d.start tx))) (Err c.in-Err.fault)) c.new-draft.ensures c.in-Err.ensures.rule in
+    answered_later _ _ _ (Err c.in-Err.fault) (two_groups l tx) (passed _ (c.in_ok-as_fault.ensures ∙ ap as_fault c.check.ensures)) rule
 
-pub returns : goal.returns
-returns c =
+pub returns-in-Ok : goal.returns-in-Ok
+returns-in-Ok c =
     let l = c.args.s.now.ledger in
     let tx = c.args.tx.now in
-    let rule = subst (λ (d : Drafted). IsAnswered (first_among (unless_failed tx.scripts (body_checks d.start tx))) (Ok tt)) c.new-draft.ensures c.in_ok-judge_body.ensures.rule in
+    let rule = subst (λ (d : Drafted). IsAnswered (first_among (unless_failed tx.scripts (body_checks d.start tx))) (Ok tt)) c.new-draft.ensures c.in-Ok.ensures.rule in
     let at_start : c.new-draft.result.start ≡ l = ap (λ (d : Drafted). d.start) c.new-draft.ensures in (
       answered_later _ _ _ (Ok tt) (two_groups l tx) (passed _ (c.in_ok-as_fault.ensures ∙ ap as_fault c.check.ensures)) rule,
-      ap (λ (x : Ledger). laid_over c.into_changes.result x) (sym (c.in_ok-judge_body.ensures.start ∙ at_start))
+      ap (λ (x : Ledger). laid_over c.into_changes.result x) (sym (c.in-Ok.ensures.start ∙ at_start))
           ∙ c.into_changes.ensures
-          ∙ c.in_ok-judge_body.ensures.ledger
+          ∙ c.in-Ok.ensures.ledger
           ∙ ap (λ (x : Ledger). draft_of x tx) at_start,
     )

@@ -7,12 +7,12 @@ use Rattle.rule_checks.specs.Answered.{IsAnswered}
 use Rattle.tx_rule.proofs.Stepped.{same_broken}
 use Rattle.tx_rule.proofs.judge.Goals as goal
 
-pub returns-in_err-_changes : goal.returns-in_err-_changes
-returns-in_err-_changes c =
-    let is : c.from_residual.result ≡ Err c.in_err-_changes.field-0.0 = search rules in
-    let by_live : IsAnswered (first_broken c.args.s.now.ledger c.args.tx.now) (Err c.in_err-_changes.field-0.0) =
-    subst (λ (l : Ledger). IsAnswered (first_broken l c.args.tx.now) (Err c.in_err-_changes.field-0.0)) c.live.ensures.ledger c.in_err-_changes.ensures in
+pub returns-in_err-changes_of : goal.returns-in_err-changes_of
+returns-in_err-changes_of c =
+    let is : c.from_residual.result ≡ Err c.in_err-changes_of.field-0.0 = search rules in
+    let by_live : IsAnswered (first_broken c.args.s.now.ledger c.args.tx.now) (Err c.in_err-changes_of.field-0.0) =
+    subst (λ (l : Ledger). IsAnswered (first_broken l c.args.tx.now) (Err c.in_err-changes_of.field-0.0)) c.live.ensures.ledger c.in_err-changes_of.ensures in
     record { rule = subst (λ (r : Result ⊤ TxFault). IsAnswered (first_broken c.args.s.now.ledger c.args.tx.now) r) (sym is) by_live }
 
 pub returns : goal.returns
-returns c = record { rule = same_broken _ _ c.args.tx.now _ c.live.ensures.ledger c.in_ok-_changes.ensures.0 }
+returns c = record { rule = same_broken _ _ c.args.tx.now _ c.live.ensures.ledger c.in_ok-changes_of.ensures.0 }

@@ -6,5 +6,5 @@ use Rattle.cert_deleg.proofs.rules.check_cert.Goals as goal
 
 pub returns-in-PoolReg : goal.returns-in-PoolReg
 returns-in-PoolReg c =
-    c.check_terms.ensures c.in-PoolReg.pool
+    c.check_terms.ensures
     ∙ ap (λ (x : Cert). answer_of (cert_checks c.args.d.now.start c.args.d.now.ledger x)) (sym c.in-PoolReg.is)
