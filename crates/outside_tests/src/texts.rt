@@ -94,7 +94,7 @@ fn lines_of_replies(rt: HostRuntime) -> Result<(), Fail> {
 }
 
 /// What follows the number of each rule, where it is broken at place 3 and keeps 7, or 7 and 8.
-static TEXTS: [(u16, &'static str); 60] = [
+static TEXTS: [(u16, &'static str); 62] = [
     (2, " TooLong at 3"),
     (3, " GenesisAgain at 3"),
     (10, " SlotNotLater at 3 last 7"),
@@ -138,6 +138,7 @@ static TEXTS: [(u16, &'static str); 60] = [
     (70, " RetirementEpochWrong at 3 now 7"),
     (71, " ColdKeyUnknown at 3"),
     (72, " ColdKeyResigned at 3"),
+    (73, " PoolKeyInUse at 3"),
     (80, " ProposalDepositWrong at 3 want 7"),
     (81, " ReturnWrongNetwork at 3"),
     (82, " ReturnAccountUnknown at 3"),
@@ -154,6 +155,7 @@ static TEXTS: [(u16, &'static str); 60] = [
     (101, " VoterUnknown at 3"),
     (102, " VoterNotAllowed at 3"),
     (103, " VotingExpired at 3"),
+    (104, " VoterNotSeated at 3"),
     (110, " NotBalanced at 3 consumed 7 produced 8"),
 ];
 

@@ -1,9 +1,6 @@
 pub mod Amounts
-pub mod ParamTexts
 pub mod PotsWords
 pub mod RuleNames
 pub mod Sinks
-pub mod SnapshotNames
-pub mod StateTexts
 pub mod Taking
 pub mod WordTexts

@@ -3,7 +3,7 @@ use Rattle.std.specs.Prelude.{decimal}
 use Rattle.gov_ids.specs.Spelling.{account_text, action_id_text, address_text, credential_text, drep_text, hash_text, pool_text, ref_text, voter_text}
 use Rattle.text_model.specs.Words as texts
 use Rattle.report.specs.declared.parts.Word.{Word}
-use Rattle.report.specs.declared.parts.Word.TheVariants.{Text, Number, Fraction, Version, Document, Script, Credential, Account, Address, Output, Action, Pool, Drep, Voter}
+use Rattle.report.specs.declared.parts.Word.TheVariants.{Text, Number, Fraction, Version, Hash, Script, Credential, Account, Address, Output, Action, Pool, Drep, Voter}
 
 -- its bytes
 abbrev pub word_text : Word → texts.Text
@@ -11,7 +11,7 @@ word_text (Text w) = w.now
 word_text (Number n) = decimal n
 word_text (Fraction num den) = texts.fraction_text num den
 word_text (Version major minor) = texts.version_text (major, minor)
-word_text (Document h) = hash_text h.now
+word_text (Hash h) = hash_text h.now
 word_text (Script h) = hash_text h.now
 word_text (Credential c) = credential_text c.now
 word_text (Account a) = account_text a.now

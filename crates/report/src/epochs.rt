@@ -8,14 +8,14 @@ ghost use Rattle.report.specs.WordTexts.{word_text};
 
 use crate::lines::Printed;
 use crate::parts::{Word, push_line, push_parts};
-use crate::words::{end, push_digits, push_word};
+use crate::words::{end_line, push_digits, push_word};
 use coin_frac::NoMemory;
 use gov_actions::{ActionKind, Need, Tally, Verdict};
 use gov_ids::{Account, Drep};
 use tx_records::{EpochReport, Paid, Removed, Retired, Why};
 
-/// The type of an action.
-pub(crate) fn kind_name(kind: ActionKind) -> &'static str
+/// The type of an action, as lines have it. (Own)
+pub fn kind_name(kind: ActionKind) -> &'static str
     ensures { result.now ≡ kind_text kind }
 {
     match kind {
@@ -191,7 +191,7 @@ pub fn push_tally_line(out: &mut Vec<u8>, line: u64, tally: &Tally) -> Result<()
 {
     push_digits(out, line)?;
     push_tally(out, tally)?;
-    end(out)
+    end_line(out)
 }
 
 /// Adds a tally.

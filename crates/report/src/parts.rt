@@ -2,7 +2,7 @@ ghost use Rattle.std.specs.Prelude.{◌≡◌, ◌++◌, ◌∷◌, map, OnOk};
 ghost use Rattle.text_model.specs.Words.{fraction_text, line_of, spaced, version_text};
 ghost use Rattle.report.specs.WordTexts.{word_text};
 
-use crate::words::{end, push_digits};
+use crate::words::{end_line, push_digits};
 use coin_frac::NoMemory;
 use gov_ids::{
     Account, ActionId, Address, Credential, Drep, OutRef, PoolId, Voter, push_account,
@@ -12,15 +12,20 @@ use gov_ids::{
 
 /// A word of a line, as what it is printed from. (Own)
 #[derive(Drop)]
-pub(crate) enum Word<'a> {
+pub enum Word<'a> {
+    /// As it stands.
     Text(&'a str),
+    /// In decimal digits.
     Number(u64),
     /// A count of a total, or a fraction as it was written.
     Fraction(u64, u64),
     /// Major, then minor.
     Version(u32, u32),
-    Document(&'a [u8; 32]),
+    /// A hash of 32 bytes.
+    Hash(&'a [u8; 32]),
+    /// A hash of 28 bytes.
     Script(&'a [u8; 28]),
+    /// A credential, or another id below, as texts have it.
     Credential(&'a Credential),
     Account(&'a Account),
     Address(&'a Address),
@@ -66,7 +71,7 @@ fn push_text(out: &mut Vec<u8>, word: &Word<'_>) -> Result<(), NoMemory>
         Word::Number(n) => push_digits(out, *n),
         Word::Fraction(num, den) => push_fraction(out, *num, *den),
         Word::Version(major, minor) => push_version(out, *major, *minor),
-        Word::Document(hash) => push_hash(out, *hash),
+        Word::Hash(hash) => push_hash(out, *hash),
         Word::Script(hash) => push_hash(out, *hash),
         Word::Credential(credential) => push_credential(out, credential),
         Word::Account(account) => push_account(out, account),
@@ -79,16 +84,16 @@ fn push_text(out: &mut Vec<u8>, word: &Word<'_>) -> Result<(), NoMemory>
     }
 }
 
-/// Adds a word after a space.
-pub(crate) fn push_part(out: &mut Vec<u8>, word: &Word<'_>) -> Result<(), NoMemory>
+/// Adds a word after a space. After want of memory the buffer may hold anything. (Own)
+pub fn push_part(out: &mut Vec<u8>, word: &Word<'_>) -> Result<(), NoMemory>
     ensures { OnOk result (out.new.items ≡ out.old.items ++ 32 ∷ word_text word.now) }
 {
     out.push(b' ')?;
     push_text(out, word)
 }
 
-/// Adds words, each after a space.
-pub(crate) fn push_parts(out: &mut Vec<u8>, words: &[Word<'_>]) -> Result<(), NoMemory>
+/// Adds words, each after a space. After want of memory the buffer may hold anything. (Own)
+pub fn push_parts(out: &mut Vec<u8>, words: &[Word<'_>]) -> Result<(), NoMemory>
     ensures { OnOk result (out.new.items ≡ out.old.items ++ spaced (map word_text words.now)) }
 {
     for word in words {
@@ -97,11 +102,11 @@ pub(crate) fn push_parts(out: &mut Vec<u8>, words: &[Word<'_>]) -> Result<(), No
     Ok(())
 }
 
-/// Adds a line: the number of the record's line, the words, and a line feed.
-pub(crate) fn push_line(out: &mut Vec<u8>, line: u64, words: &[Word<'_>]) -> Result<(), NoMemory>
+/// Adds a line: the number of the record's line, the words, and a line feed. After want of memory the buffer may hold anything. (Own)
+pub fn push_line(out: &mut Vec<u8>, line: u64, words: &[Word<'_>]) -> Result<(), NoMemory>
     ensures { OnOk result (out.new.items ≡ out.old.items ++ line_of line (map word_text words.now)) }
 {
     push_digits(out, line)?;
     push_parts(out, words)?;
-    end(out)
+    end_line(out)
 }

@@ -6,12 +6,12 @@ ghost use Rattle.report.specs.Amounts.{amount_words};
 ghost use Rattle.report.specs.PotsWords.{pots_word_text};
 
 use crate::lines::Printed;
-use crate::words::{end, push_amounts, push_digits, push_word};
+use crate::words::{end_line, push_amounts, push_digits, push_word};
 use coin_frac::NoMemory;
 use tx_records::Pots;
 
 /// What stands before the pots in their line. (Own)
-#[derive(Clone, Copy, Debug, PartialEq, Eq)]
+#[derive(Clone, Copy)]
 pub enum PotsWord {
     /// The answer to a genesis.
     Genesis,
@@ -80,7 +80,7 @@ pub fn push_pots_line(
 {
     push_digits(out, line)?;
     push_pots(out, word.text(), pots)?;
-    end(out)
+    end_line(out)
 }
 
 /// The line of the pots, in place of what the buffer held. After want of memory the buffer may hold anything. (Own)

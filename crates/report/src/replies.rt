@@ -6,7 +6,7 @@ ghost use Rattle.report.specs.Amounts.{amount_words};
 ghost use Rattle.report.specs.RuleNames.{text_seen};
 
 use crate::rule_texts::{RuleText, text_of};
-use crate::words::{begin, end, push_digits, push_number, push_word};
+use crate::words::{begin, end_line, push_digits, push_number, push_word};
 use coin_frac::NoMemory;
 use tx_records::{FieldName, Reply, Rule, rules};
 
@@ -106,5 +106,5 @@ pub fn reply_line(line: &mut Vec<u8>, number: u64, reply: &Reply) -> Result<(), 
 {
     begin(line, number)?;
     push_reply(line, reply)?;
-    end(line)
+    end_line(line)
 }

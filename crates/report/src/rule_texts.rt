@@ -5,7 +5,7 @@ ghost use Rattle.report.specs.RuleNames.{text_seen};
 use tx_records::rules;
 
 /// A rule's number, its name, and the words of the numbers that it keeps. (Own)
-#[derive(Clone, Copy, Debug, PartialEq, Eq)]
+#[derive(Clone, Copy)]
 pub(crate) struct RuleText {
     pub(crate) number: u16,
     pub(crate) name: &'static str,
@@ -20,7 +20,7 @@ macro_rules! rule {
 }
 
 /// One line a rule.
-static RULE_TEXTS: [RuleText; 61] = [
+static RULE_TEXTS: [RuleText; 63] = [
     rule!(MALFORMED, "Malformed"),
     rule!(TOO_LONG, "TooLong"),
     rule!(GENESIS_AGAIN, "GenesisAgain"),
@@ -65,6 +65,7 @@ static RULE_TEXTS: [RuleText; 61] = [
     rule!(RETIREMENT_EPOCH_WRONG, "RetirementEpochWrong", "now"),
     rule!(COLD_KEY_UNKNOWN, "ColdKeyUnknown"),
     rule!(COLD_KEY_RESIGNED, "ColdKeyResigned"),
+    rule!(POOL_KEY_IN_USE, "PoolKeyInUse"),
     rule!(PROPOSAL_DEPOSIT_WRONG, "ProposalDepositWrong", "want"),
     rule!(RETURN_WRONG_NETWORK, "ReturnWrongNetwork"),
     rule!(RETURN_ACCOUNT_UNKNOWN, "ReturnAccountUnknown"),
@@ -81,6 +82,7 @@ static RULE_TEXTS: [RuleText; 61] = [
     rule!(VOTER_UNKNOWN, "VoterUnknown"),
     rule!(VOTER_NOT_ALLOWED, "VoterNotAllowed"),
     rule!(VOTING_EXPIRED, "VotingExpired"),
+    rule!(VOTER_NOT_SEATED, "VoterNotSeated"),
     rule!(NOT_BALANCED, "NotBalanced", "consumed", "produced"),
 ];
 

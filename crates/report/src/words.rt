@@ -5,8 +5,8 @@ ghost use Rattle.report.specs.Amounts.{amount_words};
 use coin_frac::NoMemory;
 use itoa::{Buffer, Integer};
 
-/// Adds the digits of a number.
-pub(crate) fn push_digits<I: Integer>(line: &mut Vec<u8>, n: I) -> Result<(), NoMemory>
+/// Adds the digits of a number. After want of memory the buffer may hold anything. (Own)
+pub fn push_digits<I: Integer>(line: &mut Vec<u8>, n: I) -> Result<(), NoMemory>
     ensures { OnOk result (line.new.items ≡ line.old.items ++ I.text n) }
 {
     let mut buffer = Buffer::new();
@@ -61,8 +61,8 @@ pub(crate) fn begin(line: &mut Vec<u8>, number: u64) -> Result<(), NoMemory>
     push_digits(line, number)
 }
 
-/// Ends a line.
-pub(crate) fn end(line: &mut Vec<u8>) -> Result<(), NoMemory>
+/// Ends a line. After want of memory the buffer may hold anything. (Own)
+pub fn end_line(line: &mut Vec<u8>) -> Result<(), NoMemory>
     ensures { OnOk result (line.new.items ≡ line.old.items ++ 10 ∷ []) }
 {
     line.push(b'\n')?;
@@ -75,5 +75,5 @@ pub fn words_line(line: &mut Vec<u8>, number: u64, words: &[&str]) -> Result<(),
 {
     begin(line, number)?;
     push_words(line, words)?;
-    end(line)
+    end_line(line)
 }

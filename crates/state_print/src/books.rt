@@ -12,8 +12,9 @@ use byte_lines::SinkFault;
 use cert_pool::PoolBook;
 use drep_book::DrepBook;
 use gov_ids::{Credential, OutRef, PoolId};
-use report::{LineTaker, StateLine, put_one};
+use report::{LineTaker, put_one};
 use stake_book::StakeBook;
+use state_lines::StateLine;
 
 impl Walked for DrepBook {
     ghost use Rattle.std.specs.Prelude.{[], ◌∷◌};

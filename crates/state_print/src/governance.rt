@@ -1,7 +1,7 @@
 //! Where the chain is, and how it is governed.
 ghost use Rattle.std.specs.Prelude.{[], ◌∷◌, map};
 ghost use Rattle.gov_model.specs.Sides.{members_of};
-ghost use Rattle.report.specs.StateTexts.{state_words};
+ghost use Rattle.state_lines.specs.StateTexts.{state_words};
 ghost use Rattle.report.specs.Taking.{HasPut};
 ghost use Rattle.state_print.specs.Views.{shown_of_view};
 ghost use Rattle.text_model.specs.StateLines.{committee_lines, governance_lines, hot_outside, hot_words, member_among};
@@ -13,7 +13,8 @@ use byte_lines::SinkFault;
 use committee_book::{HotBook, is_member};
 use gov_actions::{Committee, HotState};
 use gov_ids::Credential;
-use report::{LineTaker, StateLine, put_one};
+use report::{LineTaker, put_one};
+use state_lines::StateLine;
 
 /// The members of a committee.
 #[derive(Drop)]

@@ -1,6 +1,6 @@
 //! The lines of what boundaries keep and of what the next one applies.
 ghost use Rattle.std.specs.Prelude.{◌++◌, [], ◌∷◌, codes, map, option_map};
-ghost use Rattle.report.specs.SnapshotNames.{snapshot_text};
+ghost use Rattle.state_lines.specs.SnapshotNames.{snapshot_text};
 ghost use Rattle.report.specs.Taking.{HasPut};
 ghost use Rattle.text_model.specs.StateLines.{noted_fees_words, pending_lines, pending_reward_words, pending_words, snapshot_words};
 
@@ -8,8 +8,9 @@ use crate::items::{ItemLines, put_items};
 use byte_lines::SinkFault;
 use gov_ids::{Credential, PoolId};
 use listed::Listed;
-use report::{LineTaker, SnapshotName, StateLine, put_one};
+use report::{LineTaker, put_one};
 use snapshots::Snapshots;
+use state_lines::{SnapshotName, StateLine};
 use tx_records::Rewards;
 
 /// The stakes of the pools in a snapshot.
@@ -20,7 +21,7 @@ struct Stakes {
 
 impl ItemLines for Stakes {
     ghost use Rattle.std.specs.Prelude.{[], ◌∷◌};
-    ghost use Rattle.report.specs.SnapshotNames.{snapshot_text};
+    ghost use Rattle.state_lines.specs.SnapshotNames.{snapshot_text};
     ghost use Rattle.text_model.specs.StateLines.{snapshot_words};
 
     type Item = (PoolId, u64);

@@ -1,6 +1,6 @@
 //! The lines of the proposals with their votes.
 ghost use Rattle.std.specs.Prelude.{◌≡◌, [], ◌∷◌, flat_map, map, option_to_list, slice_get};
-ghost use Rattle.report.specs.StateTexts.{proposed_words};
+ghost use Rattle.state_lines.specs.StateTexts.{proposed_words};
 ghost use Rattle.report.specs.Taking.{HasPut};
 ghost use Rattle.text_model.specs.StateLines.{proposal_lines, proposal_words, vote_words};
 
@@ -8,7 +8,8 @@ use byte_lines::SinkFault;
 use gov_actions::Vote;
 use gov_ids::Voter;
 use proposal_store::{LiveProposal, ProposalStore};
-use report::{LineTaker, Proposed, StateLine, put_one};
+use report::{LineTaker, put_one};
+use state_lines::{Proposed, StateLine};
 
 /// Hands over the line of a vote on a proposal.
 fn put_vote<T: LineTaker>(

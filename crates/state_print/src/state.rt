@@ -15,7 +15,8 @@ use crate::kept::{put_pending, put_snapshots};
 use crate::view::StateView;
 use byte_lines::{Sink, SinkFault};
 use coin_frac::NoMemory;
-use report::{LineList, LineTaker, PotsWord, put_one, put_params};
+use report::{LineList, LineTaker, PotsWord, put_one};
+use state_lines::put_params;
 use std::alloc::Global;
 
 /// Hands over the lines of the governance, the parameters and the books.

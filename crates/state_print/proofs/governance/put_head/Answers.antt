@@ -1,5 +1,5 @@
 use Rattle.std.proofs.Common.{[], ◌∷◌, refl}
-use Rattle.report.specs.StateTexts.{state_words}
+use Rattle.state_lines.specs.StateTexts.{state_words}
 use Rattle.report.proofs.Puts.{put_first_as, put_second_as}
 use Rattle.state_print.proofs.governance.put_head.Goals as goal
 

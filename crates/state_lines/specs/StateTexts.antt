@@ -1,9 +1,9 @@
 -- The words of a line of the state. (Own)
 use Rattle.std.specs.Prelude.{List}
-use Rattle.report.specs.SnapshotNames.{snapshot_text}
-use Rattle.report.specs.declared.actions.Proposed.{Proposed}
-use Rattle.report.specs.declared.state_line.StateLine.{StateLine}
-use Rattle.report.specs.declared.state_line.StateLine.TheVariants.{Now, Constitution, Committee, Member, Hot, Enacted, Drep, Pool, NextTerms, Account, Output, Proposal, Vote, Snapshot, NotedFees, Pending, NonePending, PendingReward}
+use Rattle.state_lines.specs.SnapshotNames.{snapshot_text}
+use Rattle.state_lines.specs.declared.actions.Proposed.{Proposed}
+use Rattle.state_lines.specs.declared.state_line.StateLine.{StateLine}
+use Rattle.state_lines.specs.declared.state_line.StateLine.TheVariants.{Now, Constitution, Committee, Member, Hot, Enacted, Drep, Pool, NextTerms, Account, Output, Proposal, Vote, Snapshot, NotedFees, Pending, NonePending, PendingReward}
 use Rattle.text_model.specs.StateLines.{account_words, committee_words, drep_words, hot_words, next_words, none_pending_words, noted_fees_words, output_words, pending_reward_words, pending_words, pool_words, snapshot_words, words_of_constitution, words_of_enacted, words_of_member, words_of_now, words_of_proposal, words_of_vote}
 use Rattle.text_model.specs.Words.{Text}
 

@@ -1,7 +1,7 @@
 use Rattle.std.proofs.Common.{◌≡◌, ◌++◌, drop}
 use Rattle.text_model.specs.ParamLines.{shares}
 use Rattle.text_model.specs.Words.{spaced}
-use Rattle.report.proofs.params.push_shares.Given as goal
+use Rattle.state_lines.proofs.params.push_shares.Given as goal
 
 -- what is added so far, and the fractions that are left, are all of them
 abbrev pub invariant-loop-share : goal.invariant-loop-share

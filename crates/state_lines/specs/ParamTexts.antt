@@ -1,8 +1,8 @@
 -- The words of a parameter's line. (Own)
 use Rattle.std.specs.Prelude.{List, [], ◌∷◌}
-use Rattle.report.specs.declared.params.Param.{Param}
-use Rattle.report.specs.declared.params.Value.{Value}
-use Rattle.report.specs.declared.params.Value.TheVariants.{One, Two, Shares}
+use Rattle.state_lines.specs.declared.params.Param.{Param}
+use Rattle.state_lines.specs.declared.params.Value.{Value}
+use Rattle.state_lines.specs.declared.params.Value.TheVariants.{One, Two, Shares}
 use Rattle.report.specs.WordTexts.{word_text}
 use Rattle.text_model.specs.ParamLines.{param, shares}
 use Rattle.text_model.specs.Words.{Text}

@@ -5,10 +5,10 @@ ghost use Rattle.text_model.specs.StateLines.{committee_words, hot_text, hot_wor
 ghost use Rattle.text_model.specs.Words.{line_of, or_none};
 ghost use Rattle.report.specs.WordTexts.{word_text};
 
-use crate::parts::{Word, push_line};
 use coin_frac::NoMemory;
 use gov_actions::{Committee, HotState, LastIds};
 use gov_ids::{ActionId, Credential};
+use report::{Word, push_line};
 
 /// The hot key of a cold key.
 fn hot_word(hot: &Option<HotState>) -> Word<'_>
@@ -83,7 +83,7 @@ pub fn push_constitution_line<'a>(
         line,
         &[
             Word::Text("constitution"),
-            Word::Document(document),
+            Word::Hash(document),
             script_word(script),
         ],
     )

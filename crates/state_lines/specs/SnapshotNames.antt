@@ -1,7 +1,7 @@
 -- The names of the snapshots of pools. (Own)
 use Rattle.std.specs.Prelude.{codes}
-use Rattle.report.specs.declared.actions.SnapshotName.{SnapshotName}
-use Rattle.report.specs.declared.actions.SnapshotName.TheVariants.{Mark, Set, Go}
+use Rattle.state_lines.specs.declared.actions.SnapshotName.{SnapshotName}
+use Rattle.state_lines.specs.declared.actions.SnapshotName.TheVariants.{Mark, Set, Go}
 use Rattle.text_model.specs.Words.{Text}
 
 -- the word

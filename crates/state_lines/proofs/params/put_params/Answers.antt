@@ -1,7 +1,7 @@
 use Rattle.std.proofs.Common.{take, drop, refl}
 use Rattle.text_model.specs.ParamLines.{param_lines}
 use Rattle.report.proofs.Puts.{put_first_as, put_second_as}
-use Rattle.report.proofs.params.put_params.Goals as goal
+use Rattle.state_lines.proofs.params.put_params.Goals as goal
 
 pub returns-in_err-put_front : goal.returns-in_err-put_front
 returns-in_err-put_front g c =

@@ -1,7 +1,7 @@
 //! A line of a state, of any kind.
 ghost use Rattle.std.specs.Prelude.{◌≡◌, ◌++◌, OnOk};
 ghost use Rattle.text_model.specs.Words.{line_of};
-ghost use Rattle.report.specs.StateTexts.{state_words};
+ghost use Rattle.state_lines.specs.StateTexts.{state_words};
 
 use crate::actions::{
     Proposed, SnapshotName, push_none_pending_line, push_noted_fees_line, push_pending_line,
@@ -10,7 +10,6 @@ use crate::actions::{
 use crate::books::{
     push_account_line, push_drep_line, push_next_line, push_output_line, push_pool_line,
 };
-use crate::lines::Printed;
 use crate::states::{
     push_committee_line, push_constitution_line, push_enacted_line, push_hot_line,
     push_member_line, push_now_line,
@@ -19,6 +18,7 @@ use book_records::{DrepState, Entry, Output, Pool, PoolTerms};
 use coin_frac::NoMemory;
 use gov_actions::{Committee, HotState, LastIds, Vote};
 use gov_ids::{ActionId, Credential, OutRef, PoolId, Voter};
+use report::Printed;
 use tx_records::Rewards;
 
 /// A line of a state, as what it is printed from; that of a parameter stands apart. (Own)
@@ -93,7 +93,7 @@ fn push_state_line(out: &mut Vec<u8>, line: u64, shown: &StateLine<'_>) -> Resul
 }
 
 impl Printed for StateLine<'_> {
-    ghost use Rattle.report.specs.StateTexts.{state_words};
+    ghost use Rattle.state_lines.specs.StateTexts.{state_words};
 
     ghost words = { state_words };
 

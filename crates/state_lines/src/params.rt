@@ -2,15 +2,13 @@
 ghost use Rattle.std.specs.Prelude.{◌≡◌, ◌++◌, drop, map, take, OnOk};
 ghost use Rattle.text_model.specs.ParamLines.{param_lines, shares};
 ghost use Rattle.text_model.specs.Words.{spaced};
-ghost use Rattle.report.specs.ParamTexts.{param_words, value_words};
+ghost use Rattle.state_lines.specs.ParamTexts.{param_words, value_words};
 ghost use Rattle.report.specs.Taking.{HasPut};
 
-use crate::lines::{LineTaker, Printed, put_each};
-use crate::parts::{Word, push_part, push_parts};
-use crate::words::{end, push_digits};
 use byte_lines::SinkFault;
 use coin_frac::{NoMemory, Unit};
 use pparams::Params;
+use report::{LineTaker, Printed, Word, end_line, push_digits, push_part, push_parts, put_each};
 
 /// The value of a parameter.
 #[derive(Drop)]
@@ -60,14 +58,14 @@ fn push_param(out: &mut Vec<u8>, param: &Param<'_>) -> Result<(), NoMemory>
 }
 
 impl Printed for Param<'_> {
-    ghost use Rattle.report.specs.ParamTexts.{param_words};
+    ghost use Rattle.state_lines.specs.ParamTexts.{param_words};
 
     ghost words = { param_words };
 
     fn push_line(&self, out: &mut Vec<u8>, line: u64) -> Result<(), NoMemory> {
         push_digits(out, line)?;
         push_param(out, self)?;
-        end(out)
+        end_line(out)
     }
 }
 
@@ -143,7 +141,7 @@ fn shares_of(p: &Params) -> [Param<'_>; 8]
         one!("a0", Fraction(p.a0.num(), p.a0.den())),
         one!("eMax", Number(u64::from(p.e_max))),
         one!("nOpt", Number(u64::from(p.n_opt))),
-        one!("costModels", Document(&p.cost_models)),
+        one!("costModels", Hash(&p.cost_models)),
         one!(
             "collateralPercentage",
             Number(u64::from(p.collateral_percentage))

@@ -1,7 +1,7 @@
 use Rattle.std.proofs.Common.{take, drop}
 use Rattle.text_model.specs.ParamLines.{param_lines}
 use Rattle.report.proofs.Puts.{put_first_as, put_second_as}
-use Rattle.report.proofs.params.put_front.Goals as goal
+use Rattle.state_lines.proofs.params.put_front.Goals as goal
 
 pub returns-in_err-put_each : goal.returns-in_err-put_each
 returns-in_err-put_each g c =

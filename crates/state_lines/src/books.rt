@@ -1,15 +1,14 @@
 //! The lines of the books of a state: DReps, pools, accounts and outputs.
 ghost use Rattle.std.specs.Prelude.{◌≡◌, ◌++◌, Some, OnOk};
 ghost use Rattle.gov_ids.specs.Spelling.{drep_text, pool_text};
-ghost use Rattle.text_model.specs.StateLines.{account_words, drep_words, next_words, output_words, pool_words, registration_words, retires_text, terms_words};
+ghost use Rattle.text_model.specs.StateLines.{account_words, drep_words, key_words, next_words, output_words, pool_words, registration_words, retires_text, terms_words};
 ghost use Rattle.text_model.specs.Words.{line_of, or_none, spaced};
 ghost use Rattle.report.specs.WordTexts.{word_text};
 
-use crate::parts::{Word, push_line, push_parts};
-use crate::words::{end, push_digits};
 use book_records::{DrepState, Entry, Output, Pool, PoolTerms, Registered};
 use coin_frac::NoMemory;
 use gov_ids::{Credential, Drep, OutRef, PoolId};
+use report::{Word, end_line, push_digits, push_line, push_parts};
 
 /// A pool, or none.
 fn pool_word(pool: &Option<PoolId>) -> Word<'_>
@@ -83,6 +82,16 @@ fn push_terms(out: &mut Vec<u8>, terms: &PoolTerms) -> Result<(), NoMemory>
     )
 }
 
+/// Adds the key of a pool, where its terms state one.
+fn push_key(out: &mut Vec<u8>, key: &Option<[u8; 32]>) -> Result<(), NoMemory>
+    ensures { OnOk result (out.new.items ≡ out.old.items ++ spaced (key_words key.now)) }
+{
+    match key {
+        None => Ok(()),
+        Some(key) => push_parts(out, &[Word::Text("key"), Word::Hash(key)]),
+    }
+}
+
 /// Adds a pool.
 fn push_pool<'a>(out: &mut Vec<u8>, id: &'a PoolId, pool: &'a Pool) -> Result<(), NoMemory>
     ensures { OnOk result (out.new.items ≡ out.old.items ++ spaced (pool_words id.now pool.now)) }
@@ -97,7 +106,8 @@ fn push_pool<'a>(out: &mut Vec<u8>, id: &'a PoolId, pool: &'a Pool) -> Result<()
         ],
     )?;
     push_terms(out, &pool.terms)?;
-    push_parts(out, &[Word::Text("retires"), retires_word(&pool.retires)])
+    push_parts(out, &[Word::Text("retires"), retires_word(&pool.retires)])?;
+    push_key(out, &pool.terms.key)
 }
 
 /// Appends the line of a pool. After want of memory the buffer may hold anything. (Own)
@@ -111,7 +121,7 @@ pub fn push_pool_line(
 {
     push_digits(out, line)?;
     push_pool(out, id, pool)?;
-    end(out)
+    end_line(out)
 }
 
 /// Appends the line of a pool's future terms. After want of memory the buffer may hold anything. (Own)
@@ -125,7 +135,7 @@ pub fn push_next_line(
 {
     push_digits(out, line)?;
     push_next(out, id, terms)?;
-    end(out)
+    end_line(out)
 }
 
 /// Adds a pool's future terms.
@@ -133,7 +143,8 @@ fn push_next(out: &mut Vec<u8>, id: &PoolId, terms: &PoolTerms) -> Result<(), No
     ensures { OnOk result (out.new.items ≡ out.old.items ++ spaced (next_words id.now terms.now)) }
 {
     push_parts(out, &[Word::Text("next"), Word::Pool(id)])?;
-    push_terms(out, terms)
+    push_terms(out, terms)?;
+    push_key(out, &terms.key)
 }
 
 /// Adds the registration of an account.
@@ -192,7 +203,7 @@ pub fn push_account_line(
 {
     push_digits(out, line)?;
     push_account(out, credential, entry)?;
-    end(out)
+    end_line(out)
 }
 
 /// Appends the line of an unspent output. After want of memory the buffer may hold anything. (Own)

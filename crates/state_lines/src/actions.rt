@@ -3,15 +3,14 @@ ghost use Rattle.std.specs.Prelude.{◌≡◌, ◌++◌, OnOk};
 ghost use Rattle.text_model.specs.ActionWords.{vote_text};
 ghost use Rattle.text_model.specs.StateLines.{none_pending_words, noted_fees_words, pending_reward_words, pending_words, snapshot_words, words_of_vote};
 ghost use Rattle.text_model.specs.Words.{line_of};
-ghost use Rattle.report.specs.StateTexts.{proposed_words};
-ghost use Rattle.report.specs.SnapshotNames.{snapshot_text};
+ghost use Rattle.state_lines.specs.StateTexts.{proposed_words};
+ghost use Rattle.state_lines.specs.SnapshotNames.{snapshot_text};
 
-use crate::epochs::kind_name;
-use crate::parts::{Word, push_line};
 use crate::states::id_word;
 use coin_frac::NoMemory;
 use gov_actions::{Action, Vote};
 use gov_ids::{Account, ActionId, Credential, PoolId, Voter};
+use report::{Word, kind_name, push_line};
 use tx_records::Rewards;
 
 /// A vote.
@@ -90,7 +89,7 @@ pub fn push_vote_line<'a>(
 }
 
 /// Which of the last three boundaries a snapshot of pools is of. (SNAP of the formal specification)
-#[derive(Clone, Copy, Debug, PartialEq, Eq)]
+#[derive(Clone, Copy)]
 pub enum SnapshotName {
     /// The last.
     Mark,

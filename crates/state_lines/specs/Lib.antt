@@ -1,0 +1,3 @@
+pub mod ParamTexts
+pub mod SnapshotNames
+pub mod StateTexts
