@@ -9,7 +9,7 @@ use epoch_rule::cross;
 use gov_ids::{CredKind, Credential};
 use ledger_state::LedgerState;
 use live_ledger::{Draft, GenesisFault};
-use par_count::Gate;
+use par_count::OpenGate;
 use record_read::{RecordFault, read_record};
 use std::alloc::Global;
 use std::thread::Threads;
@@ -43,14 +43,6 @@ impl From<RecordFault> for Stop {
 
 /// How many workers share a count.
 const WORKERS: u32 = 3;
-
-/// A gate that does nothing.
-#[derive(Drop)]
-struct Open;
-
-impl Gate for Open {
-    fn enter(&self, _worker: u32) {}
-}
 
 /// A state that records change and a boundary ends. What goes over many of them is written over any, so that its proof opens no
 /// part of the ledger.
@@ -128,7 +120,7 @@ pub fn crossed<R: Threads + Sync>(
     s: LedgerState,
 ) -> Result<(LedgerState, EpochReport), Stop> {
     if s.epoch() < 1 << 62 {
-        Ok(cross(alloc, rt, s, WORKERS, &Open)?)
+        Ok(cross(alloc, rt, s, WORKERS, &OpenGate)?)
     } else {
         drop(s);
         Err(Stop::NotTaken)

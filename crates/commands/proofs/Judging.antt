@@ -1,5 +1,5 @@
 -- What is judged of a record is what the definitions of the whole ledger say of it.
-use Rattle.std.proofs.Common.{◌≡◌, ℕ, ◌+◌, ◌/◌, ◌==◌, [], ◌∷◌, Bool, true, false, Option, Some, None, Err, nat_le, nat_lt, refl, ap, sym, ◌∙◌, arith}
+use Rattle.std.proofs.Common.{◌≡◌, ℕ, ◌+◌, ◌/◌, ◌==◌, [], ◌∷◌, Bool, true, false, Option, Some, None, Err, nat_le, nat_lt, refl, ap, subst, sym, ◌∙◌, arith}
 use Rattle.std.proofs.lemmas.Bool.{eqb-true, le-ltb, ne_eqb}
 use Rattle.ledger_model.specs.Broken.{first_broken}
 use Rattle.ledger_model.specs.Checks.{breaks, breaks_keeping, first_among}
@@ -13,6 +13,7 @@ use Rattle.run_model.specs.Boundary.{world_after_boundary}
 use Rattle.run_model.specs.Report.{report_of}
 use Rattle.run_model.specs.Step.{block_checks, crossed, enters_next, epoch_at, pulsed, step, step_by, world_after_block}
 use Rattle.run_model.specs.World.{World, on_ledger}
+use Rattle.tx_records.specs.declared.record.Reading.{Reading}
 use Rattle.tx_records.specs.declared.record.Reading.TheVariants.{Read}
 use Rattle.tx_records.specs.declared.record.Record.TheVariants as records
 use Rattle.tx_records.specs.declared.record.Rewards.{Rewards}
@@ -23,10 +24,10 @@ use Rattle.tx_records.specs.declared.report.EpochReport.{EpochReport}
 use Rattle.tx_records.specs.declared.report.Pots.{Pots}
 use Rattle.tx_records.specs.declared.rules.TheConstants.{EPOCH_SKIPPED, SLOT_NOT_LATER, ZERO_PULSE}
 use Rattle.tx_records.specs.declared.tx.Tx.{Tx}
-use Rattle.commands.specs.Answers.{IsJudged}
-use Rattle.commands.specs.Outcomes.{block_outcome, outcome_by}
-use Rattle.commands.specs.declared.outcome.Outcome.{Outcome}
-use Rattle.commands.specs.declared.outcome.Outcome.TheVariants.{Answered, Crossed}
+use Rattle.replay_loop.specs.Answers.{IsJudged}
+use Rattle.replay_loop.specs.Outcomes.{block_outcome, outcome_by}
+use Rattle.replay_loop.specs.declared.outcome.Outcome.{Outcome}
+use Rattle.replay_loop.specs.declared.outcome.Outcome.TheVariants.{Answered, Crossed}
 
 -- ---- a transaction
 
@@ -158,3 +159,10 @@ crossing_judged w v slot pulse report pots p is reports hold stepped none enters
     accepted_by w slot pulse p.0 (Crossed report pots) none
     (left_after w v slot pulse p stepped after_none (stays_after w v slot pulse is enters) is enters)
     (crossing_comes w v slot report pots is reports hold enters)
+
+-- ---- a ledger that is held in memory of its own
+
+-- what is judged of a World and put into memory
+pub held_as : (w v : World) (r : Reading) (after held : World) (outcome : Outcome) → v ≡ w → held ≡ after → IsJudged v r (after, outcome) → IsJudged w r (held, outcome)
+held_as w v r after held outcome same kept judged =
+    subst (λ (x : World). IsJudged x r (held, outcome)) same (subst (λ (x : World). IsJudged v r (x, outcome)) (sym kept) judged)

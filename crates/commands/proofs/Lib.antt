@@ -1,11 +1,1 @@
-pub mod Numbers
-pub mod Words
-pub mod Lines
-pub mod Counts
 pub mod Judging
-pub mod Complete
-pub mod LawsHold
-pub mod Turns
-pub mod Texts
-pub mod Loads
-pub mod Workers

@@ -1,13 +1,1 @@
-pub mod Runs
-pub mod Laws
-pub mod Commands
-pub mod Statuses
-pub mod Endings
-pub mod Outcomes
-pub mod Answers
-pub mod Told
-pub mod Texts
-pub mod Turns
-pub mod Counts
-pub mod Loads
-pub mod Inputs
+pub mod Faults

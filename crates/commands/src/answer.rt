@@ -1,5 +1,7 @@
-ghost use Rattle.std.specs.Prelude.{◌≡◌, ◌≤◌, option_map, true};
-ghost use Rattle.commands.specs.Answers.{AnswersAs, Begins, BeginsWith, Judges};
+ghost use Rattle.std.specs.Prelude.{◌≡◌, ◌≤◌, IfOk, option_map, true};
+ghost use Rattle.commands.specs.Faults.{fault_of_genesis};
+ghost use Rattle.replay_loop.specs.Answers.{AnswersAs, Begins, BeginsWith, Judges};
+ghost use Rattle.ledger_model.specs.Supply.{pots_of};
 ghost use Rattle.record_stream.specs.Records.{is_within};
 ghost use Rattle.tx_records.specs.GenesisLimits as genesis_limits;
 ghost use Rattle.tx_records.specs.RecordLimits.{is_within_limits};
@@ -10,12 +12,13 @@ ghost use Rattle.tx_records.specs.Rules.{plain_rule};
 
 use crate::blocks::judge_block;
 use crate::crew::Crew;
-use crate::fault::AnswerFault;
-use crate::outcome::Outcome;
-use crate::status::GenesisCause;
+use crate::held::Held;
 use coin_frac::NoMemory;
 use ledger_state::LedgerState;
+use listed::Boxed;
+use live_ledger::GenesisFault;
 use par_count::Gate;
+use replay_loop::{AnswerFault, Answered, GenesisCause, Outcome};
 use report::PotsWord;
 use std::alloc::Global;
 use std::thread::Threads;
@@ -23,23 +26,44 @@ use tx_records::rules::{GENESIS_AGAIN, MALFORMED, TOO_LONG};
 use tx_records::{FieldName, Genesis, Reading, Record, Reply, Rewards, Rule, Tx, What};
 use tx_rule::apply_tx;
 
-/// The state after what was read, and what that comes to, or why there is no answer.
-pub(crate) type Answered<R> = Result<(R, Outcome), AnswerFault>;
+/// A ledger is moved from record to record as a pointer.
+pub(crate) type Judged = Result<(Boxed<LedgerState>, Outcome), NoMemory>;
+
+/// Why there is no answer where a genesis gave no ledger.
+fn fault_of(fault: GenesisFault) -> AnswerFault
+    ensures { result ≡ fault_of_genesis fault }
+{
+    match fault {
+        GenesisFault::Broken(rule) => AnswerFault::BadGenesis(GenesisCause::Broken(rule)),
+        GenesisFault::NoMemory => AnswerFault::NoMemory,
+    }
+}
+
+/// The ledger of a genesis, and its pots.
+fn begun(alloc: Global, ledger: LedgerState) -> Judged
+    ensures ledger { IfOk result (λ r. r.0 ≡ ledger) }
+    ensures pots { IfOk result (λ r. r.1 ≡ Outcome.Pots PotsWord.Genesis (pots_of ledger.ledger)) }
+{
+    let pots = ledger.pots();
+    let held = Boxed::new(alloc, ledger)?;
+    Ok((held, Outcome::Pots(PotsWord::Genesis, pots)))
+}
 
 /// The ledger of a genesis and its pots, where it breaks no rule; so many workers count its first epoch.
-fn begin(alloc: Global, genesis: &Genesis, workers: u32) -> Answered<LedgerState>
+fn begin(alloc: Global, genesis: &Genesis, workers: u32) -> Answered<Boxed<LedgerState>>
     requires within { genesis_limits.is_within_limits genesis.now ≡ true }
     requires some { 1 ≤ workers }
     requires few { workers ≤ 64 }
     ensures { Begins genesis.now result }
 {
-    let ledger = LedgerState::from_genesis(alloc, genesis, workers)?;
-    let pots = ledger.pots();
-    Ok((ledger, Outcome::Pots(PotsWord::Genesis, pots)))
+    match LedgerState::from_genesis(alloc, genesis, workers) {
+        Ok(ledger) => Ok(begun(alloc, ledger)?),
+        Err(fault) => Err(fault_of(fault)),
+    }
 }
 
 /// The same of what was read first, or why there is no ledger to begin with.
-fn begin_with(alloc: Global, reading: &Reading, workers: u32) -> Answered<LedgerState>
+fn begin_with(alloc: Global, reading: &Reading, workers: u32) -> Answered<Boxed<LedgerState>>
     requires within { is_within reading.now ≡ true }
     requires some { 1 ≤ workers }
     requires few { workers ≤ 64 }
@@ -78,30 +102,32 @@ fn malformed(what: FieldName, place: Option<u32>) -> Outcome
 }
 
 /// The ledger after a transaction, and its reply.
-fn judge_tx(alloc: Global, ledger: LedgerState, tx: &Tx) -> Result<(LedgerState, Outcome), NoMemory>
+fn judge_tx(alloc: Global, ledger: Boxed<LedgerState>, tx: &Tx) -> Judged
     requires within { tx_limits.is_within_limits tx.now ≡ true }
     ensures { Judges ledger (Read (Record.Tx tx.now)) result }
 {
-    let (after, reply) = apply_tx(alloc, ledger, tx)?;
-    Ok((after, Outcome::Answered(reply)))
+    let (after, reply) = apply_tx(alloc, ledger.into_value(), tx)?;
+    let held = Boxed::new(alloc, after)?;
+    Ok((held, Outcome::Answered(reply)))
 }
 
 /// The ledger after a reward update, and its reply.
-fn judge_rewards(ledger: LedgerState, update: &Rewards) -> Result<(LedgerState, Outcome), NoMemory>
+fn judge_rewards(alloc: Global, ledger: Boxed<LedgerState>, update: &Rewards) -> Judged
     requires within { is_within_limits (Record.Rewards update.now) ≡ true }
     ensures { Judges ledger (Read (Record.Rewards update.now)) result }
 {
-    let (after, reply) = ledger.rewards(update)?;
-    Ok((after, Outcome::Answered(reply)))
+    let (after, reply) = ledger.into_value().rewards(update)?;
+    let held = Boxed::new(alloc, after)?;
+    Ok((held, Outcome::Answered(reply)))
 }
 
 /// What a print comes to; it changes nothing.
-fn judge_print(ledger: LedgerState, what: What) -> (LedgerState, Outcome)
+fn judge_print(ledger: Boxed<LedgerState>, what: What) -> (Boxed<LedgerState>, Outcome)
     ensures { Judges ledger (Read (Record.Print what)) (Ok result) }
 {
     match what {
         What::Pots => {
-            let pots = ledger.pots();
+            let pots = ledger.get().pots();
             (ledger, Outcome::Pots(PotsWord::Pots, pots))
         }
         What::State => (ledger, Outcome::State),
@@ -110,35 +136,39 @@ fn judge_print(ledger: LedgerState, what: What) -> (LedgerState, Outcome)
 
 /// The ledger after a record, and what it comes to.
 fn judge_record<T: Threads + Sync, G: Gate + Sync>(
-    alloc: Global,
     crew: &Crew<T, G>,
-    ledger: LedgerState,
+    workers: u32,
+    ledger: Boxed<LedgerState>,
     found: &Record,
-) -> Result<(LedgerState, Outcome), NoMemory>
+) -> Judged
     requires within { is_within_limits found.now ≡ true }
+    requires some { 1 ≤ workers }
+    requires few { workers ≤ 64 }
     ensures { Judges ledger (Read found.now) result }
 {
     match found {
         Record::Genesis(_) => Ok((ledger, refused(GENESIS_AGAIN))),
-        Record::Block { slot, pulse } => judge_block(alloc, crew, ledger, *slot, *pulse),
-        Record::Rewards(update) => judge_rewards(ledger, update),
-        Record::Tx(tx) => judge_tx(alloc, ledger, tx.get()),
+        Record::Block { slot, pulse } => judge_block(crew, workers, ledger, *slot, *pulse),
+        Record::Rewards(update) => judge_rewards(crew.alloc, ledger, update),
+        Record::Tx(tx) => judge_tx(crew.alloc, ledger, tx.get()),
         Record::Print(what) => Ok(judge_print(ledger, *what)),
     }
 }
 
 /// The ledger after what was read of a line, and what that comes to.
 fn judge<T: Threads + Sync, G: Gate + Sync>(
-    alloc: Global,
     crew: &Crew<T, G>,
-    ledger: LedgerState,
+    workers: u32,
+    ledger: Boxed<LedgerState>,
     reading: &Reading,
-) -> Result<(LedgerState, Outcome), NoMemory>
+) -> Judged
     requires within { is_within reading.now ≡ true }
+    requires some { 1 ≤ workers }
+    requires few { workers ≤ 64 }
     ensures { Judges ledger reading.now result }
 {
     match reading {
-        Reading::Read(record) => judge_record(alloc, crew, ledger, record),
+        Reading::Read(record) => judge_record(crew, workers, ledger, record),
         Reading::Malformed { what, place } => Ok((ledger, malformed(*what, *place))),
         Reading::TooLong => Ok((ledger, refused(TOO_LONG))),
     }
@@ -146,16 +176,19 @@ fn judge<T: Threads + Sync, G: Gate + Sync>(
 
 /// The ledger after what was read, and what that comes to; there is no ledger before the genesis.
 pub(crate) fn answer<T: Threads + Sync, G: Gate + Sync>(
-    alloc: Global,
     crew: &Crew<T, G>,
-    before: Option<LedgerState>,
+    workers: u32,
+    before: Option<Held>,
     reading: &Reading,
-) -> Answered<LedgerState>
+) -> Answered<Held>
     requires within { is_within reading.now ≡ true }
-    ensures { AnswersAs (λ w. w) (option_map (λ w. w) before) reading.now result }
+    requires some { 1 ≤ workers }
+    requires few { workers ≤ 64 }
+    ensures { AnswersAs (λ held. held.ledger) (option_map (λ held. held.ledger) before) reading.now result }
 {
-    match before {
-        Some(ledger) => Ok(judge(alloc, crew, ledger, reading)?),
-        None => begin_with(alloc, reading, crew.workers),
-    }
+    let (ledger, outcome) = match before {
+        Some(held) => judge(crew, workers, held.ledger, reading)?,
+        None => begin_with(crew.alloc, reading, workers)?,
+    };
+    Ok((Held { ledger }, outcome))
 }

@@ -1,33 +1,24 @@
-ghost use Rattle.std.specs.Prelude.{◌≡◌, ◌⊎◌, ◌↔◌, ℕ, List, Some, false};
+ghost use Rattle.std.specs.Prelude.{◌≡◌, ◌≤◌, ◌⊎◌, ◌↔◌, ℕ, List, Some, false, option_map, true};
 ghost use Rattle.byte_lines.specs.Faults.{CountsFaults, Rose};
-ghost use Rattle.commands.specs.Commands.{IsReplayCommand, is_command};
-ghost use Rattle.commands.specs.Endings.{IsReplayed};
-ghost use Rattle.commands.specs.Inputs.{HasGoodInput};
-ghost use Rattle.commands.specs.Loads.{IsLoaded};
-ghost use Rattle.commands.specs.Statuses.{status_by};
 ghost use Rattle.load_options.specs.Command.{load_command_of};
 ghost use Rattle.load_options.specs.declared.command.LoadCommand.{LoadCommand};
+ghost use Rattle.record_stream.specs.Records.{is_within};
+ghost use Rattle.replay_loop.specs.Answers.{AnswersAs};
+ghost use Rattle.replay_loop.specs.Commands.{IsReplayCommand, is_command};
+ghost use Rattle.replay_loop.specs.Endings.{IsReplayed};
+ghost use Rattle.replay_loop.specs.Inputs.{HasGoodInput};
+ghost use Rattle.replay_loop.specs.Loads.{IsLoaded};
+ghost use Rattle.replay_loop.specs.declared.status.Status.{Status};
 
+use crate::answer::answer;
 use crate::crew::Crew;
-use crate::fault::ReplayFault;
-use crate::load::load;
-use crate::replay::replay;
-use crate::status::Status;
+use crate::held::Held;
 use byte_lines::{Sink, Source};
-use load_options::{load_command, replay_workers};
 use par_count::Gate;
+use replay_loop::{Answered, Status, run_over};
 use std::alloc::Global;
 use std::thread::Threads;
-
-/// The status of a command that ended so.
-fn status_of(ran: Result<(), ReplayFault>) -> Status
-    ensures { result ≡ status_by ran }
-{
-    match ran {
-        Ok(()) => Status::Done,
-        Err(fault) => Status::from(fault),
-    }
-}
+use tx_records::Reading;
 
 /// Runs the command that the words name, after the program's name: `replay` reads records from the source and writes
 /// their text to the sink, that of each record before it asks for a further line; `load` replays the stream that is made
@@ -61,19 +52,12 @@ pub fn run<R: Threads + Sync, S: Source, K: Sink, G: Gate + Sync>(
     ensures complete { HasGoodInput words.now (S.left source.old) (S.faults source.old) (S.faults source.new) →
         (¬ Rose (K.faults sink.old) (K.faults sink.new)) → (result ≡ Status.Done) ⊎ (result ≡ Status.NoMemory) }
 {
-    if let Some(workers) = replay_workers(words) {
-        let crew = Crew { rt, workers, gate };
-        return status_of(replay(alloc, &crew, source, sink));
-    }
-    match load_command(words) {
-        Some(command) => {
-            let crew = Crew {
-                rt,
-                workers: command.workers,
-                gate,
-            };
-            status_of(load(alloc, &crew, command, sink))
-        }
-        None => Status::Usage,
-    }
+    let crew = Crew { alloc, rt, gate };
+    let answers = |workers: u32, before: Option<Held>, reading: Reading| -> Answered<Held>
+        requires some { 1 ≤ workers }
+        requires few { workers ≤ 64 }
+        requires within { is_within reading ≡ true }
+        ensures { AnswersAs (λ held. held.ledger) (option_map (λ held. held.ledger) before) reading result }
+    { answer(&crew, workers, before, &reading) };
+    run_over(alloc, &answers, words, source, sink)
 }

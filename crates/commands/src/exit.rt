@@ -1,11 +1,11 @@
 ghost use Rattle.std.specs.Prelude.{◌≡◌, ◌↔◌, ℕ, List, Some, drop, false};
 ghost use Rattle.std.specs.Process.{exit_status};
 ghost use Rattle.byte_lines.specs.Faults.{CountsFaults};
-ghost use Rattle.commands.specs.Commands.{IsReplayCommand, is_command};
-ghost use Rattle.commands.specs.Endings.{IsReplayed};
-ghost use Rattle.commands.specs.Loads.{IsLoaded};
-ghost use Rattle.commands.specs.Statuses.{status_number};
-ghost use Rattle.commands.specs.declared.status.Status.{Status};
+ghost use Rattle.replay_loop.specs.Commands.{IsReplayCommand, is_command};
+ghost use Rattle.replay_loop.specs.Endings.{IsReplayed};
+ghost use Rattle.replay_loop.specs.Loads.{IsLoaded};
+ghost use Rattle.replay_loop.specs.Statuses.{status_number};
+ghost use Rattle.replay_loop.specs.declared.status.Status.{Status};
 ghost use Rattle.load_options.specs.Command.{load_command_of};
 ghost use Rattle.load_options.specs.declared.command.LoadCommand.{LoadCommand};
 

@@ -1,23 +1,16 @@
 //! Runs over memory, where no read and no write fails, and runs whose ending is not told beforehand.
 ghost use Rattle.std.specs.Prelude.{◌≡◌, ◌≢◌, ◌<◌, ◌≤◌, ◌⊎◌, IfOk, None, Some, length};
-ghost use Rattle.commands.specs.Commands.{IsReplayCommand};
+ghost use Rattle.replay_loop.specs.Commands.{IsReplayCommand};
 ghost use Rattle.tx_records.specs.declared.limits.TheConstants.{STREAM_LIMIT};
 ghost use Rattle.record_stream.specs.Records.{records_of};
-ghost use Rattle.commands.specs.Runs.{start_fault, text_of_run};
+ghost use Rattle.replay_loop.specs.Runs.{start_fault, text_of_run};
 
 use byte_lines::{MemorySink, MemorySource, Sink, Source};
 use coin_frac::NoMemory;
 use commands::{Status, run};
-use par_count::Gate;
+use par_count::{Gate, OpenGate};
 use std::alloc::Global;
 use std::thread::Threads;
-
-/// A gate that does nothing.
-struct OpenGate;
-
-impl Gate for OpenGate {
-    fn enter(&self, _worker: u32) {}
-}
 
 /// Words of a command, each after a space.
 fn words_of(alloc: Global, text: &str) -> Result<Vec<String>, NoMemory> {

@@ -3,17 +3,10 @@
 
 use byte_lines::{ReaderSource, WriterSink};
 use commands::run_to_exit;
-use par_count::Gate;
+use par_count::OpenGate;
 use std::env;
 use std::process::ExitCode;
 use std::rt::Env;
-
-/// The gate of the program: each worker goes on.
-struct OpenGate;
-
-impl Gate for OpenGate {
-    fn enter(&self, _worker: u32) {}
-}
 
 /// The words of the command line, the program's name first, where the system gives them.
 fn args_of(rt: &(impl Env + AllocGlobal)) -> Option<Vec<String>> {

@@ -34,13 +34,6 @@ given lines first others line is written = record {
   end = λ empty. absurd (not_empty first (sym written ∙ empty));
 }
 
--- nothing was given, at the end
-pub given_none : (lines : List Text) (line : List ℕ) → lines ≡ [] → line ≡ [] → Gives (bytes_of_lines lines) line (bytes_of_lines lines)
-given_none lines line is empty = record {
-  bytes = sym (ap (λ (bytes : List ℕ). bytes ++ bytes_of_lines lines) empty);
-  end = λ _. ap (λ (ls : List Text). bytes_of_lines ls) is;
-}
-
 -- ---- the genesis
 
 pub genesis_step : (x : Load) → lines_from x Genesis ≡ genesis_line ∷ lines_from x (Registration 0)

@@ -4,3 +4,11 @@ pub trait Gate {
     /// A worker enters. Workers are counted from 0. (Own)
     fn enter(&self, worker: u32);
 }
+
+/// A gate that stands open: each worker goes on. (Own)
+#[derive(Clone, Copy)]
+pub struct OpenGate;
+
+impl Gate for OpenGate {
+    fn enter(&self, _worker: u32) {}
+}

@@ -6,5 +6,5 @@ mod gate;
 mod tallies;
 
 pub use finish::finish_shared;
-pub use gate::Gate;
+pub use gate::{Gate, OpenGate};
 pub use tallies::tally_all;

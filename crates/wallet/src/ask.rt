@@ -51,6 +51,7 @@ pub fn ask(alloc: Global, ledger: &LedgerState, tx: &Tx) -> Result<(), AskFault>
     ensures accepted { IfOk result (λ _. first_broken ledger.now.ledger tx.now ≡ None) }
     ensures refused { (rule : Rule) → result ≡ Err (AskFault.Refused rule) →
         first_broken ledger.now.ledger tx.now ≡ Some rule }
+    ensures judged { IfOk result (λ _. is_within_limits tx.now ≡ true) }
     ensures beyond { result ≡ Err AskFault.BeyondLimits → is_within_limits tx.now ≡ false }
 {
     if !tx.is_within_limits(alloc)? {

@@ -2,9 +2,9 @@ use Rattle.std.proofs.Common.{◌≡◌, List, Some, ap, drop, subst, sym, ◌�
 use Rattle.std.specs.Prelude.{String}
 use Rattle.std.specs.declared.alloc.Global.{Global}
 use Rattle.load_options.specs.Command.{load_command_of}
-use Rattle.commands.specs.Commands.{IsReplayCommand, is_command}
-use Rattle.commands.specs.Statuses.{status_number}
-use Rattle.commands.proofs.Numbers.{counts_as, is_read_fault, is_usage, is_write_fault}
+use Rattle.replay_loop.specs.Commands.{IsReplayCommand, is_command}
+use Rattle.replay_loop.specs.Statuses.{status_number}
+use Rattle.replay_loop.proofs.Numbers.{counts_as, is_read_fault, is_usage, is_write_fault}
 use Rattle.commands.proofs.exit.run_to_exit.Goals as goal
 
 pub returns-clause-usage : goal.returns-clause-usage

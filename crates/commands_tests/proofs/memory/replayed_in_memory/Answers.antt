@@ -1,9 +1,9 @@
 use Rattle.std.proofs.Common.{◌≡◌, ℕ, List, [], ◌++◌, Option, Some, ap, subst, sym, ◌∙◌}
 use Rattle.byte_lines.specs.InMemory.{Given}
-use Rattle.commands.specs.declared.status.Status.{Status}
-use Rattle.commands.specs.declared.status.Status.TheVariants as statuses
-use Rattle.commands.specs.Endings.{IsReplayed}
-use Rattle.commands.specs.Runs.{text_of_run}
+use Rattle.replay_loop.specs.declared.status.Status.{Status}
+use Rattle.replay_loop.specs.declared.status.Status.TheVariants as statuses
+use Rattle.replay_loop.specs.Endings.{IsReplayed}
+use Rattle.replay_loop.specs.Runs.{text_of_run}
 use Rattle.commands_tests.proofs.memory.replayed_in_memory.Goals as goal
 
 -- what a sink that was empty holds at the end is the text of the run

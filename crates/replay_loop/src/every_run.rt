@@ -1,0 +1,17 @@
+ghost use Rattle.replay_loop.specs.Laws.{LinesAreWithin, LinesReach, RefusedChangesNothing, SummariesAreOne, SupplyStays, TextsAreOne};
+
+use record_read::lines_read_within_limits;
+use run_laws::supply_stays;
+
+/// What holds of every run. It does nothing.
+pub fn laws()
+    ensures within { LinesAreWithin }
+    ensures reached { LinesReach }
+    ensures supply { SupplyStays }
+    ensures refused { RefusedChangesNothing }
+    ensures one_text { TextsAreOne }
+    ensures one_summary { SummariesAreOne }
+{
+    lines_read_within_limits();
+    supply_stays();
+}

@@ -1,0 +1,40 @@
+use byte_lines::SinkFault;
+use report::LineTaker;
+use tx_records::Pots;
+
+/// What a run holds between two records. The loop is written over any, so that its proof opens no part of the ledger. (Own)
+pub trait RunState: Sized {
+    ghost use Rattle.std.specs.Prelude.{◌≡◌, [], ◌∷◌};
+    ghost use Rattle.ledger_model.specs.Supply.{pots_of};
+    ghost use Rattle.report.specs.Taking.{HasPut};
+    ghost use Rattle.run_model.specs.World.{World};
+    ghost use Rattle.text_model.specs.Replies.{block_words};
+    ghost use Rattle.text_model.specs.StateLines.{state_lines};
+
+    // the whole state of the ledger
+    ghost world: { Self → World };
+
+    /// Its pots, in lovelace. (Own)
+    fn pots(&self) -> Pots
+        ensures { result ≡ pots_of (world self.now).ledger };
+
+    /// Hands over the line of an accepted block that left it. (Own)
+    fn put_block<T: LineTaker>(
+        &self,
+        to: &mut T,
+        text: &mut Vec<u8>,
+        line: u64,
+    ) -> Result<(), SinkFault>
+        ensures { HasPut T.with_line T.IsPart line (T.taken to.old) (block_words (world self.now) ∷ []) (T.taken to.new)
+            (T.faults to.old) (T.faults to.new) result };
+
+    /// Hands over the lines of a print of it. (Own)
+    fn put_state<T: LineTaker>(
+        &self,
+        to: &mut T,
+        text: &mut Vec<u8>,
+        line: u64,
+    ) -> Result<(), SinkFault>
+        ensures { HasPut T.with_line T.IsPart line (T.taken to.old) (state_lines (world self.now)) (T.taken to.new)
+            (T.faults to.old) (T.faults to.new) result };
+}
