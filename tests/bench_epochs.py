@@ -3,7 +3,7 @@
 import random
 from typing import Callable, NamedTuple
 
-from bench_shapes import DEPOSIT, EACH, FEE, FIRST, INFO, PRICES, PROPOSED, SHAPES, Chain, beginning, hashed, proposal, proposed
+from bench_shapes import DEPOSIT, EACH, FEE, FIRST, INFO, OWNER, PRICES, PROPOSED, SHAPES, Chain, beginning, hashed, proposal, proposed
 from records import credential, key, ref, text
 
 # the DReps, and the pools, to which accounts delegate
@@ -35,24 +35,24 @@ def who(n):
     return "k" + hashed(n)[:56]
 
 
-def pool_of(n):
+def pool_of(n, pools=CHOSEN):
     """Each account delegates to a pool."""
-    return hashed(n % CHOSEN)[:56]
+    return hashed(n % pools)[:56]
 
 
-def drep_of(n):
+def drep_of(n, dreps=CHOSEN):
     """Half of the accounts delegate to a DRep."""
-    return who(n // 2 % CHOSEN) if n % 2 else None
+    return who(n // 2 % dreps) if n % 2 else None
 
 
 def stake_output(n):
     return [f"{key(1)}+{who(n)}", STAKE, 65]
 
 
-def chosen_by(slots, outputs=(), accounts=()):
-    """A genesis with the DReps and the pools, whose epochs have so many slots."""
-    dreps = [[who(n), 0, 20] for n in range(CHOSEN)]
-    pools = [[pool_of(n), 0, 0, 0, [0, 1], "1" + who(n)] for n in range(CHOSEN)]
+def chosen_by(slots, outputs=(), accounts=(), pools=CHOSEN, dreps=CHOSEN):
+    """A genesis with so many DReps and pools, whose epochs have so many slots."""
+    dreps = [[who(n), 0, 20] for n in range(dreps)]
+    pools = [[pool_of(n, pools), 0, 0, 0, [0, 1], "1" + who(n)] for n in range(pools)]
     committee = {"threshold": [0, 1], "members": [[credential(1), 1000, credential(2)]]}
     first = [[ref(1, 0), key(1), FIRST], *outputs]
     return beginning(first, accounts, pools=pools, dreps=dreps, committee=committee, epochLength=slots, **PRICES)
@@ -62,11 +62,11 @@ def block(slot, pulse):
     return text({"kind": "block", "slot": slot, "pulse": pulse})
 
 
-def coming(chain, first, count):
+def coming(chain, first, count, pools=CHOSEN, dreps=CHOSEN):
     """Registrations of so many accounts, from this one on, 500 a transaction, each with its delegations and an output; then the chain behind them."""
     for place in range(first, first + count, EACH):
         names = range(place, place + EACH)
-        certs = [{"cert": "account-reg", "cred": who(n), "pool": pool_of(n), "drep": drep_of(n)} for n in names]
+        certs = [{"cert": "account-reg", "cred": who(n), "pool": pool_of(n, pools), "drep": drep_of(n, dreps)} for n in names]
         line, chain = chain.next((2 + STAKE) * EACH, [stake_output(n) for n in names], certs=certs)
         yield "beginning", line
     return chain
@@ -209,6 +209,22 @@ def parting(count):
         yield "DReps", line
 
 
+def parting_voters(voters, count):
+    """DReps with a vote on each of so many proposals leave one by one."""
+    yield "beginning", chosen_by(SHORT, accounts=OWNER, dreps=voters)
+    chain, ids = Chain(1, FIRST), []
+    for _ in range(count // PROPOSED):
+        line, chain = chain.next(DEPOSIT * PROPOSED, proposals=[proposal(INFO)] * PROPOSED)
+        ids += [ref(chain.last, place) for place in range(PROPOSED)]
+        yield "beginning", line
+    for n in range(voters):
+        line, chain = chain.next(0, votes=[{"voter": f"drep:{who(n)}", "action": it, "vote": "yes"} for it in ids])
+        yield "beginning", line
+    for n in range(voters):
+        line, chain = chain.next(0, certs=[{"cert": "drep-unreg", "cred": who(n), "refund": 0}])
+        yield "DReps", line
+
+
 def reaping(count):
     """A pool retires at each boundary, and with it the delegations to it end."""
     many = 10
@@ -224,6 +240,9 @@ def reaping(count):
 def leaving(count):
     for some in (max(count // 100, EACH), max(count // 10, EACH)):
         yield Parts(f"leaving beside {some:,}", {"DReps": CHOSEN}, lambda it=some: parting(it), "accepted")
+    voters, there = max(count // 1000, 1), max(count // (1000 * PROPOSED), 1) * PROPOSED
+    yield Parts(f"leaving beside {voters * there:,} votes", {"DReps": voters}, lambda: parting_voters(voters, there), "accepted")
+    for some in (max(count // 100, EACH), max(count // 10, EACH)):
         yield Parts(f"pools leaving beside {some:,}", {"boundaries": 10}, lambda it=some: reaping(it), f"block slot {10 * SHORT} epoch 10 counted 1 of {some}")
 
 

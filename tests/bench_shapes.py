@@ -16,10 +16,14 @@ DEPOSIT = 10
 # the DReps that vote one a transaction, and the live actions that they vote on
 VOTERS = 1000
 ACTIONS = 100
+# the live actions, each with a few votes, beside which plain transfers are timed
+MANY = 16_384
 # the fields of one object that a line has room for
 NAMES = 1_200_000
 # the keys that it has room for in both lists of an UpdateCommittee, of 60 bytes where one is removed and of 64 where one is added
 MEMBERS = (LINE_LIMIT - 1000) // (60 + 64)
+# the registrations of pools with keys that it has room for
+KEYED = 60_000
 FIRST = 40_000_000_000_000_000
 PRICES = {"minFeeA": 44, "minFeeB": 155_381, "coinsPerUTxOByte": 4310}
 SIZE = 230
@@ -242,6 +246,10 @@ def beside(count):
     ):
         lines, chain = chained(Chain(1, FIRST), parts)
         yield Shape(f"transfers beside {name}", some, b"\n".join([first, *lines]), lambda it=chain: plain_after(it, some), "accepted")
+    parts = [(DEPOSIT * MANY, {"proposals": [proposal(INFO)] * MANY})]
+    parts += [(0, {"votes": [{"voter": f"drep:{it}", "action": ref(2, place), "vote": "yes"} for place in range(MANY)]}) for it in dreps[:10]]
+    lines, chain = chained(Chain(1, FIRST), parts)
+    yield Shape(f"transfers beside {MANY:,} proposals with votes", some, b"\n".join([first, *lines]), lambda: plain_after(chain, some), "accepted")
 
 
 # ---- the worst records
@@ -311,6 +319,13 @@ def certificates():
     pools = [[it, 0, 0, 0, [0, 1], key(1)] for it in ids]
     retire = [{"cert": "pool-retire", "pool": it, "epoch": 1} for it in ids]
     yield Shape("certificates pool-retire", ENTRY_LIMIT, over(of_one(3), pools=pools), one_line(certs=retire, fee=1), "accepted")
+    keyed = [{**it, "key": hashed(n)} for n, it in enumerate(enter[:KEYED])]
+    first = over(of_one(3), 5 * KEYED + 1, version=[11, 0])
+    yield Shape("certificates pool-reg with keys", KEYED, first, one_line(certs=keyed, fee=1), "accepted")
+    # all pools share a key; each but one takes another, and then that one wants the shared one again
+    sharing = over(of_one(3), version=[11, 0], pools=[[*it, tx_id(7)] for it in pools[:KEYED]])
+    again = [*keyed[1:], {**keyed[0], "key": tx_id(7)}]
+    yield Shape("certificates pool-reg of a shared key", KEYED, sharing, one_line(certs=again, fee=1), f"refused 73 PoolKeyInUse at {KEYED - 1}")
 
 
 def governance():
@@ -342,6 +357,10 @@ def governance():
     live = b"\n".join([over(of_one(4), DEPOSIT + 1, accounts=OWNER, committee=hot), transfer(2, proposals=proposals[:1], fee=1)])
     of_hot = [{"voter": f"committee:{credential(n, 's')}", "action": ref(2, 0), "vote": "yes"} for n in each]
     yield Shape("votes of hot keys", ENTRY_LIMIT, live, lambda: iter([transfer(3, votes=of_hot, fee=DEPOSIT + 1)]), "accepted")
+    eleven = b"\n".join([over(of_one(4), DEPOSIT + 1, accounts=OWNER, committee=committee, version=[11, 0]), transfer(2, proposals=proposals[:1], fee=1)])
+    # (each vote asks whether a member has its key; as many as these fit into a line with what names their keys)
+    naming = lambda: iter([transfer(3, certs=authorize[:MANY], votes=of_hot[:MANY], fee=DEPOSIT + 1)])
+    yield Shape("votes of hot keys that are named with them", MANY, eleven, naming, "accepted")
     first = over(of_one(4), DEPOSIT * ENTRY_LIMIT + 1, accounts=OWNER, dreps=dreps)
     live = b"\n".join([first, transfer(2, proposals=proposals, fee=1)])
     leaving = lambda: iter([transfer(3, certs=leave, fee=DEPOSIT * ENTRY_LIMIT + 1)])
@@ -372,6 +391,13 @@ def orders():
         yield Shape(f"certificates account-reg {name}", len(come), over(of_one(3), 2 * ENTRY_LIMIT + 1), one_line(certs=come, fee=1), "accepted")
         enter = [{"cert": "drep-reg", "cred": credential(n), "deposit": 5} for n in numbers]
         yield Shape(f"certificates drep-reg {name}", len(enter), over(of_one(3), 5 * ENTRY_LIMIT + 1), one_line(certs=enter, fee=1), "accepted")
+        taken = [[script(n), n] for n in numbers]
+        owners = [[credential(n, "s"), 2, n, None, None] for n in each]
+        yield Shape(f"withdrawals {name}", len(taken), over(of_one(3), accounts=owners), one_line(withdrawals=taken, fee=1 + sum(each)), "accepted")
+    keyed = [{"cert": "pool-reg", "pool": hash28(n), "cost": 340000000, "pledge": 0, "margin": [1, 20], "account": key(1), "key": tx_id(n)} for n in range(KEYED)]
+    for name, certs in in_orders(keyed):
+        eleven = over(of_one(3), 5 * KEYED + 1, version=[11, 0])
+        yield Shape(f"certificates pool-reg {name}", KEYED, eleven, one_line(certs=certs, fee=1), "accepted")
 
 
 def members():

@@ -6,7 +6,7 @@ for that breaks it, and for the others something is changed."""
 
 from typing import NamedTuple
 
-from plain_counts import P1, P2B
+from plain_counts import P1, P2B, P4, Q4
 from plain_epochs import after_record, begun
 from plain_steps import (
     NAMES,
@@ -19,6 +19,7 @@ from plain_steps import (
     broken_by_vote,
     draft_after,
     filled,
+    is_seated,
     least_fee,
     least_output,
     live,
@@ -33,13 +34,19 @@ DREPS = [credential(n, kind) for n, kind in ((30, "k"), (30, "s"), (31, "k"), (1
 COLD = [credential(n, kind) for n, kind in ((70, "k"), (70, "s"), (71, "k"), (72, "k"), (30, "k"))]
 HOT = [credential(n, kind) for n, kind in ((80, "k"), (80, "s"), (81, "k"), (30, "k"), (70, "k"))]
 POOLS = [hash28(n) for n in (50, 51, 52, 10)]
+KEYS = [tx_id(n) for n in (7, 8, 9)]
+# with the rules of version 11, and without them
+VERSIONS = [[10, 0], [10, 9], [11, 0], [11, 1], [12, 0]]
 PAYERS = [credential(1), credential(2), credential(10), credential(3, "s")]
 SCRIPTS = [None, hash28(98), hash28(99)]
 CERTS = ["account-reg", "account-unreg", "delegate", "pool-reg", "pool-retire", "drep-reg", "drep-unreg", "drep-update", "hot-auth", "hot-resign"]
-# parameters and pools more often than others, since each of 30 parameters is for pools to vote on or not; withdrawals, since few are ratified
-ACTIONS = [*PURPOSES, *["ParameterChange"] * 3, *["TreasuryWithdrawals"] * 3, "Info"]
+# parameters and pools more often than others, since each of 30 parameters is for pools to vote on or not; withdrawals, since few are
+# ratified; updates of the committee, since members to come have hot keys
+ACTIONS = [*PURPOSES, *["ParameterChange"] * 3, *["TreasuryWithdrawals"] * 3, *["UpdateCommittee"] * 2, "Info"]
 ROLES = ["committee", "drep", "pool", "pool"]
 SIZES = (0, 29, 57, 65)
+# the rules that are broken, of which those of version 11 can be broken less often
+RULES = [*NAMES, 73, *[104] * 5]
 VOTES = ["yes", "yes", "no", "abstain"]
 # how often an item is made until one is as it is asked for
 TRIES = 200
@@ -87,29 +94,44 @@ def params_of(r, long):
     }
 
 
-def a_committee(r):
+def a_committee(r, forks):
     members = [[cold, r.randrange(9), r.choice([None, *HOT])] for cold in some(r, COLD[:4])]
-    return r.choice([None, *[{"threshold": r.choice([[0, 1], [1, 2]]), "members": members}] * 5])
+    committee = {"threshold": [0, 1] if forks else r.choice([[0, 1], [1, 2]]), "members": members}
+    return committee if forks else r.choice([None, *[committee] * 5])
+
+
+def let_fork(params):
+    """Lets hard forks pass, and motions of no confidence hardly."""
+    params["drepVotingThresholds"][P1] = [1, 1]
+    params["drepVotingThresholds"][P4] = params["poolVotingThresholds"][Q4] = [0, 1]
+    params["committeeMinSize"] = 0
 
 
 def a_genesis(r, shape):
     """A genesis that breaks no rule of one. What is deposited is not always what is asked for now. A long stream has all that it spends."""
-    network, params = r.choice([0, 1, 1, 1]), params_of(r, shape.long)
+    network, params, version = r.choice([0, 1, 1, 1]), params_of(r, shape.long), r.choice(VERSIONS)
+    # of the streams that begin before version 11 some come to it
+    forks = version < [11, 0] and r.random() < 0.6
+    if forks:
+        let_fork(params)
     pools, dreps = some(r, POOLS, 1), some(r, DREPS, 1)
     often, much = (4, 10**9) if shape.long else (1, 1)
     outputs = [[ref(r.choice([1, 9]), i), an_address(r, network), much * r.randrange(400, 6000)] for i in range(often * r.randrange(8, 20))]
     fields = {
         "slot": 0 if shape.long else r.choice([0, 5, 39, 50]),
         "epochLength": 10 * shape.records if shape.long else 10,
-        "version": [r.choice([10, 11]), r.randrange(3)],
+        "version": version,
         "script": r.choice(SCRIPTS),
-        "committee": a_committee(r),
+        "committee": a_committee(r, forks),
         "outputs": outputs,
         "accounts": [
             [cred, r.choice([params["keyDeposit"], 3]), r.choice([0, 0, 1, 67, 800]), r.choice([None, *pools]), r.choice([None, "abstain", "no-confidence", *dreps])]
             for cred in some(r, ACCOUNTS, 3)
         ],
-        "pools": [[pool, r.choice([params["poolDeposit"], 4]), r.randrange(99), 0, [1, 9], f"{network}{r.choice(ACCOUNTS)}"] for pool in pools],
+        "pools": [
+            [pool, r.choice([params["poolDeposit"], 4]), r.randrange(99), 0, [1, 9], f"{network}{r.choice(ACCOUNTS)}", *r.choice([[], [r.choice(KEYS)]])]
+            for pool in pools
+        ],
         "dreps": [[cred, r.choice([params["drepDeposit"], 6]), r.randrange(30)] for cred in dreps],
         "treasury": much * r.choice([100, 5000] if shape.long else [0, 100, 5000]),
         "reserves": much * r.choice([0, 700]),
@@ -165,7 +187,7 @@ class Maker:
             "account-reg": {"cred": cred, "deposit": r.choice([None, near(r, params["keyDeposit"])]), **self.delegation()},
             "account-unreg": {"cred": cred, "refund": self.stated(self.ledger["accounts"], cred, params["keyDeposit"])},
             "delegate": {"cred": cred, **r.choice([self.delegation(), {"drep": drep}])},
-            "pool-reg": {"pool": pool, **terms, "account": self.account()},
+            "pool-reg": {"pool": pool, **terms, "account": self.account(), "key": r.choice([None, *KEYS])},
             "pool-retire": {"pool": pool, "epoch": max(0, now + r.choice([-1, 0, 1, 1, 2, params["eMax"], params["eMax"] + 1]))},
             "drep-reg": {"cred": drep, "deposit": r.choice([None, near(r, params["drepDeposit"])])},
             "drep-unreg": {"cred": drep, "refund": self.stated(self.ledger["dreps"], drep, params["drepDeposit"])},
@@ -182,6 +204,7 @@ class Maker:
         r, cred, drep, pool, cold = self.r, self.r.choice(ACCOUNTS), self.r.choice(DREPS), self.r.choice(POOLS), self.r.choice(COLD)
         leave, come, choose = {"cert": "drep-unreg", "cred": drep}, {"cert": "drep-reg", "cred": drep}, {"cert": "delegate", "cred": cred, "drep": drep}
         register = {"cert": "pool-reg", "pool": pool, "cost": 400, "pledge": 1, "margin": [0, 1], "account": f"{self.ledger['network']}{cred}"}
+        (key, another_key), another_pool = r.sample(KEYS, 2), r.choice(POOLS)
         retire = {"cert": "pool-retire", "pool": pool, "epoch": self.ledger["epoch"] + 1}
         name_hot, resign = [{"cert": "hot-auth", "cold": cold, "hot": hot} for hot in r.sample(HOT, 2)], {"cert": "hot-resign", "cold": cold}
         return r.choice(
@@ -193,6 +216,7 @@ class Maker:
                 [{"cert": "account-reg", "cred": cred}, {"cert": "account-unreg", "cred": cred}, {"cert": "account-reg", "cred": cred}],
                 [register, {**register, "cost": 500}, retire, {"cert": "delegate", "cred": cred, "pool": pool}, register],
                 [retire, register, {**retire, "epoch": self.ledger["epoch"] + 2}],
+                [{**register, "key": key}, {**register, "key": another_key}, {**register, "pool": another_pool, "key": key}, {**register, "key": key}],
                 [*name_hot, resign, *name_hot][: r.randrange(1, 5)],
             ]
         )
@@ -227,12 +251,14 @@ class Maker:
 
     def action(self):
         r, kind = self.r, self.r.choice(ACTIONS)
+        if self.ledger["version"] < [11, 0] and r.random() < 0.15:
+            kind = "HardForkInitiation"
         previous = self.previous(kind) if kind in PURPOSES else None
         policy = r.choice([self.ledger["script"]] * 4 + SCRIPTS)
         fields = {
             "UpdateCommittee": {
                 "remove": some(r, COLD[:2]),
-                "add": [[cold, max(0, self.ledger["epoch"] + r.choice([-1, 0, 1, 1, 5, 9]))] for cold in some(r, COLD[1:4])],
+                "add": [[cold, max(0, self.ledger["epoch"] + r.choice([-1, 0, 1, 1, 5, 9]))] for cold in some(r, COLD[1:])],
                 "threshold": r.choice([[0, 1], [2, 3]]),
             },
             "NewConstitution": {"document": tx_id(r.randrange(9)), "script": r.choice(SCRIPTS)},
@@ -410,7 +436,17 @@ class Maker:
         draft = draft_after(self.ledger, tx, len(tx["certs"]))
         self.put_in(tx["proposals"], self.found(self.proposal, lambda it: broken_by_proposal(self.ledger, draft, it), rule))
 
+    def name_unseated(self, tx):
+        """Lets a cold key that is to be a member, and is none, authorize a hot key that no member has."""
+        committee, draft = self.ledger["committee"], draft_after(self.ledger, tx, len(tx["certs"]))
+        members, free = committee["terms"] if committee else [], [it for it in HOT if not is_seated(draft, it)]
+        may = [{"cert": "hot-auth", "cold": cold, "hot": hot} for cold in COLD if cold not in members for hot in free]
+        may = [it for it in may if next(broken_by_cert(self.ledger, draft, it), None) is None]
+        tx["certs"] += self.r.sample(may, min(len(may), 1))
+
     def break_vote(self, tx, rule):
+        if rule == 104:
+            self.name_unseated(tx)
         draft = draft_after(self.ledger, tx, len(tx["certs"]))
         self.put_in(tx["votes"], self.found(self.vote, lambda it: broken_by_vote(self.ledger, draft, it), rule))
 
@@ -503,7 +539,7 @@ def a_transaction(r, ledger, number, long):
     """Accepted, or with one or two rules broken, or more of them."""
     maker = Maker(r, ledger, tx_id(number), long)
     tx = maker.good()
-    for rule in r.sample([*NAMES], r.choice([0, 0, 1, 1, 2])):
+    for rule in r.sample(RULES, r.choice([0, 0, 1, 1, 2])):
         maker.break_one(tx, rule)
     if r.random() < 0.05:
         maker.break_any(tx)

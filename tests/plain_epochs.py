@@ -59,7 +59,7 @@ def entries_of(ledger):
 def frozen_of(ledger):
     """What is frozen of the ledger."""
     parts = ("epoch", "params", "version", "committee", "document", "script", "enacted", "treasury", "hot", "dreps", "proposals", "mark")
-    accounts = {pool: ledger["pools"][pool]["terms"][-1] for pool in ledger["mark"] if pool in ledger["pools"]}
+    accounts = {pool: ledger["pools"][pool]["terms"].account for pool in ledger["mark"] if pool in ledger["pools"]}
     return {**{name: deepcopy(ledger[name]) for name in parts}, "entries": entries_of(ledger), "reward_accounts": accounts}
 
 
@@ -106,7 +106,7 @@ def reap(ledger):
         for it in ledger["accounts"].values():
             if it["pool"] == pool:
                 it["pool"] = None
-        yield f"retired {pool} refund {left['deposit']} {pay(ledger, left['terms'][-1], left['deposit'])}"
+        yield f"retired {pool} refund {left['deposit']} {pay(ledger, left['terms'].account, left['deposit'])}"
 
 
 def pay_withdrawals(ledger, ratified):

@@ -37,16 +37,20 @@ def committee_lines(ledger):
 
 
 def shown_terms(terms):
-    cost, pledge, margin, account = terms
-    return f"cost {cost} pledge {pledge} margin {fraction(margin)} account {account}"
+    return f"cost {terms.cost} pledge {terms.pledge} margin {fraction(terms.margin)} account {terms.account}"
+
+
+def shown_key(terms):
+    """The words at the end of a line for a pool that has a key."""
+    return f" key {terms.key}" if terms.key else ""
 
 
 def pool_lines(ledger):
     for name, it in sorted(ledger["pools"].items()):
         retires = "never" if it["retires"] is None else it["retires"]
-        yield f"pool {name} deposit {it['deposit']} {shown_terms(it['terms'])} retires {retires}"
+        yield f"pool {name} deposit {it['deposit']} {shown_terms(it['terms'])} retires {retires}{shown_key(it['terms'])}"
         if it["future"]:
-            yield f"next {name} {shown_terms(it['future'])}"
+            yield f"next {name} {shown_terms(it['future'])}{shown_key(it['future'])}"
 
 
 def account_lines(ledger, stakes):

@@ -43,6 +43,7 @@ NAMES = {
     70: "RetirementEpochWrong",
     71: "ColdKeyUnknown",
     72: "ColdKeyResigned",
+    73: "PoolKeyInUse",
     80: "ProposalDepositWrong",
     81: "ReturnWrongNetwork",
     82: "ReturnAccountUnknown",
@@ -59,6 +60,7 @@ NAMES = {
     101: "VoterUnknown",
     102: "VoterNotAllowed",
     103: "VotingExpired",
+    104: "VoterNotSeated",
     110: "NotBalanced",
 }
 PURPOSES = {
@@ -112,6 +114,16 @@ DEFAULTS = {
 }
 
 
+class Terms(NamedTuple):
+    """Those of a pool, with its key, if it has one."""
+
+    cost: int
+    pledge: int
+    margin: list
+    account: str
+    key: Optional[str] = None
+
+
 class Broken(NamedTuple):
     """A rule that is broken, the place, if it has one, and what is kept, as it is printed."""
 
@@ -141,7 +153,7 @@ def ledger_of(genesis):
         "outputs": {ref: (address, amount) for ref, address, amount in g["outputs"]},
         "used": [ref.split("#")[0] for ref, _, _ in g["outputs"]],
         "accounts": {cred: {"deposit": d, "balance": b, "pool": pool, "drep": drep} for cred, d, b, pool, drep in g["accounts"]},
-        "pools": {pool: {"deposit": d, "terms": tuple(terms), "future": None, "retires": None} for pool, d, *terms in g["pools"]},
+        "pools": {pool: {"deposit": d, "terms": Terms(*terms), "future": None, "retires": None} for pool, d, *terms in g["pools"]},
         "dreps": {cred: {"deposit": d, "expiry": expiry} for cred, d, expiry in g["dreps"]},
         "hot": {cold: hot for cold, _, hot in members if hot is not None},
         "proposals": [],
@@ -207,7 +219,7 @@ def begun_draft(ledger, tx):
 
 
 def terms_of(cert):
-    return (cert["cost"], cert["pledge"], cert["margin"], cert["account"])
+    return Terms(cert["cost"], cert["pledge"], cert["margin"], cert["account"], cert.get("key"))
 
 
 def register_account(draft, cert):
@@ -386,12 +398,29 @@ def broken_by_account(draft, cert):
         yield Broken(64, kept=f"balance {entry['balance']}")
 
 
+def is_from_version_eleven(ledger):
+    """The draft has the version of the ledger before the transaction."""
+    return tuple(ledger["version"]) >= (11, 0)
+
+
+def keys_of(pool):
+    """The keys of its terms, those that hold and those to come."""
+    return [it.key for it in (pool["terms"], pool["future"]) if it and it.key]
+
+
+def is_key_of_another(draft, key, name):
+    """Whether a pool of another name has this key."""
+    return any(key in keys_of(pool) for other, pool in draft["pools"].items() if other != name)
+
+
 def broken_by_pool(draft, cert):
     if cert["cert"] == "pool-reg":
         if cert["cost"] < draft["params"]["minPoolCost"]:
             yield Broken(68, kept=f"min {draft['params']['minPoolCost']}")
         if network_of(cert["account"]) != draft["network"]:
             yield Broken(69)
+        if is_from_version_eleven(draft) and cert.get("key") and is_key_of_another(draft, cert["key"], cert["pool"]):
+            yield Broken(73)
         return
     if cert["pool"] not in draft["pools"]:
         yield Broken(65)
@@ -508,6 +537,12 @@ def is_voter(draft, voter):
     return name in {"committee": draft["hot"].values(), "drep": draft["dreps"], "pool": draft["pools"]}[role]
 
 
+def is_seated(draft, hot):
+    """Whether a member of the committee has this hot key."""
+    members = draft["committee"]["terms"] if draft["committee"] else []
+    return any(draft["hot"].get(cold) == hot for cold in members)
+
+
 def may_vote(role, action):
     kind = action["type"]
     if role == "committee":
@@ -528,6 +563,9 @@ def broken_by_vote(ledger, draft, vote):
         yield Broken(102)
     if proposal["until"] < ledger["epoch"]:
         yield Broken(103)
+    role, name = vote["voter"].split(":")
+    if is_from_version_eleven(ledger) and role == "committee" and not is_seated(draft, name):
+        yield Broken(104)
 
 
 # ---- a transaction

@@ -1,9 +1,31 @@
 """The streams that tests/replay runs, each with the words, and the text and the status that it must give."""
 
-from tables import accounts, dreps, epochs, fields, genesis, json_forms, limits, lines, outputs, parts, pools, proposals, rules, scripts, votes, words, worked
+from tables import (
+    accounts,
+    dreps,
+    epochs,
+    fields,
+    genesis,
+    json_forms,
+    limits,
+    lines,
+    outputs,
+    parts,
+    pool_keys,
+    pools,
+    proposals,
+    rules,
+    scripts,
+    seats,
+    votes,
+    words,
+    worked,
+)
+
+TABLES = (words, lines, json_forms, genesis, fields, limits, epochs, parts, rules, accounts, pools, pool_keys, dreps, proposals, votes, seats, outputs, scripts, worked)
 
 
 def cases():
     """Every stream of the tables."""
-    for table in (words, lines, json_forms, genesis, fields, limits, epochs, parts, rules, accounts, pools, dreps, proposals, votes, outputs, scripts, worked):
+    for table in TABLES:
         yield from table.cases()

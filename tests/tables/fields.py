@@ -35,7 +35,7 @@ RECORDS = {
         "committee": thing({"threshold": UNIT, "members": listing(entry(kinds.CREDENTIAL, SLOT, or_null(kinds.CREDENTIAL)))}),
         "outputs": Listed(entry(REF, ADDRESS, U64)),
         "accounts": Listed(entry(kinds.CREDENTIAL, U64, U64, or_null(HASH28), or_null(kinds.DREP))),
-        "pools": Listed(entry(HASH28, U64, U64, U64, UNIT, kinds.ACCOUNT)),
+        "pools": Listed(entry(HASH28, U64, U64, U64, UNIT, kinds.ACCOUNT, last=HASH32)),
         "dreps": Listed(entry(kinds.CREDENTIAL, U64, SLOT)),
     },
     "block": {"slot": SLOT, "pulse": U32},

@@ -98,6 +98,7 @@ def rules():
 
 ACCOUNT = [credential(10), 2, 67, None, "abstain"]
 POOL = [hash28(50), 5, 0, 0, [0, 1], key(12)]
+KEYED = [*POOL, tx_id(7)]
 LISTS = {"accounts": ACCOUNT, "pools": POOL, "dreps": [credential(30), 5, 20]}
 
 
@@ -134,6 +135,8 @@ def second():
         (genesis(committee={"threshold": [2, 1], "members": []}), malformed("committee")),
         (of([ref(1, 0), key(1), 20], [ref(1, 1), key(1)]), malformed("outputs", 1)),
         (genesis(pools=[POOL, [*POOL, None]]), malformed("pools", 1)),
+        (genesis(pools=[KEYED, [*KEYED, None]]), malformed("pools", 1)),
+        (genesis(pools=[KEYED]), AGAIN),
         (transfer(2), ACCEPTED, "the ledger is the same"),
         (transfer(2, id=tx_id(3)), "refused 33 InputMissing at 0"),
         start=START,

@@ -124,8 +124,8 @@ def without(fields, name):
     return {other: it for other, it in fields.items() if other != name}
 
 
-def entry(*parts):
-    """An array with a value of each kind."""
+def entry(*parts, last=None):
+    """An array with a value of each kind, and of a last one, where there may be such a value."""
     own = [it.good[0] for it in parts]
 
     def of(values):
@@ -134,7 +134,11 @@ def entry(*parts):
     def each(side):
         return [of([*own[:i], it, *own[i + 1 :]]) for i, part in enumerate(parts) for it in part[side]]
 
-    return of_kind("array", [of(own), *each(0)], [of(own[:-1]), of([*own, own[-1]]), of([*own, "null"]), *each(1)])
+    good, bad = [of(own), *each(0)], [of(own[:-1]), of([*own, own[-1]]), of([*own, "null"]), *each(1)]
+    if last:
+        good += [of([*own, it]) for it in last.good]
+        bad += [*(of([*own, it]) for it in last.bad), *(of([*own, last.good[0], it]) for it in (last.good[0], "null"))]
+    return of_kind("array", good, bad)
 
 
 def thing(needed, optional=None, own=None, closed=False):
@@ -216,7 +220,7 @@ CERT = named(
     {
         "account-reg": ({"cred": CREDENTIAL}, {"deposit": U64, "pool": HASH28, "drep": DREP}),
         "account-unreg": ({"cred": CREDENTIAL}, {"refund": U64}),
-        "pool-reg": ({"pool": HASH28, "cost": U64, "pledge": U64, "margin": UNIT, "account": ACCOUNT}, {}),
+        "pool-reg": ({"pool": HASH28, "cost": U64, "pledge": U64, "margin": UNIT, "account": ACCOUNT}, {"key": HASH32}),
         "pool-retire": ({"pool": HASH28, "epoch": U64}, {}),
         "drep-reg": ({"cred": CREDENTIAL}, {"deposit": U64}),
         "drep-unreg": ({"cred": CREDENTIAL}, {"refund": U64}),

@@ -1,7 +1,7 @@
 """Pools: registrations and retirements, and the pools of a genesis. Each refusal alone, at the second place, and beside every rule that is asked later."""
 
 from cases import ACCEPTED, FAILED_SCRIPTS, answered, begins, missing, no_genesis, pots, printed, unbalanced
-from records import GREATEST, credential, genesis, hash28, key, ref, script, small, transfer
+from records import GREATEST, credential, genesis, hash28, key, ref, script, small, transfer, tx_id
 from tables.accounts import BAD_CERTS as BAD_ACCOUNT_CERTS
 from tables.accounts import BAD_WITHDRAWALS, KEY, NEW, POOR, PRINT, delegate, refused, register
 
@@ -211,6 +211,8 @@ def begun():
     yield begins("two pools", having(other, pool), pots(2000, 100, 888, 3000, deposits=12))
     yield begins("a pool with no deposit", having([POOL, 0, *pool[2:]]))
     yield begins("a pool below the least cost", having(pool, minPoolCost=341), pots(2000, 100, 895, 3000, deposits=5))
+    yield begins("a pool with a key", having([*pool, tx_id(7)], other), pots(2000, 100, 888, 3000, deposits=12))
+    yield begins("a pool with a key, in capital letters", having([*pool, "AB" * 32]), pots(2000, 100, 895, 3000, deposits=5))
     yield begins("an account that delegates to a pool", having(pool, accounts=[delegating], reserves=890), pots(2000, 100, 890, 3000, deposits=7, rewards=3))
     yield no_genesis("a pool that is not counted", having(pool, reserves=900))
     yield no_genesis("a pool that is counted twice", having(pool, reserves=890))
@@ -221,6 +223,9 @@ def begun():
     yield no_genesis("a second pool of another network", having(pool, [*other[:5], script(12, network=0)]))
     yield no_genesis("an account that delegates to another pool", having(other, accounts=[delegating], reserves=888))
     yield no_genesis("a pool that is not read", genesis(pools=[pool[:-1]]))
+    yield no_genesis("a pool whose key is null", having([*pool, None]))
+    yield no_genesis("a pool whose key has 28 bytes", having([*pool, hash28(7)]))
+    yield no_genesis("a pool with two keys", having([*pool, tx_id(7), tx_id(8)]))
     yield answered(
         "the pools of a genesis",
         (transfer(2, certs=[enter(POOL), enter()]), ACCEPTED, "both are registered"),
