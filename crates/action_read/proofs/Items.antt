@@ -1,8 +1,8 @@
 -- The entries of an array of thresholds, as the code sees them.
 use Rattle.std.proofs.Common.{◌≡◌, List, [], ◌∷◌, length, nat_eq, refl, arith}
 use Rattle.std.proofs.lemmas.Bool.Decides.{nat_tests}
-use Rattle.serde_json.specs.View.{items_view}
-use Rattle.serde_json.specs.declared.value.Value.{Value}
+use Rattle.json_tree.specs.View.{items_view}
+use Rattle.json_tree.specs.declared.value.Value.{Value}
 use Rattle.action_read.specs.Params.{is_five, is_ten}
 
 -- there are five where the length says so

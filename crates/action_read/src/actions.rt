@@ -1,4 +1,4 @@
-ghost use Rattle.serde_json.specs.View.{view};
+ghost use Rattle.json_tree.specs.View.{view};
 ghost use Rattle.json_fields.specs.Reads.{Reads};
 ghost use Rattle.action_read.specs.Actions.{action_in, action_of_type, hard_fork_in, new_constitution_in, no_confidence_in, parameter_change_in, treasury_withdrawals_in, update_committee_in};
 
@@ -8,11 +8,11 @@ use coin_frac::Unit;
 use gov_actions::Action;
 use gov_ids::{Account, ActionId, Credential};
 use json_fields::{FieldFault, field, maybe, needed, read_text};
-use serde_json::Value;
+use json_tree::Value;
 use std::alloc::Global;
 
 #[tactic(auto, unfolding(crate::specs::Actions::no_confidence_in))]
-fn read_no_confidence(alloc: Global, object: &Value) -> Result<Action, FieldFault>
+fn read_no_confidence(alloc: Global, object: &Value<'_>) -> Result<Action, FieldFault>
     ensures { Reads result (no_confidence_in (view object.now)) }
 {
     Ok(Action::NoConfidence {
@@ -21,7 +21,7 @@ fn read_no_confidence(alloc: Global, object: &Value) -> Result<Action, FieldFaul
 }
 
 #[tactic(auto, unfolding(crate::specs::Actions::update_committee_in))]
-fn read_update_committee(alloc: Global, object: &Value) -> Result<Action, FieldFault>
+fn read_update_committee(alloc: Global, object: &Value<'_>) -> Result<Action, FieldFault>
     ensures { Reads result (update_committee_in (view object.now)) }
 {
     Ok(Action::UpdateCommittee {
@@ -33,7 +33,7 @@ fn read_update_committee(alloc: Global, object: &Value) -> Result<Action, FieldF
 }
 
 #[tactic(auto, unfolding(crate::specs::Actions::new_constitution_in))]
-fn read_new_constitution(alloc: Global, object: &Value) -> Result<Action, FieldFault>
+fn read_new_constitution(alloc: Global, object: &Value<'_>) -> Result<Action, FieldFault>
     ensures { Reads result (new_constitution_in (view object.now)) }
 {
     Ok(Action::NewConstitution {
@@ -44,7 +44,7 @@ fn read_new_constitution(alloc: Global, object: &Value) -> Result<Action, FieldF
 }
 
 #[tactic(auto, unfolding(crate::specs::Actions::hard_fork_in))]
-fn read_hard_fork(alloc: Global, object: &Value) -> Result<Action, FieldFault>
+fn read_hard_fork(alloc: Global, object: &Value<'_>) -> Result<Action, FieldFault>
     ensures { Reads result (hard_fork_in (view object.now)) }
 {
     Ok(Action::HardForkInitiation {
@@ -54,7 +54,7 @@ fn read_hard_fork(alloc: Global, object: &Value) -> Result<Action, FieldFault>
 }
 
 #[tactic(auto, unfolding(crate::specs::Actions::parameter_change_in))]
-fn read_parameter_change(alloc: Global, object: &Value) -> Result<Action, FieldFault>
+fn read_parameter_change(alloc: Global, object: &Value<'_>) -> Result<Action, FieldFault>
     ensures { Reads result (parameter_change_in (view object.now)) }
 {
     Ok(Action::ParameterChange {
@@ -65,7 +65,7 @@ fn read_parameter_change(alloc: Global, object: &Value) -> Result<Action, FieldF
 }
 
 #[tactic(auto, unfolding(crate::specs::Actions::treasury_withdrawals_in))]
-fn read_treasury_withdrawals(alloc: Global, object: &Value) -> Result<Action, FieldFault>
+fn read_treasury_withdrawals(alloc: Global, object: &Value<'_>) -> Result<Action, FieldFault>
     ensures { Reads result (treasury_withdrawals_in (view object.now)) }
 {
     Ok(Action::TreasuryWithdrawals {
@@ -74,7 +74,7 @@ fn read_treasury_withdrawals(alloc: Global, object: &Value) -> Result<Action, Fi
     })
 }
 
-fn read_action_of_type(alloc: Global, name: &str, object: &Value) -> Result<Action, FieldFault>
+fn read_action_of_type(alloc: Global, name: &str, object: &Value<'_>) -> Result<Action, FieldFault>
     ensures { Reads result (action_of_type name.now (view object.now)) }
 {
     match name {
@@ -90,7 +90,7 @@ fn read_action_of_type(alloc: Global, name: &str, object: &Value) -> Result<Acti
 }
 
 /// A governance action, by the field `type`. (CIP-1694, Governance actions)
-pub fn read_action(alloc: Global, v: &Value) -> Result<Action, FieldFault>
+pub fn read_action(alloc: Global, v: &Value<'_>) -> Result<Action, FieldFault>
     ensures { Reads result (action_in (view v.now)) }
 {
     let name = read_text(field(v, "type")?)?;

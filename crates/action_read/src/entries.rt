@@ -1,8 +1,8 @@
 use credential_list::CredentialList;
 use gov_ids::{Credential, Named};
 use json_fields::{FieldFault, Kind, read_distinct_list, read_number_below};
+use json_tree::Value;
 use listed::Listed;
-use serde_json::Value;
 use std::alloc::Global;
 use std::marker::PhantomData;
 use tx_records::limits::{LIST_LIMIT, SLOT_LIMIT};
@@ -17,7 +17,7 @@ impl Kind for Term {
 
     ghost reading = { term_in };
 
-    fn read(_alloc: Global, value: &Value) -> Result<u64, FieldFault> {
+    fn read(_alloc: Global, value: &Value<'_>) -> Result<u64, FieldFault> {
         read_number_below(SLOT_LIMIT, value)
     }
 }
@@ -37,7 +37,7 @@ where
 
     ghost reading = { λ d. without_place (distinct_list_in K.Entry.Name.order K.Entry.name LIST_LIMIT K.reading d) };
 
-    fn read(alloc: Global, value: &Value) -> Result<Listed<K::Entry>, FieldFault> {
+    fn read(alloc: Global, value: &Value<'_>) -> Result<Listed<K::Entry>, FieldFault> {
         read_distinct_list::<K>(alloc, LIST_LIMIT, value).map_err(|e| e.fault)
     }
 }
@@ -52,7 +52,7 @@ impl Kind for Credentials {
 
     ghost reading = { credentials_in };
 
-    fn read(alloc: Global, value: &Value) -> Result<CredentialList, FieldFault> {
+    fn read(alloc: Global, value: &Value<'_>) -> Result<CredentialList, FieldFault> {
         let keys = Distinct::<Credential>::read(alloc, value)?;
         Ok(CredentialList::from_vec(alloc, keys.into_vec())?)
     }

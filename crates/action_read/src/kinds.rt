@@ -2,8 +2,8 @@ use crate::actions::read_action;
 use crate::params::{read_params, read_update};
 use gov_actions::Action;
 use json_fields::{FieldFault, Kind};
+use json_tree::Value;
 use pparams::{Params, Update};
-use serde_json::Value;
 use std::alloc::Global;
 
 /// A field that has all parameters. (Own)
@@ -16,7 +16,7 @@ impl Kind for ParamsField {
 
     ghost reading = { params_in };
 
-    fn read(alloc: Global, value: &Value) -> Result<Params, FieldFault> {
+    fn read(alloc: Global, value: &Value<'_>) -> Result<Params, FieldFault> {
         read_params(alloc, value)
     }
 }
@@ -31,7 +31,7 @@ impl Kind for UpdateField {
 
     ghost reading = { update_in };
 
-    fn read(alloc: Global, value: &Value) -> Result<Update, FieldFault> {
+    fn read(alloc: Global, value: &Value<'_>) -> Result<Update, FieldFault> {
         read_update(alloc, value)
     }
 }
@@ -46,7 +46,7 @@ impl Kind for ActionField {
 
     ghost reading = { action_in };
 
-    fn read(alloc: Global, value: &Value) -> Result<Action, FieldFault> {
+    fn read(alloc: Global, value: &Value<'_>) -> Result<Action, FieldFault> {
         read_action(alloc, value)
     }
 }

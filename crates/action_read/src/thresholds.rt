@@ -1,11 +1,11 @@
 ghost use Rattle.std.specs.Prelude.{◌≡◌, length};
-ghost use Rattle.serde_json.specs.View.{view, items_view};
+ghost use Rattle.json_tree.specs.View.{view, items_view};
 ghost use Rattle.json_fields.specs.Reads.{Reads};
 ghost use Rattle.action_read.specs.Params.{units_in};
 
 use coin_frac::Unit;
 use json_fields::{FieldFault, Kind, read_items, read_unit};
-use serde_json::Value;
+use json_tree::Value;
 use std::alloc::Global;
 
 /// The thresholds of the pools: five fractions from 0 to 1. (CIP-1694, Ratification)
@@ -19,7 +19,7 @@ impl Kind for PoolThresholds {
     ghost reading = { five_units_in };
 
     #[tactic(auto, using(crate::proofs::Items::five_items))]
-    fn read(alloc: Global, value: &Value) -> Result<[Unit; 5], FieldFault> {
+    fn read(alloc: Global, value: &Value<'_>) -> Result<[Unit; 5], FieldFault> {
         let items = read_items(value)?;
         if items.len() != 5 {
             return Err(FieldFault::OutOfRange);
@@ -39,7 +39,7 @@ impl Kind for DrepThresholds {
     ghost reading = { ten_units_in };
 
     #[tactic(auto, using(crate::proofs::Items::ten_items))]
-    fn read(alloc: Global, value: &Value) -> Result<[Unit; 10], FieldFault> {
+    fn read(alloc: Global, value: &Value<'_>) -> Result<[Unit; 10], FieldFault> {
         let items = read_items(value)?;
         if items.len() != 10 {
             return Err(FieldFault::OutOfRange);
@@ -48,7 +48,7 @@ impl Kind for DrepThresholds {
     }
 }
 
-fn read_units<const N: usize>(alloc: Global, items: &[Value]) -> Result<[Unit; N], FieldFault>
+fn read_units<const N: usize>(alloc: Global, items: &[Value<'_>]) -> Result<[Unit; N], FieldFault>
     requires { length items.now ≡ N }
     ensures { Reads result (units_in (items_view items.now)) }
 {

@@ -1,19 +1,19 @@
 //! The parameters that an object names, a group at a time.
-ghost use Rattle.serde_json.specs.View.{view};
+ghost use Rattle.json_tree.specs.View.{view};
 ghost use Rattle.json_fields.specs.Reads.{Reads};
 ghost use Rattle.action_read.specs.Params.{network_group_in, fees_in, incomes_in, technical_group_in, governance_group_in};
 
 use crate::thresholds::{DrepThresholds, PoolThresholds};
 use coin_frac::{Ratio, Unit};
 use json_fields::{FieldFault, maybe};
+use json_tree::Value;
 use pparams::Update;
-use serde_json::Value;
 use std::alloc::Global;
 
 #[tactic(auto, unfolding(crate::specs::Params::network_group_in))]
 pub fn with_network_group(
     alloc: Global,
-    object: &Value,
+    object: &Value<'_>,
     update: Update,
 ) -> Result<Update, FieldFault>
     ensures { Reads result (network_group_in (view object.now) update) }
@@ -32,7 +32,7 @@ pub fn with_network_group(
 
 /// The fees and deposits of the economic group.
 #[tactic(auto, unfolding(crate::specs::Params::fees_in))]
-pub fn with_fees(alloc: Global, object: &Value, update: Update) -> Result<Update, FieldFault>
+pub fn with_fees(alloc: Global, object: &Value<'_>, update: Update) -> Result<Update, FieldFault>
     ensures { Reads result (fees_in (view object.now) update) }
 {
     Ok(Update {
@@ -46,7 +46,7 @@ pub fn with_fees(alloc: Global, object: &Value, update: Update) -> Result<Update
 
 /// The others of the economic group.
 #[tactic(auto, unfolding(crate::specs::Params::incomes_in))]
-pub fn with_incomes(alloc: Global, object: &Value, update: Update) -> Result<Update, FieldFault>
+pub fn with_incomes(alloc: Global, object: &Value<'_>, update: Update) -> Result<Update, FieldFault>
     ensures { Reads result (incomes_in (view object.now) update) }
 {
     Ok(Update {
@@ -67,7 +67,7 @@ pub fn with_incomes(alloc: Global, object: &Value, update: Update) -> Result<Upd
 #[tactic(auto, unfolding(crate::specs::Params::technical_group_in))]
 pub fn with_technical_group(
     alloc: Global,
-    object: &Value,
+    object: &Value<'_>,
     update: Update,
 ) -> Result<Update, FieldFault>
     ensures { Reads result (technical_group_in (view object.now) update) }
@@ -85,7 +85,7 @@ pub fn with_technical_group(
 #[tactic(auto, unfolding(crate::specs::Params::governance_group_in))]
 pub fn with_governance_group(
     alloc: Global,
-    object: &Value,
+    object: &Value<'_>,
     update: Update,
 ) -> Result<Update, FieldFault>
     ensures { Reads result (governance_group_in (view object.now) update) }

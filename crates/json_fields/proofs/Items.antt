@@ -1,7 +1,7 @@
 -- The entries of a JSON array, as the code sees them.
 use Rattle.std.proofs.Common.{◌≡◌, ◌≢◌, List, [], ◌∷◌, length, get_or, Some, None, refl, arith}
-use Rattle.serde_json.specs.View.{items_view, view}
-use Rattle.serde_json.specs.declared.value.Value.{Value}
+use Rattle.json_tree.specs.View.{items_view, view}
+use Rattle.json_tree.specs.declared.value.Value.{Value}
 use Rattle.json_fields.specs.Kinds.{two_of, three_of, four_of, five_of, six_or_seven_of}
 
 -- an array of another length has no two entries

@@ -1,5 +1,5 @@
 ghost use Rattle.std.specs.Prelude.{◌≡◌, []};
-ghost use Rattle.serde_json.specs.View.{view, items_view};
+ghost use Rattle.json_tree.specs.View.{view, items_view};
 ghost use Rattle.json_fields.specs.Lists.{distinct_list_in, entries_after, is_known_or_full};
 ghost use Rattle.json_fields.specs.Reads.{ReadsList};
 
@@ -7,8 +7,8 @@ use crate::fault::FieldFault;
 use crate::lists::{Kind, ListFault};
 use crate::readers::read_items;
 use gov_ids::Named;
+use json_tree::Value;
 use listed::Listed;
-use serde_json::Value;
 use std::alloc::Global;
 use std::collections::BTreeSet;
 
@@ -16,7 +16,7 @@ use std::collections::BTreeSet;
 pub fn read_distinct_list<K: Kind>(
     alloc: Global,
     limit: u32,
-    value: &Value,
+    value: &Value<'_>,
 ) -> Result<Listed<K::Entry>, ListFault>
 where
     K::Entry: Named,
@@ -29,7 +29,7 @@ where
 fn read_named_entries<K: Kind>(
     alloc: Global,
     limit: u32,
-    items: &[Value],
+    items: &[Value<'_>],
 ) -> Result<Listed<K::Entry>, ListFault>
 where
     K::Entry: Named,

@@ -1,5 +1,5 @@
 ghost use Rattle.std.specs.Prelude.{◌≡◌};
-ghost use Rattle.serde_json.specs.View.{view};
+ghost use Rattle.json_tree.specs.View.{view};
 ghost use Rattle.json_fields.specs.Entries.{needed_in, maybe_in};
 ghost use Rattle.json_fields.specs.Reads.{Reads};
 
@@ -12,11 +12,15 @@ use crate::readers::{
 };
 use coin_frac::{Ratio, Unit};
 use gov_ids::{Account, ActionId, Address, Credential, Drep, OutRef, PoolId, TxId, Voter};
-use serde_json::Value;
+use json_tree::Value;
 use std::alloc::Global;
 
 /// A field that has to be there. (Own)
-pub fn needed<K: Kind>(alloc: Global, object: &Value, name: &str) -> Result<K::Entry, FieldFault>
+pub fn needed<K: Kind>(
+    alloc: Global,
+    object: &Value<'_>,
+    name: &str,
+) -> Result<K::Entry, FieldFault>
     ensures { Reads result (needed_in name.now K.reading (view object.now)) }
 {
     K::read(alloc, field(object, name)?)
@@ -25,7 +29,7 @@ pub fn needed<K: Kind>(alloc: Global, object: &Value, name: &str) -> Result<K::E
 /// A field that may be absent or null. (Own)
 pub fn maybe<K: Kind>(
     alloc: Global,
-    object: &Value,
+    object: &Value<'_>,
     name: &str,
 ) -> Result<Option<K::Entry>, FieldFault>
     ensures { Reads result (maybe_in name.now K.reading (view object.now)) }
@@ -43,7 +47,7 @@ impl Kind for bool {
 
     ghost reading = { bool_in };
 
-    fn read(_alloc: Global, value: &Value) -> Result<bool, FieldFault> {
+    fn read(_alloc: Global, value: &Value<'_>) -> Result<bool, FieldFault> {
         read_bool(value)
     }
 }
@@ -55,7 +59,7 @@ impl Kind for u64 {
 
     ghost reading = { u64_in };
 
-    fn read(_alloc: Global, value: &Value) -> Result<u64, FieldFault> {
+    fn read(_alloc: Global, value: &Value<'_>) -> Result<u64, FieldFault> {
         read_u64(value)
     }
 }
@@ -67,7 +71,7 @@ impl Kind for u32 {
 
     ghost reading = { u32_in };
 
-    fn read(_alloc: Global, value: &Value) -> Result<u32, FieldFault> {
+    fn read(_alloc: Global, value: &Value<'_>) -> Result<u32, FieldFault> {
         read_u32(value)
     }
 }
@@ -79,7 +83,7 @@ impl Kind for u16 {
 
     ghost reading = { u16_in };
 
-    fn read(_alloc: Global, value: &Value) -> Result<u16, FieldFault> {
+    fn read(_alloc: Global, value: &Value<'_>) -> Result<u16, FieldFault> {
         read_u16(value)
     }
 }
@@ -91,7 +95,7 @@ impl Kind for [u8; 28] {
 
     ghost reading = { hash28_in };
 
-    fn read(_alloc: Global, value: &Value) -> Result<[u8; 28], FieldFault> {
+    fn read(_alloc: Global, value: &Value<'_>) -> Result<[u8; 28], FieldFault> {
         read_hash28(value)
     }
 }
@@ -103,7 +107,7 @@ impl Kind for [u8; 32] {
 
     ghost reading = { hash32_in };
 
-    fn read(_alloc: Global, value: &Value) -> Result<[u8; 32], FieldFault> {
+    fn read(_alloc: Global, value: &Value<'_>) -> Result<[u8; 32], FieldFault> {
         read_hash32(value)
     }
 }
@@ -115,7 +119,7 @@ impl Kind for TxId {
 
     ghost reading = { tx_id_in };
 
-    fn read(_alloc: Global, value: &Value) -> Result<TxId, FieldFault> {
+    fn read(_alloc: Global, value: &Value<'_>) -> Result<TxId, FieldFault> {
         read_tx_id(value)
     }
 }
@@ -127,7 +131,7 @@ impl Kind for PoolId {
 
     ghost reading = { pool_id_in };
 
-    fn read(_alloc: Global, value: &Value) -> Result<PoolId, FieldFault> {
+    fn read(_alloc: Global, value: &Value<'_>) -> Result<PoolId, FieldFault> {
         read_pool_id(value)
     }
 }
@@ -139,7 +143,7 @@ impl Kind for Credential {
 
     ghost reading = { credential_in };
 
-    fn read(_alloc: Global, value: &Value) -> Result<Credential, FieldFault> {
+    fn read(_alloc: Global, value: &Value<'_>) -> Result<Credential, FieldFault> {
         read_credential(value)
     }
 }
@@ -151,7 +155,7 @@ impl Kind for Account {
 
     ghost reading = { account_in };
 
-    fn read(_alloc: Global, value: &Value) -> Result<Account, FieldFault> {
+    fn read(_alloc: Global, value: &Value<'_>) -> Result<Account, FieldFault> {
         read_account(value)
     }
 }
@@ -163,7 +167,7 @@ impl Kind for Address {
 
     ghost reading = { address_in };
 
-    fn read(_alloc: Global, value: &Value) -> Result<Address, FieldFault> {
+    fn read(_alloc: Global, value: &Value<'_>) -> Result<Address, FieldFault> {
         read_address(value)
     }
 }
@@ -175,7 +179,7 @@ impl Kind for OutRef {
 
     ghost reading = { ref_in };
 
-    fn read(_alloc: Global, value: &Value) -> Result<OutRef, FieldFault> {
+    fn read(_alloc: Global, value: &Value<'_>) -> Result<OutRef, FieldFault> {
         read_ref(value)
     }
 }
@@ -187,7 +191,7 @@ impl Kind for ActionId {
 
     ghost reading = { action_id_in };
 
-    fn read(_alloc: Global, value: &Value) -> Result<ActionId, FieldFault> {
+    fn read(_alloc: Global, value: &Value<'_>) -> Result<ActionId, FieldFault> {
         read_action_id(value)
     }
 }
@@ -199,7 +203,7 @@ impl Kind for Drep {
 
     ghost reading = { drep_in };
 
-    fn read(_alloc: Global, value: &Value) -> Result<Drep, FieldFault> {
+    fn read(_alloc: Global, value: &Value<'_>) -> Result<Drep, FieldFault> {
         read_drep(value)
     }
 }
@@ -211,7 +215,7 @@ impl Kind for Voter {
 
     ghost reading = { voter_in };
 
-    fn read(_alloc: Global, value: &Value) -> Result<Voter, FieldFault> {
+    fn read(_alloc: Global, value: &Value<'_>) -> Result<Voter, FieldFault> {
         read_voter(value)
     }
 }
@@ -223,7 +227,7 @@ impl Kind for Unit {
 
     ghost reading = { unit_in };
 
-    fn read(_alloc: Global, value: &Value) -> Result<Unit, FieldFault> {
+    fn read(_alloc: Global, value: &Value<'_>) -> Result<Unit, FieldFault> {
         read_unit(value)
     }
 }
@@ -235,7 +239,7 @@ impl Kind for Ratio {
 
     ghost reading = { ratio_in };
 
-    fn read(_alloc: Global, value: &Value) -> Result<Ratio, FieldFault> {
+    fn read(_alloc: Global, value: &Value<'_>) -> Result<Ratio, FieldFault> {
         read_ratio(value)
     }
 }
@@ -249,7 +253,7 @@ impl<A: Kind, B: Kind> Kind for (A, B) {
     ghost reading = { both_in A.reading B.reading };
 
     #[tactic(auto, unfolding(crate::specs::Entries::both_in))]
-    fn read(alloc: Global, value: &Value) -> Result<(A::Entry, B::Entry), FieldFault> {
+    fn read(alloc: Global, value: &Value<'_>) -> Result<(A::Entry, B::Entry), FieldFault> {
         let (first, second) = read_pair(value)?;
         let first = A::read(alloc, first)?;
         let second = B::read(alloc, second)?;

@@ -1,12 +1,12 @@
 ghost use Rattle.std.specs.Prelude.{◌≡◌, []};
-ghost use Rattle.serde_json.specs.View.{view, items_view};
+ghost use Rattle.json_tree.specs.View.{view, items_view};
 ghost use Rattle.json_fields.specs.Lists.{whole_fault, fault_at, list_in, entries_after, is_full};
 ghost use Rattle.json_fields.specs.Reads.{Reads, ReadsList};
 
 use crate::fault::FieldFault;
 use crate::readers::read_items;
+use json_tree::Value;
 use listed::Listed;
-use serde_json::Value;
 use std::alloc::{AllocError, AllocFailed, Global};
 
 /// Why a list does not read. (Own)
@@ -30,7 +30,7 @@ pub trait Kind {
     ghost reading: { Data → Result Self.Entry FieldFault };
 
     /// The entry that the value is.
-    fn read(alloc: Global, value: &Value) -> Result<Self::Entry, FieldFault>
+    fn read(alloc: Global, value: &Value<'_>) -> Result<Self::Entry, FieldFault>
         ensures { Reads result (reading (view value.now)) };
 }
 
@@ -79,7 +79,7 @@ impl<T: Drop> From<AllocFailed<T>> for ListFault {
 pub fn read_list<K: Kind>(
     alloc: Global,
     limit: u32,
-    value: &Value,
+    value: &Value<'_>,
 ) -> Result<Listed<K::Entry>, ListFault>
     ensures { ReadsList result (list_in limit K.reading (view value.now)) }
 {
@@ -90,7 +90,7 @@ pub fn read_list<K: Kind>(
 fn read_entries<K: Kind>(
     alloc: Global,
     limit: u32,
-    items: &[Value],
+    items: &[Value<'_>],
 ) -> Result<Listed<K::Entry>, ListFault>
     ensures { ReadsList result (entries_after K.reading (λ before x. is_full limit before) [] (items_view items.now)) }
 {

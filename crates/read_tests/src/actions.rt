@@ -2,7 +2,7 @@
 use action_read::{read_action, read_params, read_update};
 use coin_frac::{Ratio, Unit};
 use json_fields::FieldFault;
-use serde_json::Value;
+use json_tree::{Scratch, read_value};
 use std::test::Fail;
 
 /// Each parameter with a value of its own.
@@ -15,7 +15,9 @@ const PRINTED: &str =
 
 #[test]
 fn reads_params(rt: HostRuntime) -> Result<(), Fail> {
-    let value = Value::from_str(rt.alloc(), PARAMS)?;
+    let mut scratch = Scratch::new(rt.alloc());
+    let value = read_value(rt.alloc(), &mut scratch, PARAMS.as_bytes())?;
+    let value = value.ok_or(FieldFault::WrongKind)?;
     let params = read_params(rt.alloc(), &value)?;
     assert!(rt; params.rho == Unit::new(14, 15)? && params.a0 == Ratio::new(3, 10)?);
     let text = format!(in rt.alloc(); "{params:?}")?;
@@ -25,7 +27,13 @@ fn reads_params(rt: HostRuntime) -> Result<(), Fail> {
 
 #[test]
 fn reads_updates(rt: HostRuntime) -> Result<(), Fail> {
-    let value = Value::from_str(rt.alloc(), r#"{"minFeeA":44,"a0":[9,1],"nOpt":null}"#)?;
+    let mut scratch = Scratch::new(rt.alloc());
+    let value = read_value(
+        rt.alloc(),
+        &mut scratch,
+        r#"{"minFeeA":44,"a0":[9,1],"nOpt":null}"#.as_bytes(),
+    )?;
+    let value = value.ok_or(FieldFault::WrongKind)?;
     assert!(rt; read_params(rt.alloc(), &value).err() == Some(FieldFault::Missing));
     let update = read_update(rt.alloc(), &value)?;
     assert!(rt;
@@ -53,7 +61,9 @@ fn reads_actions(rt: HostRuntime) -> Result<(), Fail> {
         (COMMITTEE, COMMITTEE_PRINTED),
         (WITHDRAWALS, WITHDRAWALS_PRINTED),
     ] {
-        let value = Value::from_str(rt.alloc(), text)?;
+        let mut scratch = Scratch::new(rt.alloc());
+        let value = read_value(rt.alloc(), &mut scratch, text.as_bytes())?;
+        let value = value.ok_or(FieldFault::WrongKind)?;
         let action = read_action(rt.alloc(), &value)?;
         let found = format!(in rt.alloc(); "{action:?}")?;
         assert!(rt; found.as_str() == printed, "{found}");

@@ -1,6 +1,6 @@
 //! Values as they stand in a stream, and what they read as: numbers, fractions and lists, at their bounds.
 ghost use Rattle.gov_ids.specs.Orders.{account_cmp};
-ghost use Rattle.serde_json.specs.View.{view};
+ghost use Rattle.json_tree.specs.View.{view};
 ghost use Rattle.json_fields.specs.Entries.{both_in};
 ghost use Rattle.json_fields.specs.Kinds.{account_in, u64_in};
 ghost use Rattle.json_fields.specs.Lists.{distinct_list_in};
@@ -10,8 +10,8 @@ use gov_ids::Account;
 use json_fields::{
     FieldFault, ListFault, read_distinct_list, read_list, read_ratio, read_u16, read_u32, read_unit,
 };
+use json_tree::{Scratch, Value, read_value};
 use listed::Listed;
-use serde_json::Value;
 use std::alloc::Global;
 use std::test::Fail;
 
@@ -20,7 +20,7 @@ const RANGE: Option<FieldFault> = Some(FieldFault::OutOfRange);
 const KIND: Option<FieldFault> = Some(FieldFault::WrongKind);
 
 /// What the value is refused for as a number below 2^16 or 2^32, as a fraction up to 1 and as any.
-fn faults(value: &Value) -> [Option<FieldFault>; 4] {
+fn faults(value: &Value<'_>) -> [Option<FieldFault>; 4] {
     [
         read_u16(value).err(),
         read_u32(value).err(),
@@ -46,7 +46,9 @@ fn numbers(rt: HostRuntime) -> Result<(), Fail> {
         ("[1,2,3]", [KIND, KIND, RANGE, RANGE]),
         ("[1,null]", [KIND, KIND, KIND, KIND]),
     ] {
-        let value = Value::from_str(rt.alloc(), text)?;
+        let mut scratch = Scratch::new(rt.alloc());
+        let value = read_value(rt.alloc(), &mut scratch, text.as_bytes())?;
+        let value = value.ok_or(FieldFault::WrongKind)?;
         assert!(rt; faults(&value) == wanted, "at {text}");
     }
     Ok(())
@@ -55,7 +57,7 @@ fn numbers(rt: HostRuntime) -> Result<(), Fail> {
 fn distinct_amounts(
     alloc: Global,
     limit: u32,
-    value: &Value,
+    value: &Value<'_>,
 ) -> Result<Listed<(Account, u64)>, ListFault>
     ensures { ReadsList result
         (distinct_list_in account_cmp (λ a. a.0) limit (both_in account_in u64_in) (view value.now)) }
@@ -97,7 +99,9 @@ fn lists(rt: HostRuntime) -> Result<(), Fail> {
         (A_NUMBER, kind, kind),
         ("7", whole, whole),
     ] {
-        let value = Value::from_str(rt.alloc(), text)?;
+        let mut scratch = Scratch::new(rt.alloc());
+        let value = read_value(rt.alloc(), &mut scratch, text.as_bytes())?;
+        let value = value.ok_or(FieldFault::WrongKind)?;
         let read = read_list::<(Account, u64)>(rt.alloc(), 2, &value);
         assert!(rt; read.err() == any, "at {text}");
         let read = distinct_amounts(rt.alloc(), 2, &value);

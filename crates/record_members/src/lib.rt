@@ -1,16 +1,16 @@
 //! The members of an object that a transaction's fields have names for, found in one walk.
 #![tactic(auto)]
 
-ghost use Rattle.std.specs.Prelude.{◌≡◌, option_map};
+ghost use Rattle.std.specs.Prelude.{◌≡◌, None, MatchOption, option_map};
 ghost use Rattle.std.specs.Result.{result_map_both};
-ghost use Rattle.serde_json.specs.Find.{get};
-ghost use Rattle.serde_json.specs.View.{view, members_view};
+ghost use Rattle.serde_json.specs.Find.{as_object, get};
+ghost use Rattle.json_tree.specs.View.{view};
 ghost use Rattle.json_fields.specs.Kinds.{field_in, optional_in};
 ghost use Rattle.tx_records.specs.FieldTexts.{text_of_field};
-ghost use Rattle.record_members.specs.Members.{place_of, place_of_name, FindsAmong};
+ghost use Rattle.record_members.specs.Members.{place_of, place_of_name, value_at, FindsAmong};
 
 use json_fields::FieldFault;
-use serde_json::{Map, Value};
+use json_tree::Value;
 use std::marker::Model;
 use tx_records::FieldName;
 
@@ -19,24 +19,27 @@ const PLACES: usize = 19;
 
 /// The members of an object by their places. Contracts see the object.
 #[derive(Drop)]
-pub struct Members<'a> {
-    object: &'a Value,
-    found: [Option<&'a Value>; PLACES],
+pub struct Members<'v, 'a> {
+    object: &'v Value<'a>,
+    members: &'v [(&'a str, Value<'a>)],
+    found: [Option<usize>; PLACES],
 }
 
-impl<'a> Model for Members<'a> {
-    ghost use Rattle.serde_json.specs.contracts.value.Value as value;
-    ghost use Rattle.serde_json.specs.declared.value.Value as declared;
+impl<'v, 'a> Model for Members<'v, 'a> {
+    ghost use Rattle.json_tree.specs.contracts.value.Value as value;
+    ghost use Rattle.json_tree.specs.declared.value.Value as declared;
     ghost use Rattle.std.specs.Coded.{codes};
+    ghost use Rattle.std.specs.Prelude.{[]};
+    ghost use mir.Syntax.{named};
     ghost use Rattle.record_members.specs.Members.{Finds};
 
     ghost Value = { declared.Value };
 
-    ghost coded = { Prim.hlevel (codes, value.the_row.coded) };
+    ghost coded = { Prim.hlevel (codes, (value.the_row (record { mir = named 0; lft = [] })).coded) };
 
     ghost view = { λ a. a.object.now };
 
-    ghost invariant = { λ a. Finds a.object.now a.found };
+    ghost invariant = { λ a. Finds a.object.now a.members.now a.found };
 }
 
 /// The place of a name, from 0, where a transaction has a field of that name.
@@ -95,48 +98,59 @@ fn place_of_name(name: FieldName) -> Option<usize>
     }
 }
 
-/// The first member of each name that has a place.
-fn found_among<'a>(map: &'a Map<String, Value>) -> [Option<&'a Value>; PLACES]
-    ensures { FindsAmong (members_view map.now.entries) result }
+/// Where the last member of each name that has a place stands in the list.
+fn found_among(members: &[(&str, Value<'_>)]) -> [Option<usize>; PLACES]
+    ensures { FindsAmong members.now members.now result }
 {
-    let mut found: [Option<&'a Value>; PLACES] = [None; PLACES];
-    for (key, value) in map {
-        if let Some(place) = place_of(key.as_str()) {
-            if found[place].is_none() {
-                found[place] = Some(value);
-            }
+    let mut found = [None; PLACES];
+    for at in 0..members.len() {
+        let member = &members[at];
+        if let Some(place) = place_of(member.0) {
+            found[place] = Some(at);
         }
     }
     found
 }
 
-impl<'a> Members<'a> {
-    /// The members of a value; none where it is no object.
-    pub fn new(object: &'a Value) -> Members<'a>
-        ensures { result ≡ object.now }
+/// The value of the member that stands there.
+fn value_at<'v, 'a>(members: &'v [(&'a str, Value<'a>)], at: Option<usize>) -> Option<&'v Value<'a>>
+    ensures { option_map (λ v. view v.now) result ≡ value_at members.now at }
+{
+    match members.get(at?) {
+        Some(member) => Some(&member.1),
+        None => None,
+    }
+}
+
+impl<'v, 'a> Members<'v, 'a> {
+    /// The members of a value; nothing where it is no object.
+    pub fn new(object: &'v Value<'a>) -> Option<Members<'v, 'a>>
+        ensures { MatchOption result (as_object (view object.now) ≡ None) (λ members. members ≡ object.now) }
     {
-        let found = match object.as_object() {
-            Some(map) => found_among(map),
-            None => [None; PLACES],
-        };
-        Members { object, found }
+        let members = object.as_object()?;
+        let found = found_among(members);
+        Some(Members {
+            object,
+            members,
+            found,
+        })
     }
 
     /// The value of the name, if the object has it.
-    fn get(&self, name: FieldName) -> Option<&'a Value>
+    fn get(&self, name: FieldName) -> Option<&'v Value<'a>>
         ensures { option_map (λ v. view v.now) result ≡ get (text_of_field name) (view self.now) }
     {
         match place_of_name(name) {
             Some(place) => {
                 let found = &self.found[..];
-                found[place]
+                value_at(self.members, found[place])
             }
             None => self.object.get(name.text()),
         }
     }
 
     /// The value of the object's field; a null one counts as absent.
-    pub fn field(&self, name: FieldName) -> Result<&'a Value, FieldFault>
+    pub fn field(&self, name: FieldName) -> Result<&'v Value<'a>, FieldFault>
         ensures { result_map_both (λ v. view v.now) (λ e. e) result ≡ field_in (text_of_field name) (view self.now) }
     {
         if !self.object.is_object() {
@@ -149,7 +163,7 @@ impl<'a> Members<'a> {
     }
 
     /// The value of the object's field, if it has one; a null one counts as absent.
-    pub fn optional_field(&self, name: FieldName) -> Result<Option<&'a Value>, FieldFault>
+    pub fn optional_field(&self, name: FieldName) -> Result<Option<&'v Value<'a>>, FieldFault>
         ensures { result_map_both (option_map (λ v. view v.now)) (λ e. e) result ≡
             optional_in (text_of_field name) (view self.now) }
     {

@@ -1,4 +1,3 @@
-pub mod Json
 pub mod Gives
 pub mod KindsGive
 pub mod RecordsGive

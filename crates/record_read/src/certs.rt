@@ -1,11 +1,11 @@
-ghost use Rattle.serde_json.specs.View.{view};
+ghost use Rattle.json_tree.specs.View.{view};
 ghost use Rattle.json_fields.specs.Reads.{Reads};
 ghost use Rattle.record_read.specs.Certs.{account_reg_in, account_unreg_in, cert_of_name, deposit_in, delegate_in, drep_named_in, drep_reg_in, drep_unreg_in, drep_update_in, hot_auth_in, hot_resign_in, pool_named_in, pool_reg_in, pool_retire_in, refund_in, cred_in};
 
 use coin_frac::Unit;
 use gov_ids::{Account, Credential, Drep, PoolId};
 use json_fields::{FieldFault, Kind, field, maybe, needed, read_text};
-use serde_json::Value;
+use json_tree::Value;
 use std::alloc::Global;
 use tx_records::Cert;
 
@@ -19,14 +19,14 @@ impl Kind for CertEntry {
 
     ghost reading = { cert_in };
 
-    fn read(alloc: Global, value: &Value) -> Result<Cert, FieldFault> {
+    fn read(alloc: Global, value: &Value<'_>) -> Result<Cert, FieldFault> {
         let name = read_text(field(value, "cert")?)?;
         cert_of_name(alloc, name, value)
     }
 }
 
 /// The certificate of this name.
-fn cert_of_name(alloc: Global, name: &str, object: &Value) -> Result<Cert, FieldFault>
+fn cert_of_name(alloc: Global, name: &str, object: &Value<'_>) -> Result<Cert, FieldFault>
     ensures { Reads result (cert_of_name name.now (view object.now)) }
 {
     match name {
@@ -44,42 +44,42 @@ fn cert_of_name(alloc: Global, name: &str, object: &Value) -> Result<Cert, Field
     }
 }
 
-fn cred(alloc: Global, object: &Value) -> Result<Credential, FieldFault>
+fn cred(alloc: Global, object: &Value<'_>) -> Result<Credential, FieldFault>
     ensures { Reads result (cred_in (view object.now)) }
 {
     needed::<Credential>(alloc, object, "cred")
 }
 
 /// A deposit that is stated, in lovelace.
-fn deposit(alloc: Global, object: &Value) -> Result<Option<u64>, FieldFault>
+fn deposit(alloc: Global, object: &Value<'_>) -> Result<Option<u64>, FieldFault>
     ensures { Reads result (deposit_in (view object.now)) }
 {
     maybe::<u64>(alloc, object, "deposit")
 }
 
 /// A refund that is stated, in lovelace.
-fn refund(alloc: Global, object: &Value) -> Result<Option<u64>, FieldFault>
+fn refund(alloc: Global, object: &Value<'_>) -> Result<Option<u64>, FieldFault>
     ensures { Reads result (refund_in (view object.now)) }
 {
     maybe::<u64>(alloc, object, "refund")
 }
 
 /// The pool that stake is delegated to.
-fn pool_named(alloc: Global, object: &Value) -> Result<Option<PoolId>, FieldFault>
+fn pool_named(alloc: Global, object: &Value<'_>) -> Result<Option<PoolId>, FieldFault>
     ensures { Reads result (pool_named_in (view object.now)) }
 {
     maybe::<PoolId>(alloc, object, "pool")
 }
 
 /// The DRep that the vote is delegated to.
-fn drep_named(alloc: Global, object: &Value) -> Result<Option<Drep>, FieldFault>
+fn drep_named(alloc: Global, object: &Value<'_>) -> Result<Option<Drep>, FieldFault>
     ensures { Reads result (drep_named_in (view object.now)) }
 {
     maybe::<Drep>(alloc, object, "drep")
 }
 
 #[tactic(auto, unfolding(crate::specs::Certs::account_reg_in))]
-fn account_reg(alloc: Global, object: &Value) -> Result<Cert, FieldFault>
+fn account_reg(alloc: Global, object: &Value<'_>) -> Result<Cert, FieldFault>
     ensures { Reads result (account_reg_in (view object.now)) }
 {
     let cred = cred(alloc, object)?;
@@ -95,7 +95,7 @@ fn account_reg(alloc: Global, object: &Value) -> Result<Cert, FieldFault>
 }
 
 #[tactic(auto, unfolding(crate::specs::Certs::account_unreg_in))]
-fn account_unreg(alloc: Global, object: &Value) -> Result<Cert, FieldFault>
+fn account_unreg(alloc: Global, object: &Value<'_>) -> Result<Cert, FieldFault>
     ensures { Reads result (account_unreg_in (view object.now)) }
 {
     let cred = cred(alloc, object)?;
@@ -105,7 +105,7 @@ fn account_unreg(alloc: Global, object: &Value) -> Result<Cert, FieldFault>
 
 /// It names a pool, a DRep or both.
 #[tactic(auto, unfolding(crate::specs::Certs::delegate_in))]
-fn delegate(alloc: Global, object: &Value) -> Result<Cert, FieldFault>
+fn delegate(alloc: Global, object: &Value<'_>) -> Result<Cert, FieldFault>
     ensures { Reads result (delegate_in (view object.now)) }
 {
     let cred = cred(alloc, object)?;
@@ -118,7 +118,7 @@ fn delegate(alloc: Global, object: &Value) -> Result<Cert, FieldFault>
 }
 
 #[tactic(auto, unfolding(crate::specs::Certs::pool_reg_in))]
-fn pool_reg(alloc: Global, object: &Value) -> Result<Cert, FieldFault>
+fn pool_reg(alloc: Global, object: &Value<'_>) -> Result<Cert, FieldFault>
     ensures { Reads result (pool_reg_in (view object.now)) }
 {
     let pool = needed::<PoolId>(alloc, object, "pool")?;
@@ -138,7 +138,7 @@ fn pool_reg(alloc: Global, object: &Value) -> Result<Cert, FieldFault>
 }
 
 #[tactic(auto, unfolding(crate::specs::Certs::pool_retire_in))]
-fn pool_retire(alloc: Global, object: &Value) -> Result<Cert, FieldFault>
+fn pool_retire(alloc: Global, object: &Value<'_>) -> Result<Cert, FieldFault>
     ensures { Reads result (pool_retire_in (view object.now)) }
 {
     let pool = needed::<PoolId>(alloc, object, "pool")?;
@@ -147,7 +147,7 @@ fn pool_retire(alloc: Global, object: &Value) -> Result<Cert, FieldFault>
 }
 
 #[tactic(auto, unfolding(crate::specs::Certs::drep_reg_in))]
-fn drep_reg(alloc: Global, object: &Value) -> Result<Cert, FieldFault>
+fn drep_reg(alloc: Global, object: &Value<'_>) -> Result<Cert, FieldFault>
     ensures { Reads result (drep_reg_in (view object.now)) }
 {
     let cred = cred(alloc, object)?;
@@ -156,7 +156,7 @@ fn drep_reg(alloc: Global, object: &Value) -> Result<Cert, FieldFault>
 }
 
 #[tactic(auto, unfolding(crate::specs::Certs::drep_unreg_in))]
-fn drep_unreg(alloc: Global, object: &Value) -> Result<Cert, FieldFault>
+fn drep_unreg(alloc: Global, object: &Value<'_>) -> Result<Cert, FieldFault>
     ensures { Reads result (drep_unreg_in (view object.now)) }
 {
     let cred = cred(alloc, object)?;
@@ -165,7 +165,7 @@ fn drep_unreg(alloc: Global, object: &Value) -> Result<Cert, FieldFault>
 }
 
 #[tactic(auto, unfolding(crate::specs::Certs::drep_update_in))]
-fn drep_update(alloc: Global, object: &Value) -> Result<Cert, FieldFault>
+fn drep_update(alloc: Global, object: &Value<'_>) -> Result<Cert, FieldFault>
     ensures { Reads result (drep_update_in (view object.now)) }
 {
     let cred = cred(alloc, object)?;
@@ -173,7 +173,7 @@ fn drep_update(alloc: Global, object: &Value) -> Result<Cert, FieldFault>
 }
 
 #[tactic(auto, unfolding(crate::specs::Certs::hot_auth_in))]
-fn hot_auth(alloc: Global, object: &Value) -> Result<Cert, FieldFault>
+fn hot_auth(alloc: Global, object: &Value<'_>) -> Result<Cert, FieldFault>
     ensures { Reads result (hot_auth_in (view object.now)) }
 {
     let cold = needed::<Credential>(alloc, object, "cold")?;
@@ -182,7 +182,7 @@ fn hot_auth(alloc: Global, object: &Value) -> Result<Cert, FieldFault>
 }
 
 #[tactic(auto, unfolding(crate::specs::Certs::hot_resign_in))]
-fn hot_resign(alloc: Global, object: &Value) -> Result<Cert, FieldFault>
+fn hot_resign(alloc: Global, object: &Value<'_>) -> Result<Cert, FieldFault>
     ensures { Reads result (hot_resign_in (view object.now)) }
 {
     let cold = needed::<Credential>(alloc, object, "cold")?;

@@ -1,5 +1,5 @@
 ghost use Rattle.std.specs.Prelude.{◌≡◌, option_map};
-ghost use Rattle.serde_json.specs.View.{view};
+ghost use Rattle.json_tree.specs.View.{view};
 ghost use Rattle.json_fields.specs.Entries.{maybe_by};
 ghost use Rattle.json_fields.specs.Kinds.{hash32_in};
 ghost use Rattle.json_fields.specs.Reads.{Reads};
@@ -13,8 +13,8 @@ use json_fields::{
     read_list, read_number_below, read_pool_id, read_ref, read_six_or_seven, read_text, read_three,
     read_u32, read_u64, read_unit,
 };
+use json_tree::Value;
 use listed::Listed;
-use serde_json::Value;
 use std::alloc::Global;
 use tx_records::limits::{LEAST_MAJOR, LIST_LIMIT, NETWORK_LIMIT, SLOT_LIMIT};
 use tx_records::{GenesisCommittee, GenesisPool, ProposalRecord, Scripts, TxOutput, VoteRecord};
@@ -29,7 +29,7 @@ impl Kind for Slot {
 
     ghost reading = { slot_in };
 
-    fn read(_alloc: Global, value: &Value) -> Result<u64, FieldFault> {
+    fn read(_alloc: Global, value: &Value<'_>) -> Result<u64, FieldFault> {
         read_number_below(SLOT_LIMIT, value)
     }
 }
@@ -44,7 +44,7 @@ impl Kind for Network {
 
     ghost reading = { network_in };
 
-    fn read(_alloc: Global, value: &Value) -> Result<u8, FieldFault> {
+    fn read(_alloc: Global, value: &Value<'_>) -> Result<u8, FieldFault> {
         let network = read_number_below(u64::from(NETWORK_LIMIT), value)?;
         Ok(network as u8)
     }
@@ -60,7 +60,7 @@ impl Kind for EpochLength {
 
     ghost reading = { epoch_length_in };
 
-    fn read(_alloc: Global, value: &Value) -> Result<u32, FieldFault> {
+    fn read(_alloc: Global, value: &Value<'_>) -> Result<u32, FieldFault> {
         let slots = read_u32(value)?;
         if slots >= 1 {
             Ok(slots)
@@ -80,7 +80,7 @@ impl Kind for GenesisVersion {
 
     ghost reading = { genesis_version_in };
 
-    fn read(alloc: Global, value: &Value) -> Result<(u32, u32), FieldFault> {
+    fn read(alloc: Global, value: &Value<'_>) -> Result<(u32, u32), FieldFault> {
         let version = <(u32, u32)>::read(alloc, value)?;
         if version.0 >= LEAST_MAJOR {
             Ok(version)
@@ -100,7 +100,7 @@ impl Kind for ScriptsField {
 
     ghost reading = { scripts_in };
 
-    fn read(_alloc: Global, value: &Value) -> Result<Scripts, FieldFault> {
+    fn read(_alloc: Global, value: &Value<'_>) -> Result<Scripts, FieldFault> {
         match read_text(value) {
             Ok("none") => Ok(Scripts::Absent),
             Ok("ok") => Ok(Scripts::Passed),
@@ -121,7 +121,7 @@ impl Kind for VoteField {
 
     ghost reading = { vote_in };
 
-    fn read(_alloc: Global, value: &Value) -> Result<Vote, FieldFault> {
+    fn read(_alloc: Global, value: &Value<'_>) -> Result<Vote, FieldFault> {
         match read_text(value) {
             Ok("yes") => Ok(Vote::Yes),
             Ok("no") => Ok(Vote::No),
@@ -133,7 +133,7 @@ impl Kind for VoteField {
 }
 
 /// An entry that may be null.
-fn nullable<K: Kind>(alloc: Global, value: &Value) -> Result<Option<K::Entry>, FieldFault>
+fn nullable<K: Kind>(alloc: Global, value: &Value<'_>) -> Result<Option<K::Entry>, FieldFault>
     ensures { Reads result (nullable_in K.reading (view value.now)) }
 {
     if value.is_null() {
@@ -155,7 +155,7 @@ impl Kind for Member {
     #[tactic(auto, unfolding(crate::specs::Entries::member_in))]
     fn read(
         alloc: Global,
-        value: &Value,
+        value: &Value<'_>,
     ) -> Result<(Credential, u64, Option<Credential>), FieldFault> {
         let (cold, term, hot) = read_three(value)?;
         let cold = read_credential(cold)?;
@@ -180,7 +180,7 @@ impl Kind for Members {
 
     fn read(
         alloc: Global,
-        value: &Value,
+        value: &Value<'_>,
     ) -> Result<Listed<(Credential, u64, Option<Credential>)>, FieldFault> {
         match read_list::<Member>(alloc, LIST_LIMIT, value) {
             Ok(members) => Ok(members),
@@ -200,7 +200,7 @@ impl Kind for Committee {
     ghost reading = { committee_in };
 
     #[tactic(auto, unfolding(crate::specs::Entries::committee_in))]
-    fn read(alloc: Global, value: &Value) -> Result<GenesisCommittee, FieldFault> {
+    fn read(alloc: Global, value: &Value<'_>) -> Result<GenesisCommittee, FieldFault> {
         let threshold = needed::<coin_frac::Unit>(alloc, value, "threshold")?;
         let members = needed::<Members>(alloc, value, "members")?;
         Ok(GenesisCommittee { threshold, members })
@@ -218,7 +218,7 @@ impl Kind for GenesisOutput {
     ghost reading = { genesis_output_in };
 
     #[tactic(auto, unfolding(crate::specs::Entries::genesis_output_in))]
-    fn read(_alloc: Global, value: &Value) -> Result<(OutRef, Address, u64), FieldFault> {
+    fn read(_alloc: Global, value: &Value<'_>) -> Result<(OutRef, Address, u64), FieldFault> {
         let (at, address, lovelace) = read_three(value)?;
         let at = read_ref(at)?;
         let address = read_address(address)?;
@@ -240,7 +240,7 @@ impl Kind for GenesisAccount {
     #[tactic(auto, unfolding(crate::specs::Entries::genesis_account_in))]
     fn read(
         alloc: Global,
-        value: &Value,
+        value: &Value<'_>,
     ) -> Result<(Credential, u64, u64, Option<PoolId>, Option<Drep>), FieldFault> {
         let (cred, deposit, rewards, pool, drep) = read_five(value)?;
         let cred = read_credential(cred)?;
@@ -253,7 +253,7 @@ impl Kind for GenesisAccount {
 }
 
 /// The key of a pool, if it has one.
-fn optional_key(value: Option<&Value>) -> Result<Option<[u8; 32]>, FieldFault>
+fn optional_key(value: Option<&Value<'_>>) -> Result<Option<[u8; 32]>, FieldFault>
     ensures { result ≡ maybe_by hash32_in (option_map (λ v. view v.now) value.entry) }
 {
     match value {
@@ -273,7 +273,7 @@ impl Kind for GenesisPoolEntry {
     ghost reading = { genesis_pool_in };
 
     #[tactic(auto, unfolding(crate::specs::Entries::genesis_pool_in))]
-    fn read(_alloc: Global, value: &Value) -> Result<GenesisPool, FieldFault> {
+    fn read(_alloc: Global, value: &Value<'_>) -> Result<GenesisPool, FieldFault> {
         let (pool, deposit, cost, pledge, margin, account, key) = read_six_or_seven(value)?;
         let pool = read_pool_id(pool)?;
         let deposit = read_u64(deposit)?;
@@ -305,7 +305,7 @@ impl Kind for GenesisDrep {
     ghost reading = { genesis_drep_in };
 
     #[tactic(auto, unfolding(crate::specs::Entries::genesis_drep_in))]
-    fn read(alloc: Global, value: &Value) -> Result<(Credential, u64, u64), FieldFault> {
+    fn read(alloc: Global, value: &Value<'_>) -> Result<(Credential, u64, u64), FieldFault> {
         let (cred, deposit, expiry) = read_three(value)?;
         let cred = read_credential(cred)?;
         let deposit = read_u64(deposit)?;
@@ -325,7 +325,7 @@ impl Kind for Output {
     ghost reading = { output_in };
 
     #[tactic(auto, unfolding(crate::specs::Entries::output_in))]
-    fn read(_alloc: Global, value: &Value) -> Result<TxOutput, FieldFault> {
+    fn read(_alloc: Global, value: &Value<'_>) -> Result<TxOutput, FieldFault> {
         let (address, lovelace, bytes) = read_three(value)?;
         let address = read_address(address)?;
         let lovelace = read_u64(lovelace)?;
@@ -349,7 +349,7 @@ impl Kind for ProposalEntry {
     ghost reading = { proposal_in };
 
     #[tactic(auto, unfolding(crate::specs::Entries::proposal_in))]
-    fn read(alloc: Global, value: &Value) -> Result<ProposalRecord, FieldFault> {
+    fn read(alloc: Global, value: &Value<'_>) -> Result<ProposalRecord, FieldFault> {
         let deposit = needed::<u64>(alloc, value, "deposit")?;
         let account = needed::<Account>(alloc, value, "return")?;
         let action = needed::<ActionField>(alloc, value, "action")?;
@@ -372,7 +372,7 @@ impl Kind for VoteEntry {
     ghost reading = { vote_record_in };
 
     #[tactic(auto, unfolding(crate::specs::Entries::vote_record_in))]
-    fn read(alloc: Global, value: &Value) -> Result<VoteRecord, FieldFault> {
+    fn read(alloc: Global, value: &Value<'_>) -> Result<VoteRecord, FieldFault> {
         let voter = needed::<Voter>(alloc, value, "voter")?;
         let action = needed::<ActionId>(alloc, value, "action")?;
         let vote = needed::<VoteField>(alloc, value, "vote")?;

@@ -1,5 +1,5 @@
 ghost use Rattle.std.specs.Prelude.{◌≡◌};
-ghost use Rattle.serde_json.specs.View.{view};
+ghost use Rattle.json_tree.specs.View.{view};
 ghost use Rattle.record_read.specs.Faults.{fault_in, in_field, in_list};
 ghost use Rattle.record_read.specs.Fields.{needed, optional, defaulted, needed_list, needed_distinct_list, optional_list, optional_distinct_list};
 ghost use Rattle.record_read.specs.Reads.{ReadsRecord};
@@ -45,7 +45,7 @@ fn in_list<T>(name: FieldName, read: Result<Listed<T>, ListFault>) -> Result<Lis
 /// A field that has to be there.
 pub fn needed_field<K: Kind>(
     alloc: Global,
-    object: &Members<'_>,
+    object: &Members<'_, '_>,
     name: FieldName,
 ) -> Result<K::Entry, RecordFault>
     ensures { ReadsRecord result (needed name K.reading (view object.now)) }
@@ -57,7 +57,7 @@ pub fn needed_field<K: Kind>(
 /// A field that may be absent or null.
 pub fn optional_field<K: Kind>(
     alloc: Global,
-    object: &Members<'_>,
+    object: &Members<'_, '_>,
     name: FieldName,
 ) -> Result<Option<K::Entry>, RecordFault>
     ensures { ReadsRecord result (optional name K.reading (view object.now)) }
@@ -71,7 +71,7 @@ pub fn optional_field<K: Kind>(
 /// A field that counts as `default` where it is absent or null.
 pub fn defaulted_field<K: Kind>(
     alloc: Global,
-    object: &Members<'_>,
+    object: &Members<'_, '_>,
     name: FieldName,
     default: K::Entry,
 ) -> Result<K::Entry, RecordFault>
@@ -84,7 +84,7 @@ pub fn defaulted_field<K: Kind>(
 /// A list of at most `limit` entries, in a field that has to be there.
 pub fn needed_list<K: Kind>(
     alloc: Global,
-    object: &Members<'_>,
+    object: &Members<'_, '_>,
     name: FieldName,
     limit: u32,
 ) -> Result<Listed<K::Entry>, RecordFault>
@@ -97,7 +97,7 @@ pub fn needed_list<K: Kind>(
 /// The same, each entry with a name of its own.
 pub fn needed_distinct_list<K: Kind>(
     alloc: Global,
-    object: &Members<'_>,
+    object: &Members<'_, '_>,
     name: FieldName,
     limit: u32,
 ) -> Result<Listed<K::Entry>, RecordFault>
@@ -113,7 +113,7 @@ where
 /// A list of at most `limit` entries, in a field that may be absent or null.
 pub fn optional_list<K: Kind>(
     alloc: Global,
-    object: &Members<'_>,
+    object: &Members<'_, '_>,
     name: FieldName,
     limit: u32,
 ) -> Result<Listed<K::Entry>, RecordFault>
@@ -128,7 +128,7 @@ pub fn optional_list<K: Kind>(
 /// The same, each entry with a name of its own.
 pub fn optional_distinct_list<K: Kind>(
     alloc: Global,
-    object: &Members<'_>,
+    object: &Members<'_, '_>,
     name: FieldName,
     limit: u32,
 ) -> Result<Listed<K::Entry>, RecordFault>

@@ -11,5 +11,6 @@ mod records;
 
 pub use action_read::read_action;
 pub use fault::RecordFault;
+pub use json_tree::Scratch;
 pub use laws::lines_read_within_limits;
-pub use lines::read_record;
+pub use lines::{read_record, read_record_with};

@@ -1,6 +1,6 @@
 ghost use Rattle.std.specs.Prelude.{◌≡◌, codes};
 ghost use Rattle.std.specs.Result.{result_map_both};
-ghost use Rattle.serde_json.specs.View.{view};
+ghost use Rattle.json_tree.specs.View.{view};
 ghost use Rattle.json_fields.specs.Entries.{needed_in};
 ghost use Rattle.json_fields.specs.Kinds.{ref_in, text_in};
 ghost use Rattle.record_read.specs.Reads.{ReadsRecord};
@@ -20,11 +20,11 @@ use crate::fields::{
 use action_read::ParamsField;
 use gov_ids::{Account, Address, Credential, Drep, OutRef, PoolId, TxId};
 use json_fields::{FieldFault, Kind, read_text};
+use json_tree::Value;
 use listed::{Boxed, Listed};
 use out_refs::OutRefs;
 use pparams::Params;
 use record_members::Members;
-use serde_json::Value;
 use std::alloc::Global;
 use tx_records::limits::{LIST_LIMIT, OUTPUT_LIMIT, TX_LIST_LIMIT};
 use tx_records::{
@@ -65,7 +65,7 @@ struct Registered {
 
 /// The network, and how time is counted.
 #[tactic(auto, unfolding(crate::specs::Records::times_in))]
-fn read_times(alloc: Global, object: &Members<'_>) -> Result<Times, RecordFault>
+fn read_times(alloc: Global, object: &Members<'_, '_>) -> Result<Times, RecordFault>
     ensures { ReadsRecord result (times_in (view object.now)) }
 {
     let network = needed_field::<Network>(alloc, object, FieldName::Network)?;
@@ -82,7 +82,7 @@ fn read_times(alloc: Global, object: &Members<'_>) -> Result<Times, RecordFault>
 
 /// The lovelace outside accounts and outputs, and the parameters.
 #[tactic(auto, unfolding(crate::specs::Records::funds_in))]
-fn read_funds(alloc: Global, object: &Members<'_>) -> Result<Funds, RecordFault>
+fn read_funds(alloc: Global, object: &Members<'_, '_>) -> Result<Funds, RecordFault>
     ensures { ReadsRecord result (funds_in (view object.now)) }
 {
     let supply = needed_field::<u64>(alloc, object, FieldName::Supply)?;
@@ -99,7 +99,7 @@ fn read_funds(alloc: Global, object: &Members<'_>) -> Result<Funds, RecordFault>
 
 /// The constitution, the committee and the outputs.
 #[tactic(auto, unfolding(crate::specs::Records::founding_in))]
-fn read_founding(alloc: Global, object: &Members<'_>) -> Result<Founding, RecordFault>
+fn read_founding(alloc: Global, object: &Members<'_, '_>) -> Result<Founding, RecordFault>
     ensures { ReadsRecord result (founding_in (view object.now)) }
 {
     let document = needed_field::<[u8; 32]>(alloc, object, FieldName::Document)?;
@@ -116,7 +116,7 @@ fn read_founding(alloc: Global, object: &Members<'_>) -> Result<Founding, Record
 
 /// Those who are registered.
 #[tactic(auto, unfolding(crate::specs::Records::registered_in))]
-fn read_registered(alloc: Global, object: &Members<'_>) -> Result<Registered, RecordFault>
+fn read_registered(alloc: Global, object: &Members<'_, '_>) -> Result<Registered, RecordFault>
     ensures { ReadsRecord result (registered_in (view object.now)) }
 {
     let accounts = needed_list::<GenesisAccount>(alloc, object, FieldName::Accounts, LIST_LIMIT)?;
@@ -131,7 +131,7 @@ fn read_registered(alloc: Global, object: &Members<'_>) -> Result<Registered, Re
 
 /// The ledger at the start.
 #[tactic(auto, unfolding(crate::specs::Records::genesis_in))]
-fn genesis(alloc: Global, object: &Members<'_>) -> Result<Genesis, RecordFault>
+fn genesis(alloc: Global, object: &Members<'_, '_>) -> Result<Genesis, RecordFault>
     ensures { ReadsRecord result (genesis_in (view object.now)) }
 {
     let Times {
@@ -178,7 +178,7 @@ fn genesis(alloc: Global, object: &Members<'_>) -> Result<Genesis, RecordFault>
 
 /// A block.
 #[tactic(auto, unfolding(crate::specs::Records::block_in))]
-fn block(alloc: Global, object: &Members<'_>) -> Result<Record, RecordFault>
+fn block(alloc: Global, object: &Members<'_, '_>) -> Result<Record, RecordFault>
     ensures { ReadsRecord result (block_in (view object.now)) }
 {
     let slot = needed_field::<Slot>(alloc, object, FieldName::Slot)?;
@@ -188,7 +188,7 @@ fn block(alloc: Global, object: &Members<'_>) -> Result<Record, RecordFault>
 
 /// A reward update.
 #[tactic(auto, unfolding(crate::specs::Records::rewards_in))]
-fn rewards(alloc: Global, object: &Members<'_>) -> Result<Rewards, RecordFault>
+fn rewards(alloc: Global, object: &Members<'_, '_>) -> Result<Rewards, RecordFault>
     ensures { ReadsRecord result (rewards_in (view object.now)) }
 {
     let epoch = needed_field::<u64>(alloc, object, FieldName::Epoch)?;
@@ -249,7 +249,11 @@ struct Acts {
 }
 
 /// A list of references, in a field that has to be there.
-fn needed_refs(alloc: Global, object: &Members<'_>, name: FieldName) -> Result<OutRefs, RecordFault>
+fn needed_refs(
+    alloc: Global,
+    object: &Members<'_, '_>,
+    name: FieldName,
+) -> Result<OutRefs, RecordFault>
     ensures { ReadsRecord result (fields.needed_list name TX_LIST_LIMIT ref_in (view object.now)) }
 {
     let refs = needed_list::<OutRef>(alloc, object, name, TX_LIST_LIMIT)?;
@@ -259,7 +263,7 @@ fn needed_refs(alloc: Global, object: &Members<'_>, name: FieldName) -> Result<O
 /// A list of references, in a field that may be absent or null.
 fn optional_refs(
     alloc: Global,
-    object: &Members<'_>,
+    object: &Members<'_, '_>,
     name: FieldName,
 ) -> Result<OutRefs, RecordFault>
     ensures { ReadsRecord result (fields.optional_list name TX_LIST_LIMIT ref_in (view object.now)) }
@@ -270,7 +274,7 @@ fn optional_refs(
 
 /// What is spent and made.
 #[tactic(auto, unfolding(crate::specs::Records::payment_in))]
-fn read_payment(alloc: Global, object: &Members<'_>) -> Result<Payment, RecordFault>
+fn read_payment(alloc: Global, object: &Members<'_, '_>) -> Result<Payment, RecordFault>
     ensures { ReadsRecord result (payment_in (view object.now)) }
 {
     let id = needed_field::<TxId>(alloc, object, FieldName::Id)?;
@@ -287,7 +291,7 @@ fn read_payment(alloc: Global, object: &Members<'_>) -> Result<Payment, RecordFa
 
 /// The size, the witnesses and the scripts.
 #[tactic(auto, unfolding(crate::specs::Records::form_in))]
-fn read_form(alloc: Global, object: &Members<'_>) -> Result<Form, RecordFault>
+fn read_form(alloc: Global, object: &Members<'_, '_>) -> Result<Form, RecordFault>
     ensures { ReadsRecord result (form_in (view object.now)) }
 {
     let size = needed_field::<u32>(alloc, object, FieldName::Size)?;
@@ -309,7 +313,7 @@ fn read_form(alloc: Global, object: &Members<'_>) -> Result<Form, RecordFault>
 
 /// When it may stand, and what it loses where its scripts fail.
 #[tactic(auto, unfolding(crate::specs::Records::terms_in))]
-fn read_terms(alloc: Global, object: &Members<'_>) -> Result<Terms, RecordFault>
+fn read_terms(alloc: Global, object: &Members<'_, '_>) -> Result<Terms, RecordFault>
     ensures { ReadsRecord result (terms_in (view object.now)) }
 {
     let from = optional_field::<Slot>(alloc, object, FieldName::From)?;
@@ -326,7 +330,7 @@ fn read_terms(alloc: Global, object: &Members<'_>) -> Result<Terms, RecordFault>
 
 /// What it says of the treasury, and takes from accounts.
 #[tactic(auto, unfolding(crate::specs::Records::transfers_in))]
-fn read_transfers(alloc: Global, object: &Members<'_>) -> Result<Transfers, RecordFault>
+fn read_transfers(alloc: Global, object: &Members<'_, '_>) -> Result<Transfers, RecordFault>
     ensures { ReadsRecord result (transfers_in (view object.now)) }
 {
     let treasury = optional_field::<u64>(alloc, object, FieldName::Treasury)?;
@@ -346,7 +350,7 @@ fn read_transfers(alloc: Global, object: &Members<'_>) -> Result<Transfers, Reco
 
 /// What it does beside paying.
 #[tactic(auto, unfolding(crate::specs::Records::acts_in))]
-fn read_acts(alloc: Global, object: &Members<'_>) -> Result<Acts, RecordFault>
+fn read_acts(alloc: Global, object: &Members<'_, '_>) -> Result<Acts, RecordFault>
     ensures { ReadsRecord result (acts_in (view object.now)) }
 {
     let certs = optional_list::<CertEntry>(alloc, object, FieldName::Certs, TX_LIST_LIMIT)?;
@@ -366,7 +370,7 @@ fn read_acts(alloc: Global, object: &Members<'_>) -> Result<Acts, RecordFault>
 
 /// A transaction.
 #[tactic(auto, unfolding(crate::specs::Records::tx_in))]
-fn tx(alloc: Global, object: &Members<'_>) -> Result<Tx, RecordFault>
+fn tx(alloc: Global, object: &Members<'_, '_>) -> Result<Tx, RecordFault>
     ensures { ReadsRecord result (tx_in (view object.now)) }
 {
     let Payment {
@@ -429,7 +433,7 @@ impl Kind for WhatField {
 
     ghost reading = { what_in };
 
-    fn read(_alloc: Global, value: &Value) -> Result<What, FieldFault> {
+    fn read(_alloc: Global, value: &Value<'_>) -> Result<What, FieldFault> {
         match read_text(value) {
             Ok("pots") => Ok(What::Pots),
             Ok("state") => Ok(What::State),
@@ -441,7 +445,7 @@ impl Kind for WhatField {
 
 /// A print.
 #[tactic(auto, unfolding(crate::specs::Records::print_in))]
-fn print(alloc: Global, object: &Members<'_>) -> Result<Record, RecordFault>
+fn print(alloc: Global, object: &Members<'_, '_>) -> Result<Record, RecordFault>
     ensures { ReadsRecord result (print_in (view object.now)) }
 {
     let what = needed_field::<WhatField>(alloc, object, FieldName::What)?;
@@ -449,7 +453,11 @@ fn print(alloc: Global, object: &Members<'_>) -> Result<Record, RecordFault>
 }
 
 /// The record of this kind.
-fn record_of_kind(alloc: Global, kind: &str, object: &Members<'_>) -> Result<Record, RecordFault>
+fn record_of_kind(
+    alloc: Global,
+    kind: &str,
+    object: &Members<'_, '_>,
+) -> Result<Record, RecordFault>
     ensures { ReadsRecord result (record_of_kind kind.now (view object.now)) }
 {
     match kind {
@@ -463,17 +471,19 @@ fn record_of_kind(alloc: Global, kind: &str, object: &Members<'_>) -> Result<Rec
 }
 
 /// The word of a record's kind.
-fn kind_of<'a>(object: &Members<'a>) -> Result<&'a str, FieldFault>
+fn kind_of<'a>(object: &Members<'_, 'a>) -> Result<&'a str, FieldFault>
     ensures { result_map_both (λ kind. kind.now) (λ e. e) result ≡ needed_in (codes "kind") text_in (view object.now) }
 {
     read_text(object.field(FieldName::Kind)?)
 }
 
 /// A record of any kind.
-pub fn record(alloc: Global, object: &Value) -> Result<Record, RecordFault>
+pub fn record(alloc: Global, object: &Value<'_>) -> Result<Record, RecordFault>
     ensures { ReadsRecord result (record_in (view object.now)) }
 {
-    let object = Members::new(object);
+    let Some(object) = Members::new(object) else {
+        return Err(RecordFault::UnknownKind);
+    };
     match kind_of(&object) {
         Ok(kind) => record_of_kind(alloc, kind, &object),
         Err(_) => Err(RecordFault::UnknownKind),

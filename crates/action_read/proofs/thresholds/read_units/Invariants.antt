@@ -1,5 +1,5 @@
 use Rattle.std.proofs.Common.{◌≡◌, ◌++◌, Ok, drop, length}
-use Rattle.serde_json.specs.View.{items_view}
+use Rattle.json_tree.specs.View.{items_view}
 use Rattle.json_fields.specs.Steps.{◌>>=◌}
 use Rattle.action_read.specs.Params.{units_in}
 use Rattle.action_read.proofs.thresholds.read_units.Given as goal

@@ -1,5 +1,5 @@
 use Rattle.std.proofs.Common.{◌≡◌, [], ◌≤◌, drop, length}
-use Rattle.serde_json.specs.View.{items_view}
+use Rattle.json_tree.specs.View.{items_view}
 use Rattle.json_fields.proofs.Names.{AreNames}
 use Rattle.json_fields.specs.Lists.{entries_after, is_known_or_full}
 use Rattle.json_fields.proofs.distinct.read_named_entries.Given as goal

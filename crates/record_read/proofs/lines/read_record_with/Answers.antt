@@ -3,7 +3,7 @@ use Rattle.std.proofs.lemmas.Grind.{common_steps}
 use Rattle.record_read.specs.Lines.{record_of_line}
 use Rattle.record_read.specs.Reads.{ReadsRecord}
 use Rattle.record_read.proofs.RecordsGive.{within_from_reads}
-use Rattle.record_read.proofs.lines.read_record.Goals as goal
+use Rattle.record_read.proofs.lines.read_record_with.Goals as goal
 
 pub returns-clause-within : goal.returns-clause-within
 returns-clause-within c =
