@@ -1,10 +1,9 @@
 -- Lemmas on what a source gave and a reader gave of it, by what the source tells.
-use Rattle.std.proofs.Common.{◌≡◌, ℕ, ◌+◌, ◌-◌, ◌<◌, ◌≤◌, ◌++◌, inl, inr, false, List, [], ◌∷◌, Option, Some, None, length, map, take, refl, sym, ap, subst, ◌∙◌, arith, append_assoc}
-use Rattle.std.specs.Prelude.{IsSome, IsTrue}
+use Rattle.std.proofs.Common.{◌≡◌, ℕ, ◌-◌, ◌<◌, ◌++◌, inl, inr, List, [], ◌∷◌, Option, Some, None, length, map, take, refl, sym, ap, subst, ◌∙◌, arith, append_assoc}
+use Rattle.std.specs.Prelude.{IsSome}
 use Rattle.std.specs.Io.KnownBytes.{IsAtEnd, prepend_known}
 use Rattle.std.proofs.lemmas.List.{append-nil, length-append, same_from_push, take_all, take_at}
 use Rattle.std.proofs.lemmas.Option.{same_Some}
-use Rattle.byte_lines.specs.Answers.{Advances, HasTaken}
 use Rattle.byte_lines.specs.Laws.{BeginsWithNone, CallGivesMore, FeedEndsBegun, FeedEndsOneMore, FeedGivesLine, GivenAddsUp, GivenAll, GivenFirst, GivenIsBetween, GivenWhole, StayingGivesNone}
 use Rattle.byte_lines.specs.Pieces.{kept, line_feed, lines_of, open_of, pieces_of, whole_of}
 use Rattle.byte_lines.specs.Reader.{heeded, lines_after, lines_left, with_run}

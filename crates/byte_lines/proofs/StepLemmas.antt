@@ -7,7 +7,7 @@ use Rattle.std.proofs.lemmas.List.{take-append-drop, drop_more, get_or-take, len
 use Rattle.memchr.specs.Find.{IsFirstByte, is_byte}
 use Rattle.byte_lines.specs.Answers.{HasTaken, line_given, TextStays}
 use Rattle.byte_lines.specs.Buffers.{Finishes}
-use Rattle.byte_lines.specs.Pieces.{has_feed, line_feed}
+use Rattle.byte_lines.specs.Pieces.{has_feed, kept, line_feed}
 use Rattle.byte_lines.specs.Reader.{FitsIn, last_line, Reader, with_run}
 use Rattle.byte_lines.specs.Progress.{HasRead}
 use Rattle.byte_lines.specs.Turns.{Ends, EndsLine, GoesOn, IsReading, TakesMore, TakesOver, TakesPart}
@@ -16,7 +16,7 @@ use Rattle.byte_lines.specs.declared.lines.Line.TheVariants.{Whole, TooLong, End
 use Rattle.byte_lines.specs.declared.lines.LineFault.{LineFault}
 use Rattle.byte_lines.specs.declared.lines.LineFault.TheVariants.{ReadFault, TooMuch, NoMemory}
 use Rattle.byte_lines.proofs.PieceLemmas.{no_feed}
-use Rattle.byte_lines.proofs.ProgressLemmas.{gives-end, gives-line, gives-over, gives-part, gives-run}
+use Rattle.byte_lines.proofs.ProgressLemmas.{gives-end, gives-line, gives-over, gives-part, gives-run, kept_cases}
 use Rattle.byte_lines.proofs.TakenLemmas.{calls_add_up, takes_beyond, takes_bytes, takes_end, takes_line, takes_run}
 
 -- no line feed was found: what was ahead goes on the line begun
@@ -38,6 +38,15 @@ given-finish None old new line is =
     (ap (λ (l : Line). line_given (Ok l) new) is.0, subst (λ (l : Line). TextStays old new (Ok l)) (sym is.0) is.1)
 given-finish (Some bytes) old new line is =
     (ap (λ (l : Line). line_given (Ok l) new) is.0 ∙ ap (λ (xs : List ℕ). Some xs ∷ []) is.1, subst (λ (l : Line). TextStays old new (Ok l)) (sym is.0) tt)
+
+-- a line by itself that is whole has all its bytes
+finished_text : (max : ℕ) (run old new : List ℕ) (mid : Option (List ℕ)) (line : Line) → mid ≡ kept max run → Finishes mid old new line → line ≡ Whole → new ≡ run
+finished_text max run old new None line is ends whole = let long = ends.0 in cc
+finished_text max run old new (Some bytes) line is ends whole =
+    elim (kept_cases max run) [
+      | inl fits ↦ let same : Some bytes ≡ Some run = is ∙ fits.1 in ends.1 ∙ (let h = same in cc)
+      | inr long ↦ let none : Some bytes ≡ None = is ∙ long.1 in cc
+    ]
 
 -- a line feed was found at this place
 pub looks_some : (old : Reader) (at : ℕ) (mid begun : Option (List ℕ)) (ahead text : List ℕ) (held : ℕ) (line : Line) → IsReading old →
@@ -68,6 +77,13 @@ looks_some old at mid begun ahead text held line reading found goes_on ends star
           omega (arith, length-drop (at + 1) old.ahead, found.0.high);
       gives = λ left. gives-line old new run ahead mid (line_given (Ok line) new) left reading.ended cut none goes_on gives.0 is;
       took = λ left. takes_line old new run ahead mid (line_given (Ok line) new) left reading.ended cut none goes_on gives.0 is;
+      passes = record {
+        run = run;
+        cut = cut;
+        first = none;
+        text = λ started whole.
+            finished_text old.line_max run old.text text mid line (goes_on ∙ ap (λ (o : Option (List ℕ)). with_run old.line_max o run) started) ends whole;
+      };
     }
 
 -- within the limit, no byte beyond it was taken

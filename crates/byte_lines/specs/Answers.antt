@@ -1,6 +1,7 @@
 -- What a call for the next line does.
 use Rattle.std.specs.Prelude.{◌≡◌, ℕ, ◌+◌, ◌-◌, ◌++◌, ◌≤◌, ◌<◌, ◌⊎◌, ◌↔◌, false, List, [], ◌∷◌, Option, Some, None, Result, Ok, Err, IsErr, IsOk, IsTrue, length, ⊤}
 use Rattle.std.specs.Io.KnownBytes.{IsAtEnd, prepend_known}
+use Rattle.byte_lines.specs.Pieces.{has_feed, line_feed}
 use Rattle.byte_lines.specs.Reader.{FitsIn, Reader, heeded, lines_left, part_max}
 use Rattle.byte_lines.specs.declared.lines.Line.{Line}
 use Rattle.byte_lines.specs.declared.lines.Line.TheVariants.{Whole, TooLong, End}
@@ -45,6 +46,19 @@ pub record HasTaken (old new : Reader) (left left' : Option (List ℕ)) (given :
   -- whatever comes next, and nothing after the end, these lines and those still to come are those that were to come
   pub lines : (rest : List ℕ) → (IsTrue new.ended → rest ≡ []) →
       lines_left old (heeded (old.stream_max - old.taken) bytes ++ rest) ≡ given ++ lines_left new rest
+
+-- a line that stood whole ahead was passed over: it went up to the first line feed there and, where no line was begun, it is
+-- the text
+pub record PassesLine (old new : Reader) (line : Line) : Type 0 where
+  pub run : List ℕ
+  pub cut : old.ahead ≡ run ++ line_feed ∷ new.ahead
+  pub first : has_feed run ≡ false
+  pub text : old.begun ≡ Some [] → line ≡ Whole → new.text ≡ run
+
+-- the first line that stood whole ahead was passed over, or memory ran out and it still stands there
+abbrev pub Passes : Reader → Reader → Result Line LineFault → Type 0
+Passes old new (Ok line) = PassesLine old new line
+Passes old new (Err fault) = (new.ahead ≡ old.ahead) × (new.begun ≡ old.begun)
 
 -- however long a line or a stream is
 pub record IsBounded (r : Reader) : Type 0 where

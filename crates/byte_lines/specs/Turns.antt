@@ -2,7 +2,7 @@
 use Rattle.std.specs.Prelude.{◌≡◌, ℕ, ◌+◌, ◌≤◌, ◌<◌, ◌++◌, ◌⊎◌, ◌↔◌, true, false, IsTrue, IsOk, IsErr, List, [], Option, Some, None, Result, Ok, Err, length}
 use Rattle.std.specs.Io.KnownBytes.{IsAtEnd}
 use Rattle.coin_frac.specs.declared.NoMemory.{NoMemory as OutOfMemory}
-use Rattle.byte_lines.specs.Answers.{Advances, HasTaken, line_given, TextStays}
+use Rattle.byte_lines.specs.Answers.{Advances, HasTaken, PassesLine, line_given, TextStays}
 use Rattle.byte_lines.specs.Pieces.{has_feed}
 use Rattle.byte_lines.specs.Progress.{HasRead}
 use Rattle.byte_lines.specs.Reader.{Reader, part_max}
@@ -31,6 +31,7 @@ pub record EndsLine (old new : Reader) (line : Line) : Type 0 where
   pub ahead : length new.ahead < length old.ahead
   pub gives : (left : Option (List ℕ)) → Gives old new left left (line_given (Ok line) new)
   pub took : (left : Option (List ℕ)) → HasTaken old new left left (line_given (Ok line) new)
+  pub passes : PassesLine old new line
 
 -- all that was ahead is looked at, and no line feed stands in it
 pub record GoesOn (old new : Reader) : Type 0 where

@@ -1,7 +1,7 @@
 //! The reader of lines.
 ghost use Rattle.std.specs.Prelude.{◌≡◌, ℕ, ◌≤◌, ◌++◌, List, [], Option, Some, length, false, true, IsTrue};
 ghost use Rattle.std.specs.Io.KnownBytes.{IsAtEnd};
-ghost use Rattle.byte_lines.specs.Answers.{Advances, HasTaken, IsAnswer, IsBounded, IsStopped, line_given};
+ghost use Rattle.byte_lines.specs.Answers.{Advances, HasTaken, IsAnswer, IsBounded, IsStopped, Passes, line_given};
 ghost use Rattle.byte_lines.specs.Faults.{CountsFaults};
 ghost use Rattle.byte_lines.specs.Pieces.{has_feed, lines_of};
 ghost use Rattle.byte_lines.specs.Progress.{HasRead};
@@ -163,6 +163,8 @@ impl Lines {
         // a reader that has stopped, or has a line ahead, asks the source for nothing
         ensures stopped { IsStopped self.old → (self.new ≡ self.old) × (source.new ≡ source.old) }
         ensures asks { has_feed self.old.ahead ≡ true → source.new ≡ source.old }
+        // and passes over that line
+        ensures passes { has_feed self.old.ahead ≡ true → Passes self.old self.new result }
     {
         match self.state {
             State::Reading => {}
@@ -185,6 +187,13 @@ impl Lines {
         &self.text
     }
 
+    /// The bytes that were read and not looked at yet. (Own)
+    pub fn ahead(&self) -> &[u8]
+        ensures { result.now ≡ self.now.ahead }
+    {
+        self.ahead.as_slice()
+    }
+
     /// The number, from 1, of the line of the last `Whole` or `TooLong`; 0 before the first. (Own)
     pub fn number(&self) -> u64
         ensures { result ≡ self.now.number }
@@ -199,6 +208,7 @@ impl Lines {
             (line_given result self.new) }
         ensures counts { CountsFaults (result ≡ Err LineFault.ReadFault) (S.faults source.old) (S.faults source.new) }
         ensures asks { has_feed self.old.ahead ≡ true → source.new ≡ source.old }
+        ensures passes { has_feed self.old.ahead ≡ true → Passes self.old self.new result }
     {
         loop {
             if let Some(line) = self.line_ahead()? {

@@ -59,5 +59,5 @@ pub fn run<R: Threads + Sync, S: Source, K: Sink, G: Gate + Sync>(
         requires within { is_within reading ≡ true }
         ensures { AnswersAs (λ held. held.ledger) (option_map (λ held. held.ledger) before) reading result }
     { answer(&crew, workers, before, &reading) };
-    run_over(alloc, &answers, words, source, sink)
+    run_over(alloc, rt, &answers, words, source, sink)
 }

@@ -6,8 +6,8 @@ use Rattle.byte_lines.specs.Reader.{Reader, heeded}
 use Rattle.byte_lines.specs.declared.lines.LineFault.{LineFault}
 use Rattle.byte_lines.specs.declared.lines.LineFault.TheVariants as faults
 use Rattle.tx_records.specs.declared.record.Reading.{Reading}
-use Rattle.record_stream.specs.declared.reading.Found.{Found}
-use Rattle.record_stream.specs.declared.reading.Found.TheVariants as found
+use Rattle.record_stream.specs.declared.found.Found.{Found}
+use Rattle.record_stream.specs.declared.found.Found.TheVariants as found
 use Rattle.record_stream.specs.Come.{HasCome, ReadTo}
 use Rattle.tx_records.specs.declared.limits.TheConstants.{LINE_LIMIT, STREAM_LIMIT}
 use Rattle.record_stream.specs.Records.{records_from, records_of, is_within}

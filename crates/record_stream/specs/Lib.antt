@@ -1,3 +1,4 @@
 pub mod Records
+pub mod Ahead
 pub mod Come
 pub mod Heard

@@ -1,6 +1,9 @@
-//! The records of a stream of lines, one after the other.
+//! The records of a stream of lines, one after the other, some of them read ahead by workers.
 #![tactic(auto)]
 
+mod ahead;
+mod found;
+mod reader;
 mod reading;
 
-pub use reading::next_record;
+pub use reader::RecordReader;

@@ -1,5 +1,5 @@
 -- The number of workers does not show.
-use Rattle.std.proofs.Common.{◌≡◌, [], Option, refl, ap, sym, ◌∙◌}
+use Rattle.std.proofs.Common.{[], Option, refl, ap, sym, ◌∙◌}
 use Rattle.std.specs.Prelude.{unwrap_or}
 use Rattle.text_model.specs.Words.{Text}
 use Rattle.replay_loop.specs.Laws.{SummariesAreOne, TextsAreOne}

@@ -17,6 +17,7 @@ use crate::status::Status;
 use byte_lines::{Sink, Source};
 use load_options::{load_command, replay_workers};
 use std::alloc::Global;
+use std::thread::Threads;
 use tx_records::Reading;
 
 /// The status of a command that ended so.
@@ -34,11 +35,12 @@ fn status_of(ran: Result<(), ReplayFault>) -> Status
 /// that is made for its three numbers, and writes the summary of it. As many workers as the words say, one where they do not,
 /// share the counts of each boundary; no clause depends on them. (Own)
 pub fn run_over<
+    T: Threads + Sync,
     R: RunState + Drop,
     S: Source,
     K: Sink,
     F: Fn(u32, Option<R>, Reading) -> Answered<R>,
->(alloc: Global, answer: &F, words: &[String], source: &mut S, sink: &mut K) -> Status
+>(alloc: Global, rt: &T, answer: &F, words: &[String], source: &mut S, sink: &mut K) -> Status
     requires answers { AnswersEach R.world (F.pre answer.now) (F.post answer.now) }
     ensures usage { (result ≡ Status.Usage) ↔ (is_command words.now ≡ false) }
     ensures unread { result ≡ Status.Usage → (source.new ≡ source.old) × (sink.new ≡ sink.old) }
@@ -60,10 +62,10 @@ pub fn run_over<
         (¬ Rose (K.faults sink.old) (K.faults sink.new)) → (result ≡ Status.Done) ⊎ (result ≡ Status.NoMemory) }
 {
     if let Some(workers) = replay_workers(words) {
-        return status_of(replay(alloc, answer, workers, source, sink));
+        return status_of(replay(alloc, rt, answer, workers, source, sink));
     }
     match load_command(words) {
-        Some(command) => status_of(load(alloc, answer, command, sink)),
+        Some(command) => status_of(load(alloc, rt, answer, command, sink)),
         None => Status::Usage,
     }
 }

@@ -16,14 +16,15 @@ use load_model::LoadSummary;
 use load_options::LoadCommand;
 use load_summary::{LoadCounts, summary_is_counted, write_load};
 use std::alloc::Global;
+use std::thread::Threads;
 use tx_records::Reading;
 
 /// The summary of a replay of the stream that is made for the command.
-fn summary_over<R: RunState + Drop, F: Fn(u32, Option<R>, Reading) -> Answered<R>>(
-    alloc: Global,
-    answer: &F,
-    command: LoadCommand,
-) -> Result<LoadSummary, ReplayFault>
+fn summary_over<
+    T: Threads + Sync,
+    R: RunState + Drop,
+    F: Fn(u32, Option<R>, Reading) -> Answered<R>,
+>(alloc: Global, rt: &T, answer: &F, command: LoadCommand) -> Result<LoadSummary, ReplayFault>
     requires within { IsWithin command }
     requires answers { AnswersEach R.world (F.pre answer.now) (F.post answer.now) }
     ensures ok { IfOk result (λ summary. summary_of_load command ≡ Some summary) }
@@ -35,24 +36,31 @@ fn summary_over<R: RunState + Drop, F: Fn(u32, Option<R>, Reading) -> Answered<R
     let mut counter = Counter {
         counts: LoadCounts::new(),
     };
-    let last: R = replay_over(alloc, answer, command.workers, &mut source, &mut counter)?;
+    let last: R = replay_over(
+        alloc,
+        rt,
+        answer,
+        command.workers,
+        &mut source,
+        &mut counter,
+    )?;
     Ok(counter.counts.summary(command.seed, command.accounts, command.epochs, last.pots()))
 }
 
 /// Replays the stream that is made for the command, and writes the summary of it. (Own)
-pub(crate) fn load<R: RunState + Drop, K: Sink, F: Fn(u32, Option<R>, Reading) -> Answered<R>>(
-    alloc: Global,
-    answer: &F,
-    command: LoadCommand,
-    sink: &mut K,
-) -> Result<(), ReplayFault>
+pub(crate) fn load<
+    T: Threads + Sync,
+    R: RunState + Drop,
+    K: Sink,
+    F: Fn(u32, Option<R>, Reading) -> Answered<R>,
+>(alloc: Global, rt: &T, answer: &F, command: LoadCommand, sink: &mut K) -> Result<(), ReplayFault>
     requires within { IsWithin command }
     requires answers { AnswersEach R.world (F.pre answer.now) (F.post answer.now) }
     ensures loads { IsLoaded (status_by result) command (K.taken sink.old) (K.taken sink.new) }
     ensures writes { CountsFaults (result ≡ Err ReplayFault.WriteFault) (K.faults sink.old) (K.faults sink.new) }
 {
     made_streams();
-    let summary = summary_over(alloc, answer, command)?;
+    let summary = summary_over(alloc, rt, answer, command)?;
     write_load(alloc, sink, &summary)?;
     Ok(())
 }

@@ -11,11 +11,14 @@ use crate::fault::{Answered, ReplayFault};
 use crate::hearer::Hearer;
 use crate::run_state::RunState;
 use crate::status::GenesisCause;
-use byte_lines::{Lines, Sink, Source};
-use record_stream::next_record;
+use byte_lines::{Sink, Source};
+use record_stream::RecordReader;
 use std::alloc::Global;
+use std::thread::Threads;
 use tx_records::Reading;
-use tx_records::limits::{LINE_LIMIT, STREAM_LIMIT};
+
+/// How many workers read lines ahead: to make threads for a part of 64 KiB takes longer than to read it by one.
+const READERS: u32 = 1;
 
 /// The state after what was read of the line of this number, which is told.
 fn turn<R: RunState + Drop, H: Hearer<R>, F: Fn(u32, Option<R>, Reading) -> Answered<R>>(
@@ -43,11 +46,19 @@ fn turn<R: RunState + Drop, H: Hearer<R>, F: Fn(u32, Option<R>, Reading) -> Answ
 
 /// Reads a stream from its genesis to its end, and tells what each record comes to before it asks for a further line.
 pub(crate) fn replay_over<
+    T: Threads + Sync,
     R: RunState + Drop,
     S: Source,
     H: Hearer<R>,
     F: Fn(u32, Option<R>, Reading) -> Answered<R>,
->(alloc: Global, answer: &F, workers: u32, source: &mut S, hearer: &mut H) -> Result<R, ReplayFault>
+>(
+    alloc: Global,
+    rt: &T,
+    answer: &F,
+    workers: u32,
+    source: &mut S,
+    hearer: &mut H,
+) -> Result<R, ReplayFault>
     requires some { 1 ≤ workers }
     requires few { workers ≤ 64 }
     requires answers { AnswersEach R.world (F.pre answer.now) (F.post answer.now) }
@@ -56,16 +67,16 @@ pub(crate) fn replay_over<
     ensures reads { CountsFaults (result ≡ Err ReplayFault.ReadFault) (S.faults source.old) (S.faults source.new) }
     ensures writes { CountsFaults (result ≡ Err ReplayFault.WriteFault) (H.faults hearer.old) (H.faults hearer.new) }
 {
-    let mut lines = Lines::new(alloc, LINE_LIMIT, STREAM_LIMIT);
+    let mut reader = RecordReader::new(alloc);
     let mut text = Vec::new(alloc);
     let mut state = None;
-    while let Some(reading) = next_record(alloc, &mut lines, source)? {
+    while let Some(reading) = reader.next(rt, READERS, source)? {
         let after = turn(
             answer,
             workers,
             state,
             reading,
-            lines.number(),
+            reader.number(),
             &mut text,
             hearer,
         )?;
@@ -76,11 +87,19 @@ pub(crate) fn replay_over<
 
 /// Reads a stream from its genesis to its end, and writes the text of each record before it asks for a further line.
 pub(crate) fn replay<
+    T: Threads + Sync,
     R: RunState + Drop,
     S: Source,
     K: Sink,
     F: Fn(u32, Option<R>, Reading) -> Answered<R>,
->(alloc: Global, answer: &F, workers: u32, source: &mut S, sink: &mut K) -> Result<(), ReplayFault>
+>(
+    alloc: Global,
+    rt: &T,
+    answer: &F,
+    workers: u32,
+    source: &mut S,
+    sink: &mut K,
+) -> Result<(), ReplayFault>
     requires some { 1 ≤ workers }
     requires few { workers ≤ 64 }
     requires answers { AnswersEach R.world (F.pre answer.now) (F.post answer.now) }
@@ -89,7 +108,7 @@ pub(crate) fn replay<
     ensures reads { CountsFaults (result ≡ Err ReplayFault.ReadFault) (S.faults source.old) (S.faults source.new) }
     ensures writes { CountsFaults (result ≡ Err ReplayFault.WriteFault) (K.faults sink.old) (K.faults sink.new) }
 {
-    match replay_over(alloc, answer, workers, source, sink) {
+    match replay_over(alloc, rt, answer, workers, source, sink) {
         Ok(last) => {
             drop(last);
             Ok(())
