@@ -1,5 +1,5 @@
 -- What an entry that is put does to the sums over the entries.
-use Rattle.std.proofs.Common.{◌≡◌, ℕ, ◌+◌, ◌-◌, ◌==◌, ◌&&◌, ◌≤◌, ◌<◌, ◌^◌, List, [], ◌∷◌, Bool, true, false, cond, is_none, Option, Some, None, refl, ap, sym, ◌∙◌, arith}
+use Rattle.std.proofs.Common.{◌≡◌, ℕ, ◌+◌, ◌-◌, ◌==◌, ◌&&◌, ◌≤◌, List, [], ◌∷◌, Bool, true, false, cond, is_none, is_some, ◌⊎◌, inl, inr, Option, Some, None, refl, ap, sym, ◌∙◌, arith}
 use Rattle.std.specs.BTreeMap.{is_at}
 use Rattle.std.specs.Map.{values_of}
 use Rattle.std.specs.Option.{option_and_then}
@@ -14,7 +14,6 @@ use Rattle.gov_ids.proofs.Totals.{credential_total}
 use Rattle.book_records.specs.declared.Entry.{Entry}
 use Rattle.book_records.specs.declared.Registered.{Registered}
 use Rattle.tx_records.specs.declared.limits.TheConstants.{SUPPLY_LIMIT}
-use Rattle.coin_frac.specs.Totals.{total_of}
 use Rattle.maps.proofs.Kept.{IsMap-with_value, IsMap-without_key}
 use Rattle.maps.specs.Maps.{IsMap, value_at, with_value, without_key, sum_values}
 use Rattle.maps.specs.Words.{amount, holds}
@@ -89,21 +88,56 @@ balances_within entries = sum_within balance_of weight_of (λ e. omega arith) en
 share_there : (e : Entry) (p : PoolId) → pool_of e ≡ Some p → share_of p e ≡ weight_of e
 share_there e p is = ap (λ (o : Option PoolId). cond (holds same_pool o p) (weight_of e) 0) is ∙ ap (λ b. cond b (weight_of e) 0) (itself p)
 
+-- what stays is added and taken on neither side
+stays : (b c : Bool) (m n left : ℕ) → left ≤ m → left ≤ n → (left ≡ 0) ⊎ (b ≡ c) → cond c (n - left) 0 + cond b m 0 ≡ cond b (m - left) 0 + cond c n 0
+stays true true m n left l k w = omega (arith, l, k)
+stays false false m n left l k w = refl
+stays true false m n left l k (inl z) = omega (arith, z)
+stays true false m n left l k (inr e) = cc
+stays false true m n left l k (inl z) = omega (arith, z)
+stays false true m n left l k (inr e) = cc
+
+-- so it is for a test of what is equal
+tested : {A : Type 0} {x y : A} (n : ℕ) (f : A → Bool) → (n ≡ 0) ⊎ (x ≡ y) → (n ≡ 0) ⊎ (f x ≡ f y)
+tested n f (inl z) = inl z
+tested n f (inr e) = inr (ap f e)
+
+counted : (o : Option PoolId) (n : ℕ) → amount (λ _. n) o ≡ cond (is_some o) n 0
+counted None n = refl
+counted (Some p) n = refl
+
 module _ (held : ℕ) (pools up : List (PoolId × ℕ)) (c : Credential) (entries : List (Credential × Entry)) (s : AreSummed held pools entries) where
-  -- with one entry in place of another, once its share was added and then that of the other taken
-  pub entered_summed : (e : Entry) (down : List (PoolId × ℕ)) → IsRaised (pool_of e) (weight_of e) pools up → IsRaised (pool_of (whole_entry entries c)) (weight_of (whole_entry entries c)) down up
+  -- with one entry in place of another, once its share was added and then that of the other taken, but for what stays with the pool
+  pub entered_summed : (e : Entry) (down : List (PoolId × ℕ)) (left : ℕ) → left ≤ weight_of (whole_entry entries c) → left ≤ weight_of e → (left ≡ 0) ⊎ (pool_of (whole_entry entries c) ≡ pool_of e)
+      → IsRaised (pool_of e) (weight_of e - left) pools up → IsRaised (pool_of (whole_entry entries c)) (weight_of (whole_entry entries c) - left) down up
       → weight_in (with_entry c e entries) ≤ SUPPLY_LIMIT → AreSummed (held - balance_of (whole_entry entries c) + balance_of e) down (with_entry c e entries)
-  entered_summed e down r l w = record {
+  entered_summed e down left m n same r l w = record {
     in_order = IsMap-with_entry c e entries s.in_order;
     within = w;
     balances = omega (arith, s.balances, before_within balance_of refl c entries, entered_sum balance_of refl c entries e s.in_order);
-    pools = λ p. omega (arith, r.each p, l.each p, s.pools p, entered_sum (share_of p) refl c entries e s.in_order);
-    total = omega (arith, r.total, l.total, s.total, entered_sum shared_by refl c entries e s.in_order);
+    pools = λ p.
+        omega (
+          arith,
+          r.each p,
+          l.each p,
+          s.pools p,
+          entered_sum (share_of p) refl c entries e s.in_order,
+          stays (holds same_pool (pool_of (whole_entry entries c)) p) (holds same_pool (pool_of e) p) (weight_of (whole_entry entries c)) (weight_of e) left m n (tested left (λ o. holds same_pool o p) same),
+        );
+    total = omega (
+      arith,
+      r.total,
+      l.total,
+      s.total,
+      entered_sum shared_by refl c entries e s.in_order,
+      counted (pool_of e) (weight_of e - left),
+      counted (pool_of e) (weight_of e),
+      counted (pool_of (whole_entry entries c)) (weight_of (whole_entry entries c) - left),
+      counted (pool_of (whole_entry entries c)) (weight_of (whole_entry entries c)),
+      stays (is_some (pool_of (whole_entry entries c))) (is_some (pool_of e)) (weight_of (whole_entry entries c)) (weight_of e) left m n (tested left (λ o. is_some o) same),
+    );
   }
 
   -- the share of the entry that was there can be taken
   pub before_enough : (pool : Option PoolId) (n : ℕ) (p : PoolId) → IsRaised pool n pools up → pool_of (whole_entry entries c) ≡ Some p → weight_of (whole_entry entries c) ≤ stake_in up p
   before_enough pool n p r is = omega (arith, r.each p, s.pools p, before_within (share_of p) refl c entries, share_there (whole_entry entries c) p is)
-
-pub raised_fits : (held n : ℕ) (pool : Option PoolId) (pools up : List (PoolId × ℕ)) (entries : List (Credential × Entry)) → AreSummed held pools entries → IsRaised pool n pools up → n ≤ SUPPLY_LIMIT → total_of up < 2 ^ 64
-raised_fits held n pool pools up entries s r w = omega (arith, r.total, shared_at_most pool n, s.total, s.within, shared_within entries, w)

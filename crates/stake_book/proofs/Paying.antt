@@ -11,7 +11,7 @@ use Rattle.maps.proofs.Lookups.{value_at-with_value, value_at-changed_at}
 use Rattle.maps.proofs.Placed.{changed_at_absent, value_at_tied}
 use Rattle.maps.proofs.Same.{map_from_value_at}
 use Rattle.maps.proofs.Sums.{sum_values-with_value, sum_values-without_key}
-use Rattle.maps.specs.Maps.{IsMap, value_at, has_key, with_value, without_key}
+use Rattle.maps.specs.Maps.{IsMap, value_at, has_key, with_value}
 use Rattle.stake_book.specs.Paid.{rewarded, with_payment}
 use Rattle.stake_book.specs.Stakes.{balances_in}
 

@@ -1,6 +1,10 @@
 -- What an amount more or less at one pool does.
-use Rattle.std.proofs.Common.{◌≡◌, ℕ, ◌+◌, ◌≤◌, List, true, false, cond, is_some, Option, Some, None, unwrap_or, refl, ap, sym, ◌∙◌, arith}
+use Rattle.std.proofs.Common.{◌≡◌, ℕ, ◌+◌, ◌≤◌, List, [], ◌∷◌, true, false, cond, is_some, Option, Some, None, unwrap_or, refl, ap, sym, ◌∙◌, arith}
 use Rattle.std.specs.BTreeMap.{is_at}
+use Rattle.std.specs.declared.cmp.Ordering.TheVariants.{Less, Equal, Greater}
+use Rattle.std.specs.List.Sorted.{IsStrictlySortedBy}
+use Rattle.std.specs.Map.{keys_of, set_value}
+use Rattle.std.specs.Ordering.{is_eq, match_ordering}
 use Rattle.std.proofs.lemmas.Cmp.{eq_by_cmp_equiv}
 use Rattle.std.proofs.lemmas.Map.Entries.{sum_by-insert_entry, sum_by-remove_entry}
 use Rattle.gov_ids.specs.declared.PoolId.{PoolId}
@@ -9,8 +13,8 @@ use Rattle.gov_ids.specs.Same.{same_pool}
 use Rattle.gov_ids.proofs.Exacts.{pool_exact}
 use Rattle.gov_ids.proofs.Totals.{pool_total}
 use Rattle.coin_frac.specs.Totals.{total_of}
-use Rattle.maps.proofs.Lookups.{value_at-with_value, value_at-without_key}
-use Rattle.maps.proofs.Ties.{same_key}
+use Rattle.maps.proofs.Lookups.{none_below, value_at-with_value, value_at-without_key}
+use Rattle.maps.proofs.Ties.{all_above, same_key}
 use Rattle.maps.specs.Maps.{IsMap, value_at, has_key, with_value, without_key}
 use Rattle.maps.specs.Words.{amount, holds}
 use Rattle.stake_book.specs.Sums.{IsRaised, stake_in}
@@ -35,6 +39,29 @@ is_there pools p h = there (value_at pool_cmp pools p) h
 
 pub unraised : (n : ℕ) (pools : List (PoolId × ℕ)) → IsRaised None n pools pools
 unraised n pools = record { each = λ q. omega arith; total = omega arith }
+
+-- what takes away does not ask for what was written there before
+pub written_gone : (p : PoolId) (v : ℕ) (pools : List (PoolId × ℕ)) → without_key pool_cmp p (set_value (is_at (pool_cmp p)) pools v) ≡ without_key pool_cmp p pools
+written_gone p v [] = refl
+written_gone p v (e ∷ pools) =
+    elim (same_pool p e.0) as (λ b. same_pool p e.0 ≡ b → without_key pool_cmp p (cond b ((e.0, v) ∷ pools) (e ∷ set_value (is_at (pool_cmp p)) pools v)) ≡ cond b pools (e ∷ without_key pool_cmp p pools)) [
+      | true ↦ λ t. ap (λ b. cond b pools ((e.0, v) ∷ without_key pool_cmp p pools)) t
+      | false ↦ λ t.
+          ap (λ b. cond b (set_value (is_at (pool_cmp p)) pools v) (e ∷ without_key pool_cmp p (set_value (is_at (pool_cmp p)) pools v))) t
+          ∙ ap (λ (l : List (PoolId × ℕ)). e ∷ l) (written_gone p v pools)
+    ] refl
+
+-- a value that is written where one stood
+pub written_there : (p : PoolId) (v x : ℕ) (pools : List (PoolId × ℕ)) → IsMap pool_cmp pools → value_at pool_cmp pools p ≡ Some x → set_value (is_at (pool_cmp p)) pools v ≡ with_value pool_cmp p v pools
+unfolding IsStrictlySortedBy
+written_there p v x [] h m = cc
+written_there p v x (e ∷ pools) h m =
+    elim (pool_cmp p e.0) as (λ r. pool_cmp p e.0 ≡ r → cond (is_eq r) (Some e.1) (value_at pool_cmp pools p) ≡ Some x
+    → cond (is_eq r) ((e.0, v) ∷ pools) (e ∷ set_value (is_at (pool_cmp p)) pools v) ≡ match_ordering r ((p, v) ∷ e ∷ pools) ((e.0, v) ∷ pools) (e ∷ with_value pool_cmp p v pools)) [
+      | Less ↦ λ r m. let none : value_at pool_cmp pools p ≡ None = none_below pool_cmp p pools (all_above pool_total p e.0 (keys_of pools) r h.0) in cc
+      | Equal ↦ λ r m. refl
+      | Greater ↦ λ r m. ap (λ (l : List (PoolId × ℕ)). e ∷ l) (written_there p v x pools h.1 m)
+    ] refl m
 
 module _ (p : PoolId) (v n : ℕ) (pools : List (PoolId × ℕ)) (h : IsMap pool_cmp pools) where
   put_at : (q : PoolId) → stake_in (with_value pool_cmp p v pools) q ≡ cond (same_pool p q) v (stake_in pools q)

@@ -10,7 +10,7 @@ ghost use Rattle.maps.specs.Maps.{value_at, changed_at, with_key, without_member
 ghost use Rattle.maps.specs.Replaced.{with_option};
 ghost use Rattle.view_map.specs.View.{frozen_of};
 ghost use Rattle.stake_book.specs.Stakes.{AreKept, HasRoom, accounts_of, balances_in, no_stakes, pool_stake_in};
-ghost use Rattle.stake_book.specs.Stakes.{stake_at, with_stake, spent, added, with_account, with_used};
+ghost use Rattle.stake_book.specs.Stakes.{stake_at, whole_entry, with_stake, spent, added, with_account, with_used};
 ghost use Rattle.stake_book.specs.Stakes.{without_pools, without_dreps};
 ghost use Rattle.stake_book.specs.Sums.{weight_in};
 ghost use Rattle.stake_book.specs.Ended.{entry_without, entries_without, accounts_without, ended_at};
@@ -31,11 +31,22 @@ use summed::SummedAccounts;
 use utxo_set::UtxoSet;
 
 /// The outputs and the accounts. The stake of each account and of each pool, and the reward balances, are kept as running numbers. (UTxOState and DState of the formal specification; the running numbers are own)
-#[derive(Debug, Drop)]
+#[derive(Debug)]
 pub struct StakeBook {
     alloc: Global,
     outputs: UtxoSet,
     accounts: SummedAccounts,
+}
+
+// What lets it go stands here once: a derived one is proved again, part by part, in each crate above.
+impl Drop for StakeBook {
+    fn drop(self) {
+        let StakeBook {
+            alloc: _alloc,
+            outputs: _outputs,
+            accounts: _accounts,
+        } = self;
+    }
 }
 
 impl Model for StakeBook {
@@ -66,7 +77,7 @@ fn raise_stake(
     };
     let entry = accounts.entry_of(&c);
     let stake = entry.stake + gained;
-    accounts.enter(c, Entry { stake, ..entry })
+    accounts.enter(c, &entry, Entry { stake, ..entry })
 }
 
 // Takes from the stake of a stake part; nothing changes where there is no part.
@@ -87,7 +98,7 @@ fn lower_stake(
     };
     let entry = accounts.entry_of(&c);
     let stake = entry.stake - lost;
-    accounts.enter(c, Entry { stake, ..entry })
+    accounts.enter(c, &entry, Entry { stake, ..entry })
 }
 
 impl StakeBook {
@@ -123,7 +134,16 @@ impl StakeBook {
         ensures value { result ≡ value_at credential_cmp (accounts_of self.now) c.now }
         ensures kept { AreKept self.now }
     {
-        self.accounts.entry_of(c).registered
+        self.entry(c).registered
+    }
+
+    // The entry of a credential; no stake and no registration where there is none.
+    fn entry(&self, c: &Credential) -> Entry
+        ensures value { result ≡ whole_entry self.now.accounts.live c.now }
+        ensures registered { result.registered ≡ value_at credential_cmp (accounts_of self.now) c.now }
+        ensures kept { AreKept self.now }
+    {
+        self.accounts.entry_of(c)
     }
 
     /// The reward balances, added up, in lovelace. (DState of the formal specification)
@@ -184,12 +204,31 @@ impl StakeBook {
         ensures frozen { frozen_of credential_cmp self.new.accounts ≡ frozen_of credential_cmp self.old.accounts }
         ensures err { OnErr result (self.new ≡ self.old) }
     {
-        let entry = self.accounts.entry_of(&c);
+        let entry = self.entry(&c);
+        self.register(c, &entry, to)
+    }
+
+    // Puts a registration, or none, in place of that of an entry, the one that is there.
+    fn register(
+        &mut self,
+        c: Credential,
+        entry: &Entry,
+        to: Option<Registered>,
+    ) -> Result<(), NoMemory>
+        requires entry { entry.now ≡ whole_entry self.old.accounts.live c }
+        requires room { lovelace_in self.old.outputs.outputs
+            + balances_in (with_option credential_cmp c to (accounts_of self.old)) ≤ SUPPLY_LIMIT }
+        ensures ok { OnOk result (self.new ≡ with_account c to self.old) }
+        ensures registered { OnOk result (accounts_of self.new ≡
+            with_option credential_cmp c to (accounts_of self.old)) }
+        ensures frozen { frozen_of credential_cmp self.new.accounts ≡ frozen_of credential_cmp self.old.accounts }
+        ensures err { OnErr result (self.new ≡ self.old) }
+    {
         let changed = Entry {
             registered: to,
-            ..entry
+            ..*entry
         };
-        self.accounts.enter(c, changed)?;
+        self.accounts.enter(c, entry, changed)?;
         Ok(())
     }
 
@@ -277,9 +316,9 @@ impl StakeBook {
         ensures frozen { OnOk result (frozen_of credential_cmp self.new.accounts ≡
             frozen_of credential_cmp self.old.accounts) }
     {
-        let entry = self.accounts.entry_of(&c);
+        let entry = self.entry(&c);
         if let Some(changed) = leaving.change(entry.registered) {
-            self.set_account(c, Some(changed))?;
+            self.register(c, &entry, Some(changed))?;
         }
         Ok(())
     }

@@ -21,11 +21,12 @@ impl StakeBook {
         ensures err { OnErr result (self.new ≡ self.old) }
         ensures kept { AreKept self.old }
     {
-        let Some(r) = self.account(c) else {
+        let entry = self.entry(c);
+        let Some(r) = entry.registered else {
             return Ok(false);
         };
         let rewards = r.rewards + amount;
-        self.set_account(*c, Some(Registered { rewards, ..r }))?;
+        self.register(*c, &entry, Some(Registered { rewards, ..r }))?;
         Ok(true)
     }
 }

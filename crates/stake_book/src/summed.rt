@@ -1,4 +1,4 @@
-ghost use Rattle.std.specs.Prelude.{◌≡◌, ◌+◌, ◌-◌, ◌≤◌, ◌^◌, ◌<◌, [], Some, IfOk, OnOk, OnErr};
+ghost use Rattle.std.specs.Prelude.{◌≡◌, ◌+◌, ◌-◌, ◌≤◌, ◌^◌, ◌<◌, ◌⊎◌, [], Some, IfOk, OnOk, OnErr};
 ghost use Rattle.gov_ids.specs.declared.PoolId.{PoolId};
 ghost use Rattle.gov_ids.specs.Orders.{credential_cmp};
 ghost use Rattle.tx_records.specs.declared.limits.TheConstants.{SUPPLY_LIMIT};
@@ -13,9 +13,10 @@ ghost use Rattle.stake_book.specs.Sums.{IsRaised, balance_of, pool_of, weight_of
 use crate::leaving::Leaving;
 use accounts::AccountBook;
 use book_records::{Entry, Registered};
-use coin_frac::{NoMemory, TotalMap};
+use coin_frac::NoMemory;
 use gov_ids::{Credential, PoolId};
 use std::alloc::Global;
+use std::collections::BTreeMap;
 use std::marker::Model;
 
 /// The accounts, with the sums over them. Contracts see it as the accounts. (Own)
@@ -23,7 +24,7 @@ use std::marker::Model;
 pub struct SummedAccounts {
     accounts: AccountBook,
     balances: u64,
-    pools: TotalMap<PoolId>,
+    pools: BTreeMap<PoolId, u64>,
 }
 
 impl Model for SummedAccounts {
@@ -34,7 +35,7 @@ impl Model for SummedAccounts {
 
     ghost view = { λ a. a.accounts };
 
-    ghost invariant = { λ a. AreSummed a.balances a.pools a.accounts.live };
+    ghost invariant = { λ a. AreSummed a.balances a.pools.entries a.accounts.live };
 }
 
 // The balance of an entry, in lovelace; 0 where it is not registered.
@@ -51,39 +52,55 @@ fn pool(e: &Entry) -> Option<PoolId>
     e.registered?.pool
 }
 
-// Adds to the stake of a pool; nothing changes where there is no pool.
+// Adds to the stake of a pool, in one search; nothing changes where there is no pool, and nothing is looked up for an amount of 0.
 fn raise_pool(
-    pools: &mut TotalMap<PoolId>,
+    pools: &mut BTreeMap<PoolId, u64>,
     pool: Option<PoolId>,
     gained: u64,
 ) -> Result<(), NoMemory>
-    requires fits { total_of pools.old + gained < 2 ^ 64 }
-    ensures ok { OnOk result (IsRaised pool gained pools.old pools.new) }
-    ensures err { OnErr result (pools.new ≡ pools.old) }
+    requires fits { total_of pools.old.entries + gained < 2 ^ 64 }
+    ensures ok { OnOk result (IsRaised pool gained pools.old.entries pools.new.entries) }
+    ensures err { OnErr result (pools.new.entries ≡ pools.old.entries) }
 {
+    if gained == 0 {
+        return Ok(());
+    }
     let Some(p) = pool else {
         return Ok(());
     };
-    let stake = pools.get(&p) + gained;
-    pools.put(p, stake)?;
+    let stake = pools.entry(p)?.or_insert(0);
+    *stake += gained;
     Ok(())
 }
 
-// Takes from the stake of a pool; nothing changes where there is no pool. It takes no memory.
-fn lower_pool(pools: &mut TotalMap<PoolId>, pool: Option<PoolId>, lost: u64)
-    requires enough { (p : PoolId) → pool ≡ Some p → lost ≤ stake_in pools.old p }
-    requires fits { total_of pools.old < 2 ^ 64 }
-    ensures { IsRaised pool lost pools.new pools.old }
+// Takes from the stake of a pool, which goes with its last stake; nothing changes where there is no pool, and nothing is looked up for an amount of 0. It takes no memory.
+fn lower_pool(pools: &mut BTreeMap<PoolId, u64>, pool: Option<PoolId>, lost: u64)
+    requires enough { (p : PoolId) → pool ≡ Some p → lost ≤ stake_in pools.old.entries p }
+    ensures { IsRaised pool lost pools.new.entries pools.old.entries }
 {
+    if lost == 0 {
+        return;
+    }
     let Some(p) = pool else {
         return;
     };
-    let stake = pools.get(&p) - lost;
-    if stake == 0 {
-        pools.take(&p);
-    } else {
-        pools.set(&p, stake);
+    let Some(stake) = pools.get_mut(&p) else {
+        return;
+    };
+    let left = *stake - lost;
+    *stake = left;
+    if left == 0 {
+        pools.remove(&p);
     }
+}
+
+// How much of what an entry gave to a pool stays there with the one in its place; 0 where the pool changes.
+fn left_there(from: Option<PoolId>, lost: u64, to: Option<PoolId>, gained: u64) -> u64
+    ensures of_lost { result ≤ lost }
+    ensures of_gained { result ≤ gained }
+    ensures pool { (result ≡ 0) ⊎ (from ≡ to) }
+{
+    if from == to { lost.min(gained) } else { 0 }
 }
 
 impl SummedAccounts {
@@ -94,7 +111,7 @@ impl SummedAccounts {
         SummedAccounts {
             accounts: AccountBook::new(alloc),
             balances: 0,
-            pools: TotalMap::new(alloc),
+            pools: BTreeMap::new(alloc),
         }
     }
 
@@ -143,27 +160,34 @@ impl SummedAccounts {
         ensures value { result ≡ sum_values (share_of p.now) self.now.live }
         ensures in_order { IsMap credential_cmp self.now.live }
     {
-        self.pools.get(p)
+        self.pools.get(p).copied().unwrap_or(0)
     }
 
-    /// Puts an entry in place of what was there; one without stake and registration takes it away. Want of memory changes nothing. (Own)
-    pub fn enter(&mut self, c: Credential, e: Entry) -> Result<(), NoMemory>
+    /// Puts an entry in place of `before`, the one that is there; one without stake and registration takes it away. Want of memory changes nothing. (Own)
+    pub fn enter(&mut self, c: Credential, before: &Entry, e: Entry) -> Result<(), NoMemory>
+        requires before { before.now ≡ whole_entry self.old.live c }
         requires within { weight_in (with_entry c e self.old.live) ≤ SUPPLY_LIMIT }
         ensures ok { OnOk result (self.new ≡ entered c e self.old) }
         ensures frozen { frozen_of credential_cmp self.new ≡ frozen_of credential_cmp self.old }
         ensures err { OnErr result (self.new ≡ self.old) }
     {
-        let before = self.entry_of(&c);
+        let held = self.balances;
+        let ended = balance(before);
+        let begun = balance(&e);
+        let lost = before.stake + ended;
+        let gained = e.stake + begun;
+        let from = pool(before);
         let to = pool(&e);
-        let gained = e.stake + balance(&e);
-        raise_pool(&mut self.pools, to, gained)?;
+        let left = left_there(from, lost, to, gained);
+        let more = gained - left;
+        let less = lost - left;
+        raise_pool(&mut self.pools, to, more)?;
         if let Err(error) = self.accounts.put(c, e) {
-            lower_pool(&mut self.pools, to, gained);
+            lower_pool(&mut self.pools, to, more);
             return Err(error);
         }
-        let lost = before.stake + balance(&before);
-        lower_pool(&mut self.pools, pool(&before), lost);
-        self.balances = self.balances - balance(&before) + balance(&e);
+        lower_pool(&mut self.pools, from, less);
+        self.balances = held - ended + begun;
         Ok(())
     }
 

@@ -1,5 +1,5 @@
 -- The frozen list at each key, and that it stays.
-use Rattle.std.proofs.Common.{◌≡◌, List, [], ◌∷◌, Bool, true, false, cond, not, is_some, fold, Option, Some, None, option_map, unwrap_or, refl, ap, sym, ◌∙◌}
+use Rattle.std.proofs.Common.{◌≡◌, List, [], ◌∷◌, Bool, true, false, cond, is_some, fold, Option, Some, None, option_map, unwrap_or, refl, ap, sym, ◌∙◌}
 use Rattle.std.specs.declared.cmp.Ordering.{Ordering}
 use Rattle.std.specs.Ordering.{eq_by_cmp}
 use Rattle.std.specs.Cmp.{IsTotalOrder}
@@ -10,7 +10,7 @@ use Rattle.maps.proofs.Kept.{IsMap-with_value, IsMap-without_key}
 use Rattle.maps.proofs.Ties.{is_equal, all_tied}
 use Rattle.maps.specs.Maps.{IsMap, value_at, has_key, with_value, without_key}
 use Rattle.view_map.specs.View.{View, IsInOrder, laid_over, frozen_of, key_in, saved_with}
-use Rattle.view_map.proofs.Entries.{entry_at, none_below, value_of-entry, entry_is, some_entry, no_entry, entry_at-tied, key_in-tied, entry_at-with_value_absent, entry_at-with_value_other, entry_at-without_key, without_key-with_value, map_from_entry_at}
+use Rattle.view_map.proofs.Entries.{entry_at, none_below, value_of-entry, entry_is, some_entry, no_entry, entry_at-tied, key_in-tied, entry_at-with_value_absent, entry_at-with_value_other, entry_at-without_key, map_from_entry_at}
 
 -- what a saved pair, where there is one, makes of an entry
 abbrev pub laid : {K V : Type 0} → Option (K × Option V) → Option (K × V) → Option (K × V)
@@ -76,7 +76,7 @@ module _ {K V : Type 0} {cmp : K → K → Ordering} (o : IsTotalOrder cmp) wher
       ∙ ap (λ (r : Option (K × V)). option_map (λ (e : K × V). e.1) r) (frozen_at m k h ∙ ap (λ (s : Option (K × Option V)). laid s (entry_at cmp m.live k)) (entry_is cmp m.saved k))
       ∙ shown (key_in cmp m.saved k) (value_at cmp m.saved k) (entry_at cmp m.live k) (value_at cmp m.live k) (value_of-entry cmp m.live k)
 
-  IsMap-saved_with : (k : K) (m : View K V) → IsInOrder cmp m → IsMap cmp (saved_with cmp k m)
+  pub IsMap-saved_with : (k : K) (m : View K V) → IsInOrder cmp m → IsMap cmp (saved_with cmp k m)
   IsMap-saved_with k m h =
       elim (has_key cmp m.saved k) as (λ b. IsMap cmp (cond b m.saved (with_value cmp (key_in cmp m.live k) (value_at cmp m.live k) m.saved))) [
         | true ↦ h.saved
@@ -132,22 +132,3 @@ module _ {K V : Type 0} {cmp : K → K → Ordering} (o : IsTotalOrder cmp) wher
       ∙ ap (λ (saved : List (K × Option V)). frozen_of cmp (record { live = without_key cmp k m.live; saved = saved })) s
       ∙ frozen_kept k m (without_key cmp k m.live) h (IsMap-without_key cmp k m.live h.live)
       (λ q e. entry_at-without_key o k m.live q h.live ∙ ap (λ b. cond b None (entry_at cmp m.live q)) e)
-
-  -- what was saved for a first change is taken away again
-  unsaved : (k : K) (m : View K V) → cond (not (has_key cmp m.saved k)) (without_key cmp k (saved_with cmp k m)) (saved_with cmp k m) ≡ m.saved
-  unsaved k m =
-      let j = key_in cmp m.live k in
-      let v = value_at cmp m.live k in
-      elim (has_key cmp m.saved k) as (λ b. has_key cmp m.saved k ≡ b → cond (not b) (without_key cmp k (cond b m.saved (with_value cmp j v m.saved))) (cond b m.saved (with_value cmp j v m.saved)) ≡ m.saved) [
-        | true ↦ λ there. refl
-        | false ↦ λ absent. without_key-with_value o k j v m.saved (key_in-tied o m.live k) (no_entry cmp m.saved k absent)
-      ] refl
-
-  pub undone : (k : K) (m : View K V) (es : List (K × V)) (saved : List (K × Option V)) (first : Bool) → es ≡ m.live → saved ≡ saved_with cmp k m → first ≡ not (has_key cmp m.saved k)
-      → record { live = es; saved = cond first (without_key cmp k saved) saved } ≡ m
-  undone k m es saved first l s f =
-      let is : cond first (without_key cmp k saved) saved ≡ m.saved =
-      ap (λ b. cond b (without_key cmp k saved) saved) f
-      ∙ ap (λ (saved : List (K × Option V)). cond (not (has_key cmp m.saved k)) (without_key cmp k saved) saved) s
-      ∙ unsaved k m in
-      λ i. record { live = l i; saved = is i }

@@ -1,4 +1,5 @@
 pub mod Entries
+mod Changed
 mod Frozen
 mod Lengths
 mod Walk

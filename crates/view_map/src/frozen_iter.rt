@@ -1,6 +1,6 @@
 ghost use Rattle.std.specs.Prelude.{◌≡◌, length};
 ghost use Rattle.std.specs.Iterator.{at_most};
-ghost use Rattle.std.specs.Map.Iter.{TakesFirst};
+ghost use Rattle.std.specs.Map.Iter.{TakesFirst, deref_pair};
 ghost use Rattle.view_map.specs.Walk.{merged};
 
 use crate::peeked::Peeked;
@@ -34,6 +34,33 @@ impl<'a, K: Ord, V> FrozenIter<'a, K, V> {
             saved: Peeked::new(saved),
         }
     }
+
+    /// Takes the next entry and shows it where it lies, none at the end. It copies nothing. (Own)
+    #[inline]
+    pub fn next_entry(&mut self) -> Option<(&'a K, &'a V)>
+        ensures { TakesFirst deref_pair self.old result self.new }
+    {
+        match self.saved.peek() {
+            Some(_) => self.next_merged(),
+            None => self.live.next(),
+        }
+    }
+
+    // The same, beside what is saved.
+    fn next_merged(&mut self) -> Option<(&'a K, &'a V)>
+        ensures { TakesFirst deref_pair self.old result self.new }
+    {
+        while let Some((key, first)) = self.saved.peek() {
+            if let Some(entry) = self.live.next_before(key) {
+                return Some(entry);
+            }
+            self.saved.next();
+            if let Some(v) = first {
+                return Some((key, v));
+            }
+        }
+        self.live.next()
+    }
 }
 
 impl<'a, K: Copy + Ord, V: Copy> Iterator for FrozenIter<'a, K, V> {
@@ -44,16 +71,7 @@ impl<'a, K: Copy + Ord, V: Copy> Iterator for FrozenIter<'a, K, V> {
     ghost remaining = { λ s. at_most (length s) };
 
     fn next(&mut self) -> Option<(K, V)> {
-        while let Some((key, first)) = self.saved.peek() {
-            if let Some((k, v)) = self.live.next_before(key) {
-                return Some((*k, *v));
-            }
-            self.saved.next();
-            if let Some(v) = first {
-                return Some((*key, *v));
-            }
-        }
-        let (k, v) = self.live.next()?;
+        let (k, v) = self.next_entry()?;
         Some((*k, *v))
     }
 }

@@ -1,9 +1,11 @@
 //! A map with the list that it was at its last freeze, kept by the first values of what has changed since.
 #![tactic(auto)]
 
-ghost use Rattle.std.specs.Prelude.{◌≡◌, [], OnOk, OnErr, IfOk, length, option_map, not, if◌then◌else◌};
+ghost use Rattle.std.specs.Prelude.{◌≡◌, true, [], MatchOption, OnOk, OnErr, IfOk, length, option_map, if◌then◌else◌};
+ghost use Rattle.std.specs.BTreeMap.{is_at};
+ghost use Rattle.std.specs.Map.{set_value};
 ghost use Rattle.maps.specs.Maps.{IsMap, value_at, has_key, with_value, without_key, entry_after};
-ghost use Rattle.view_map.specs.View.{IsInOrder, frozen_of, saved_with, saved_without};
+ghost use Rattle.view_map.specs.View.{IsInOrder, frozen_of, key_in, saved_with, saved_without};
 ghost use Rattle.view_map.specs.Walk.{entries_past};
 
 mod frozen_iter;
@@ -14,6 +16,7 @@ pub use frozen_iter::FrozenIter;
 use maps::keys_past;
 use std::alloc::Global;
 use std::collections::BTreeMap;
+use std::collections::btree_map::Entry;
 use std::marker::Model;
 
 /// A live list, and a frozen one that no change of the live one alters. Contracts see both fields as lists in the order of keys. (Own)
@@ -33,6 +36,61 @@ impl<K: Ord, V> Model for ViewMap<K, V> {
     ghost view = { λ a. record { live = a.live.entries; saved = a.saved.entries } };
 
     ghost invariant = { λ a. IsInOrder K.cmp (record { live = a.live.entries; saved = a.saved.entries }) };
+}
+
+// Puts a value at a key, in one search, and gives the key as it stands in the list with the value that was there.
+fn replace<K: Copy + Ord, V: Copy>(
+    live: &mut BTreeMap<K, V>,
+    k: K,
+    v: V,
+) -> Result<(K, Option<V>), NoMemory>
+    ensures live { OnOk result (live.new.entries ≡ with_value K.cmp k v live.old.entries) }
+    ensures key { IfOk result (λ r. r.0 ≡ key_in K.cmp live.old.entries k) }
+    ensures before { IfOk result (λ r. r.1 ≡ value_at K.cmp live.old.entries k) }
+    ensures err { OnErr result (live.new.entries ≡ live.old.entries) }
+{
+    match live.entry(k)? {
+        Entry::Occupied(entry) => {
+            let key = *entry.key();
+            let value = entry.into_mut();
+            let before = *value;
+            *value = v;
+            Ok((key, Some(before)))
+        }
+        Entry::Vacant(entry) => {
+            entry.insert(v);
+            Ok((k, None))
+        }
+    }
+}
+
+// Puts back what was at a key, in place of the value that is there. It takes no memory.
+fn put_back<K: Copy + Ord, V: Copy>(live: &mut BTreeMap<K, V>, k: &K, before: Option<V>)
+    requires present { has_key K.cmp live.old.entries k.now ≡ true }
+    ensures { MatchOption before (live.new.entries ≡ without_key K.cmp k.now live.old.entries)
+        (λ v. live.new.entries ≡ set_value (is_at (K.cmp k.now)) live.old.entries v) }
+{
+    let Some(v) = before else {
+        live.remove(k);
+        return;
+    };
+    if let Some(value) = live.get_mut(k) {
+        *value = v;
+    }
+}
+
+// Saves what was at a key before its first change, in one search; what is saved there already stays.
+fn save<K: Copy + Ord, V: Copy>(
+    saved: &mut BTreeMap<K, Option<V>>,
+    k: K,
+    before: Option<V>,
+) -> Result<(), NoMemory>
+    ensures ok { OnOk result (saved.new.entries ≡
+        (if has_key K.cmp saved.old.entries k then saved.old.entries else with_value K.cmp k before saved.old.entries)) }
+    ensures err { OnErr result (saved.new.entries ≡ saved.old.entries) }
+{
+    saved.entry(k)?.or_insert(before);
+    Ok(())
 }
 
 impl<K: Copy + Ord, V: Copy> ViewMap<K, V> {
@@ -74,35 +132,6 @@ impl<K: Copy + Ord, V: Copy> ViewMap<K, V> {
         }
     }
 
-    // Saves what is live at a key before its first change. Whether it is the first.
-    fn save(&mut self, k: &K) -> Result<bool, NoMemory>
-        ensures first { IfOk result (λ first. first ≡ not (has_key K.cmp self.old.saved k.now)) }
-        ensures saved { OnOk result (self.new ≡ record self.old { saved = saved_with K.cmp k.now self.old }) }
-        ensures in_order { OnOk result (IsInOrder K.cmp self.old) }
-        ensures err { OnErr result (self.new ≡ self.old) }
-    {
-        if self.saved.contains_key(k) {
-            return Ok(false);
-        }
-        let (key, first) = match self.live.get_key_value(k) {
-            Some((key, v)) => (*key, Some(*v)),
-            None => (*k, None),
-        };
-        self.saved.insert(key, first)?;
-        Ok(true)
-    }
-
-    // Takes away what was saved for a first change that did not come to be.
-    fn undo_save(&mut self, k: &K, first: bool)
-        ensures { self.new ≡ record self.old {
-          saved = if first then without_key K.cmp k.now self.old.saved else self.old.saved;
-        } }
-    {
-        if first {
-            self.saved.remove(k);
-        }
-    }
-
     /// Puts a live value at a key, in place of what was there. Want of memory changes nothing. (Own)
     pub fn put(&mut self, k: K, v: V) -> Result<(), NoMemory>
         ensures live { OnOk result (self.new.live ≡ with_value K.cmp k v self.old.live) }
@@ -110,14 +139,12 @@ impl<K: Copy + Ord, V: Copy> ViewMap<K, V> {
         ensures frozen { frozen_of K.cmp self.new ≡ frozen_of K.cmp self.old }
         ensures err { OnErr result (self.new ≡ self.old) }
     {
-        let first = self.save(&k)?;
-        match self.live.insert(k, v) {
-            Ok(_) => Ok(()),
-            Err(error) => {
-                self.undo_save(&k, first);
-                Err(NoMemory::from(error))
-            }
+        let (key, before) = replace(&mut self.live, k, v)?;
+        if let Err(error) = save(&mut self.saved, key, before) {
+            put_back(&mut self.live, &k, before);
+            return Err(error);
         }
+        Ok(())
     }
 
     /// Takes the live entry at a key away and gives its value. None where there is none, which changes nothing; want of memory changes nothing either. (Own)
@@ -128,10 +155,10 @@ impl<K: Copy + Ord, V: Copy> ViewMap<K, V> {
         ensures frozen { frozen_of K.cmp self.new ≡ frozen_of K.cmp self.old }
         ensures err { OnErr result (self.new ≡ self.old) }
     {
-        if !self.live.contains_key(k) {
+        let Some((key, v)) = self.live.get_key_value(k) else {
             return Ok(None);
-        }
-        self.save(k)?;
+        };
+        save(&mut self.saved, *key, Some(*v))?;
         Ok(self.live.remove(k))
     }
 

@@ -34,6 +34,7 @@ impl<'a, K, V> Peeked<'a, K, V> {
     }
 
     // The first entry, none at the end.
+    #[inline]
     pub(crate) fn peek(&self) -> Option<(&'a K, &'a V)>
         ensures { TakesFirst deref_pair self.now result (drop 1 self.now) }
     {
@@ -41,6 +42,7 @@ impl<'a, K, V> Peeked<'a, K, V> {
     }
 
     // Takes the first entry, none at the end.
+    #[inline]
     pub(crate) fn next(&mut self) -> Option<(&'a K, &'a V)>
         ensures { TakesFirst deref_pair self.old result self.new }
     {

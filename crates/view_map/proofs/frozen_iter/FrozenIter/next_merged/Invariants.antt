@@ -1,6 +1,6 @@
 use Rattle.std.proofs.Common.{◌≡◌, length}
 use Rattle.view_map.specs.Walk.{merged}
-use Rattle.view_map.proofs.frozen_iter.FrozenIterIterator.next.Given as goal
+use Rattle.view_map.proofs.frozen_iter.FrozenIter.next_merged.Given as goal
 
 -- what is left is what was
 abbrev pub invariant-loop-key : goal.invariant-loop-key
