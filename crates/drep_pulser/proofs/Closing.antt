@@ -2,7 +2,7 @@
 use Rattle.std.proofs.Common.{◌≡◌, ℕ, ◌+◌, ◌^◌, ◌<◌, ◌≤◌, List, ◌∷◌, Bool, true, false, cond, drop, filter, length, take, Option, Some, slice_index_or, sum_by, ap, sym, ◌∙◌, add-one, arith}
 use Rattle.std.specs.List.{zip}
 use Rattle.std.specs.Map.{keys_of}
-use Rattle.std.proofs.lemmas.List.{length-map, drop_all, take-append-drop}
+use Rattle.std.proofs.lemmas.List.{length-map, drop_all, take-append-drop, take_all}
 use Rattle.std.proofs.lemmas.List.Elements.{filter-append}
 use Rattle.std.proofs.lemmas.List.Sums.{sum_by-cons, sum_by-append}
 use Rattle.std.proofs.lemmas.Option.{slice_get-get_or}
@@ -80,6 +80,18 @@ all_counted f c parts r h s total sums = record {
       ∙ s.sums d
       ∙ (λ i. cond (h.dreps d i) (sum_by (λ e. same_weight f c h e i) (filter (votes_by d) f.entries)) 0);
 }
+
+-- a count that has visited all entries
+pub all_visited : (f : Snapshot) (c : Count) (r : Ended) → IsCountOf f c → c.done ≡ c.total → r.total ≡ c.total → r.sums ≡ c.sums → IsCountedOf f r
+all_visited f c r h done total sums =
+    let all : take c.done f.entries ≡ f.entries = take_all c.done f.entries (omega (arith, done, h.counts.total)) in
+    record {
+      total = total ∙ h.counts.total;
+      sums = λ d.
+          ap (λ (s : List (Drep × ℕ)). sum_for s d) sums
+          ∙ h.counts.sums d
+          ∙ (λ i. cond (h.dreps d i) (sum_by (λ e. same_weight f c h e i) (filter (votes_by d) (all i))) 0);
+    }
 
 both : (b : Bool) (s t front left all : ℕ) → s ≡ cond b front 0 → t ≡ cond b left 0 → all ≡ front + left → s + t ≡ cond b all 0
 both true s t front left all p q r = omega arith

@@ -9,6 +9,7 @@ use std::alloc::Global;
 mod bounds;
 mod counted;
 mod counting;
+mod hints;
 mod part;
 mod sums;
 mod walk;

@@ -7,16 +7,18 @@ ghost use Rattle.drep_pulser.specs.Count.{sum_for, no_sums};
 ghost use Rattle.drep_pulser.specs.Parts.{by_drep, no_part, with_part};
 ghost use Rattle.drep_pulser.specs.Places.{IsPlaceOf};
 
+use crate::hints::Hints;
 use coin_frac::NoMemory;
 use drep_book::DrepBook;
 use gov_ids::{Credential, Drep};
 use std::alloc::Global;
 use std::marker::Model;
 
-// The sum of each DRep, in lovelace, in the order of DReps: one is found by halves.
+// The sum of each DRep, in lovelace, in the order of DReps: one is found where a hint says, or by halves.
 #[derive(Debug, Drop)]
 pub(crate) struct Sums {
     amounts: Vec<(Drep, u64)>,
+    hints: Hints,
 }
 
 impl Model for Sums {
@@ -41,7 +43,8 @@ impl Sums {
         let mut amounts = zeros(alloc, listed.as_slice())?;
         amounts.push((Drep::Abstain, 0))?;
         amounts.push((Drep::NoConfidence, 0))?;
-        Ok(Sums { amounts })
+        let hints = Hints::of(alloc, amounts.as_slice())?;
+        Ok(Sums { amounts, hints })
     }
 
     // The same sums once more.
@@ -50,6 +53,7 @@ impl Sums {
     {
         Ok(Sums {
             amounts: self.amounts.iter().copied().collect(alloc)?,
+            hints: self.hints.copied(alloc)?,
         })
     }
 
@@ -66,14 +70,18 @@ impl Sums {
         ensures absent { IfNone result (value_at drep_cmp self.now d.now ≡ None) }
         ensures in_order { IsMap drep_cmp self.now }
     {
-        place_of(self.amounts.as_slice(), d)
+        let amounts = self.amounts.as_slice();
+        match self.hints.place(amounts, d) {
+            Some(place) => Some(place),
+            None => place_of(amounts, d),
+        }
     }
 
     // The sum of a DRep, 0 where there is none.
     pub(crate) fn get(&self, d: &Drep) -> u64
         ensures { result ≡ sum_for self.now d.now }
     {
-        match place_of(self.amounts.as_slice(), d) {
+        match self.place(d) {
             Some(place) => self.amounts[place].1,
             None => 0,
         }
@@ -84,7 +92,7 @@ impl Sums {
         requires { sum_for self.old d.now + n < 2 ^ 64 }
         ensures { self.new ≡ changed_at drep_cmp d.now (λ s. s + n) self.old }
     {
-        if let Some(place) = place_of(self.amounts.as_slice(), d) {
+        if let Some(place) = self.place(d) {
             self.amounts[place].1 += n;
         }
     }
@@ -119,5 +127,5 @@ fn place_of(amounts: &[(Drep, u64)], d: &Drep) -> Option<usize>
     ensures there { IfSome result (IsPlaceOf amounts.now d.now) }
     ensures absent { IfNone result (value_at drep_cmp amounts.now d.now ≡ None) }
 {
-    amounts.binary_search_by_key(d, |amount| amount.0).ok()
+    amounts.binary_search_by(|amount| amount.0.cmp(d)).ok()
 }

@@ -1,4 +1,4 @@
-ghost use Rattle.std.specs.Prelude.{◌≡◌, ◌+◌, ◌-◌, ◌^◌, ◌<◌, ◌≤◌, All, IfOk, length, List, Some, min, option_map};
+ghost use Rattle.std.specs.Prelude.{◌≡◌, ◌+◌, ◌-◌, ◌^◌, ◌<◌, ◌≤◌, All, IfOk, length, List, Some, min, option_map, ℕ};
 ghost use Rattle.book_records.specs.declared.Entry.{Entry};
 ghost use Rattle.gov_ids.specs.declared.Credential.{Credential};
 ghost use Rattle.gov_ids.specs.declared.Drep.{Drep};
@@ -118,11 +118,11 @@ impl Walk {
     {
         let from = later(self.cursor, after);
         let mut entries = book.frozen_past(from.as_ref());
-        while let Some((c, entry)) = entries.next() {
-            if is_beyond(until, &c) {
+        while let Some((c, entry)) = entries.next_entry() {
+            if is_beyond(until, c) {
                 return;
             }
-            self.weigh(&c, &entry, part);
+            self.weigh(c, entry, part);
         }
     }
 
@@ -176,23 +176,23 @@ impl Walk {
     {
         let mut entries = book.frozen_past(self.cursor.as_ref());
         for _visit in 0..most {
-            let Some((c, entry)) = entries.next() else {
+            let Some((c, entry)) = entries.next_entry() else {
                 return;
             };
-            self.visit(c, &entry);
+            self.visit(c, entry);
             steps.tick();
         }
     }
 
     // Visits an entry.
-    fn visit(&mut self, c: Credential, entry: &Entry)
-        requires { IsNextIn (c, entry.now) self.old }
-        ensures { self.new ≡ visited (c, entry.now) self.old }
+    fn visit(&mut self, c: &Credential, entry: &Entry)
+        requires { IsNextIn (c.now, entry.now) self.old }
+        ensures { self.new ≡ visited (c.now, entry.now) self.old }
     {
-        self.cursor = Some(c);
+        self.cursor = Some(*c);
         self.done += 1;
-        if let Some((drep, weight)) = weighed(&self.deposits, &c, entry) {
-            self.sums.add(&drep, weight);
+        if let Some((drep, weight)) = weighed(&self.deposits, c, entry) {
+            self.sums.add(drep, weight);
         }
     }
 
@@ -207,7 +207,7 @@ impl Walk {
             with_more (drep_of entry.now) (weight_by self.now.deposits (c.now, entry.now)) (by_drep self.now.sums part.old) }
     {
         if let Some((drep, weight)) = weighed(&self.deposits, c, entry) {
-            part.add(&self.sums, &drep, weight);
+            part.add(&self.sums, drep, weight);
         }
     }
 
@@ -222,12 +222,17 @@ impl Walk {
 }
 
 // The DRep that an entry delegates to, and what the entry weighs with the deposits that go back to its account.
-fn weighed(deposits: &TotalMap<Credential>, c: &Credential, entry: &Entry) -> Option<(Drep, u64)>
+fn weighed<'a>(
+    deposits: &TotalMap<Credential>,
+    c: &Credential,
+    entry: &'a Entry,
+) -> Option<(&'a Drep, u64)>
     requires { weight_by deposits.now (c.now, entry.now) < 2 ^ 64 }
-    ensures { result ≡ option_map (λ d. (d, weight_by deposits.now (c.now, entry.now))) (drep_of entry.now) }
+    ensures { option_map {U = Drep × ℕ} (λ w. (w.0.now, w.1)) result
+        ≡ option_map (λ d. (d, weight_by deposits.now (c.now, entry.now))) (drep_of entry.now) }
 {
-    let registered = entry.registered?;
-    let drep = registered.drep?;
+    let registered = entry.registered.as_ref()?;
+    let drep = registered.drep.as_ref()?;
     let weight = entry.stake + registered.rewards + deposits.get(c);
     Some((drep, weight))
 }

@@ -15,13 +15,13 @@ pub overflow_add-weight-2 : goal.overflow_add-weight-2
 overflow_add-weight-2 c =
     let e : Credential × Entry = (c.args.c.now, c.args.entry.now) in
     let deposits = c.args.deposits.now in
-    let weighs = weight_is e c.in_ok-registered.registered deposits c.get.result c.in_ok-registered.was (c.get.ensures.value ∙ (λ i. unwrap_or (value_at (credential_is i) deposits c.args.c.now) 0)) in
+    let weighs = weight_is e c.in_ok-registered.registered.now deposits c.get.result (sym c.in_ok-registered.ensures.value) (c.get.ensures.value ∙ (λ i. unwrap_or (value_at (credential_is i) deposits c.args.c.now) 0)) in
     omega (arith, weighs, c.requires)
 
 pub returns : goal.returns
 returns c =
     let e : Credential × Entry = (c.args.c.now, c.args.entry.now) in
     let deposits = c.args.deposits.now in
-    let weighs = weight_is e c.in_ok-registered.registered deposits c.get.result c.in_ok-registered.was (c.get.ensures.value ∙ (λ i. unwrap_or (value_at (credential_is i) deposits c.args.c.now) 0)) in
-    let votes : drep_of c.args.entry.now ≡ Some c.in_ok-drep.drep = ap (λ (x : Option Registered). option_and_then (λ (r : Registered). r.drep) x) c.in_ok-registered.was ∙ c.in_ok-drep.was in
-    (λ i. Some (c.in_ok-drep.drep, weighs i)) ∙ ap (λ (x : Option Drep). option_map (λ d. (d, weight_by deposits e)) x) (sym votes)
+    let weighs = weight_is e c.in_ok-registered.registered.now deposits c.get.result (sym c.in_ok-registered.ensures.value) (c.get.ensures.value ∙ (λ i. unwrap_or (value_at (credential_is i) deposits c.args.c.now) 0)) in
+    let votes : drep_of c.args.entry.now ≡ Some c.in_ok-drep.drep.now = ap (λ (x : Option Registered). option_and_then (λ (r : Registered). r.drep) x) (sym c.in_ok-registered.ensures.value) ∙ sym c.in_ok-drep.ensures.value in
+    (λ i. Some (c.in_ok-drep.drep.now, weighs i)) ∙ ap (λ (x : Option Drep). option_map (λ d. (d, weight_by deposits e)) x) (sym votes)

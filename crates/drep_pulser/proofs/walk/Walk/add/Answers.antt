@@ -25,11 +25,11 @@ returns-then-is_beyond-clause-sums c =
     let es = frozen_of credential_cmp c.args.book.now in
     let k : Count = c.args.self.now in
     let all = c.frozen_past-entries.result in
-    let e : Credential × Entry = (c.in-Some.c, c.in-Some.entry) in
-    let on = subst (λ (left : List (Credential × Entry)). IsOnTheWay k.sums k.deposits until es all left c.loop-c.part) c.in-Some.ensures.steps c.loop-c.invariant in
+    let e : Credential × Entry = (c.in-Some.c.now, c.in-Some.entry.now) in
+    let on = subst (λ (left : List (Credential × Entry)). IsOnTheWay k.sums k.deposits until es all left c.loop-c.part) c.in-Some.ensures c.loop-c.invariant in
     let beyond : is_beyond until e.0 ≡ true = sym c.is_beyond.ensures ∙ c.if-is_beyond.true in
     let range = walked c.self.inside.cursor after until c.later-from.result k c.as_ref.result es all (ap (λ (k : Count). k.cursor) c.self.view_is) c.as_ref.ensures.value c.frozen_past-entries.ensures c.later-from.ensures in
-    arrives k.sums k.deposits until es all (e ∷ c.next.new.self) (entries_between after until (entries_left k es)) c.loop-c.part on (stops k.sums k.deposits until es all e c.next.new.self c.loop-c.part on beyond) range
+    arrives k.sums k.deposits until es all (e ∷ c.next_entry.new.self) (entries_between after until (entries_left k es)) c.loop-c.part on (stops k.sums k.deposits until es all e c.next_entry.new.self c.loop-c.part on beyond) range
 
 pub weigh-requires-clause-weight : goal.weigh-requires-clause-weight
 weigh-requires-clause-weight c =
@@ -37,10 +37,10 @@ weigh-requires-clause-weight c =
     let es = frozen_of credential_cmp c.args.book.now in
     let k : Count = c.args.self.now in
     let all = c.frozen_past-entries.result in
-    let e : Credential × Entry = (c.in-Some.c, c.in-Some.entry) in
-    let on = subst (λ (left : List (Credential × Entry)). IsOnTheWay k.sums k.deposits until es all left c.loop-c.part) c.in-Some.ensures.steps c.loop-c.invariant in
+    let e : Credential × Entry = (c.in-Some.c.now, c.in-Some.entry.now) in
+    let on = subst (λ (left : List (Credential × Entry)). IsOnTheWay k.sums k.deposits until es all left c.loop-c.part) c.in-Some.ensures c.loop-c.invariant in
     let near : is_beyond until e.0 ≡ false = sym c.is_beyond.ensures ∙ c.if-is_beyond.false in
-    weight_has_room k.sums k.deposits until es all e c.next.new.self c.loop-c.part on near c.requires.counts.countable
+    weight_has_room k.sums k.deposits until es all e c.next_entry.new.self c.loop-c.part on near c.requires.counts.countable
 
 pub weigh-requires-clause-fits : goal.weigh-requires-clause-fits
 weigh-requires-clause-fits c =
@@ -48,10 +48,10 @@ weigh-requires-clause-fits c =
     let es = frozen_of credential_cmp c.args.book.now in
     let k : Count = c.args.self.now in
     let all = c.frozen_past-entries.result in
-    let e : Credential × Entry = (c.in-Some.c, c.in-Some.entry) in
-    let on = subst (λ (left : List (Credential × Entry)). IsOnTheWay k.sums k.deposits until es all left c.loop-c.part) c.in-Some.ensures.steps c.loop-c.invariant in
+    let e : Credential × Entry = (c.in-Some.c.now, c.in-Some.entry.now) in
+    let on = subst (λ (left : List (Credential × Entry)). IsOnTheWay k.sums k.deposits until es all left c.loop-c.part) c.in-Some.ensures c.loop-c.invariant in
     let near : is_beyond until e.0 ≡ false = sym c.is_beyond.ensures ∙ c.if-is_beyond.false in
-    sum_has_room k.sums k.deposits until es all e c.next.new.self c.loop-c.part on near c.requires.counts.countable
+    sum_has_room k.sums k.deposits until es all e c.next_entry.new.self c.loop-c.part on near c.requires.counts.countable
 
 pub loop-c-preserved : goal.loop-c-preserved
 loop-c-preserved c =
@@ -59,10 +59,10 @@ loop-c-preserved c =
     let es = frozen_of credential_cmp c.args.book.now in
     let k : Count = c.args.self.now in
     let all = c.frozen_past-entries.result in
-    let e : Credential × Entry = (c.in-Some.c, c.in-Some.entry) in
-    let on = subst (λ (left : List (Credential × Entry)). IsOnTheWay k.sums k.deposits until es all left c.loop-c.part) c.in-Some.ensures.steps c.loop-c.invariant in
+    let e : Credential × Entry = (c.in-Some.c.now, c.in-Some.entry.now) in
+    let on = subst (λ (left : List (Credential × Entry)). IsOnTheWay k.sums k.deposits until es all left c.loop-c.part) c.in-Some.ensures c.loop-c.invariant in
     let near : is_beyond until e.0 ≡ false = sym c.is_beyond.ensures ∙ c.if-is_beyond.false in
-    goes_on k.sums k.deposits until es all e c.next.new.self c.loop-c.part on near c.weigh.new.part c.weigh.ensures.length c.weigh.ensures.sums
+    goes_on k.sums k.deposits until es all e c.next_entry.new.self c.loop-c.part on near c.weigh.new.part c.weigh.ensures.length c.weigh.ensures.sums
 
 pub returns-clause-sums : goal.returns-clause-sums
 returns-clause-sums c =
@@ -73,4 +73,4 @@ returns-clause-sums c =
     let all = c.frozen_past-entries.result in
     let range = walked c.self.inside.cursor after until c.later-from.result k c.as_ref.result es all (ap (λ (k : Count). k.cursor) c.self.view_is) c.as_ref.ensures.value c.frozen_past-entries.ensures c.later-from.ensures in
     arrives k.sums k.deposits until es all c.loop-c.entries (entries_between after until (entries_left k es)) c.loop-c.part c.loop-c.invariant
-    (ap (λ (left : List (Credential × Entry)). up_to until left) c.in_default.ensures.steps.0) range
+    (ap (λ (left : List (Credential × Entry)). up_to until left) c.in_default.ensures.0) range

@@ -27,30 +27,30 @@ loop-visit-init g c = record {
 
 pub returns-in_default-clause-done : goal.returns-in_default-clause-done
 returns-in_default-clause-done g c =
-    omega (arith, none_left (frozen_of credential_cmp c.args.book.now) c.loop-visit.self.done c.loop-visit.entries c.loop-visit.invariant.left c.in_default.ensures.steps.0)
+    omega (arith, none_left (frozen_of credential_cmp c.args.book.now) c.loop-visit.self.done c.loop-visit.entries c.loop-visit.invariant.left c.in_default.ensures.0)
 
 pub returns-in_default-clause-steps : goal.returns-in_default-clause-steps
 returns-in_default-clause-steps g c =
-    omega (arith, none_left (frozen_of credential_cmp c.args.book.now) c.loop-visit.self.done c.loop-visit.entries c.loop-visit.invariant.left c.in_default.ensures.steps.0)
+    omega (arith, none_left (frozen_of credential_cmp c.args.book.now) c.loop-visit.self.done c.loop-visit.entries c.loop-visit.invariant.left c.in_default.ensures.0)
 
 pub visit-requires : goal.visit-requires
 visit-requires g c =
     let es : List (Credential × Entry) = frozen_of credential_cmp c.args.book.now in
-    (es, c.loop-visit.invariant.counts_in, next_left es c.loop-visit.self.done _ c.loop-visit.invariant.left _ _ c.in-Some.ensures.steps)
+    (es, c.loop-visit.invariant.counts_in, next_left es c.loop-visit.self.done _ c.loop-visit.invariant.left _ _ c.in-Some.ensures)
 
 pub tick-requires : goal.tick-requires
 tick-requires g c =
     let es : List (Credential × Entry) = frozen_of credential_cmp c.args.book.now in
-    omega (arith, slice_get_within es c.loop-visit.self.done _ (next_left es c.loop-visit.self.done _ c.loop-visit.invariant.left _ _ c.in-Some.ensures.steps))
+    omega (arith, slice_get_within es c.loop-visit.self.done _ (next_left es c.loop-visit.self.done _ c.loop-visit.invariant.left _ _ c.in-Some.ensures))
 
 pub loop-visit-preserved : goal.loop-visit-preserved
 loop-visit-preserved g c =
-    let e : Credential × Entry = (c.in-Some.c, c.in-Some.entry) in
+    let e : Credential × Entry = (c.in-Some.c.now, c.in-Some.entry.now) in
     let es : List (Credential × Entry) = frozen_of credential_cmp c.args.book.now in
-    let next = next_left es c.loop-visit.self.done _ c.loop-visit.invariant.left e _ c.in-Some.ensures.steps in
+    let next = next_left es c.loop-visit.self.done _ c.loop-visit.invariant.left e _ c.in-Some.ensures in
     let is : c.visit.new.self ≡ visited e c.loop-visit.self = c.visit.ensures in
     record {
-      left = rest_left es c.loop-visit.self.done _ c.loop-visit.invariant.left e _ c.in-Some.ensures.steps ∙ ap (λ (k : Count). drop k.done es) (sym is);
+      left = rest_left es c.loop-visit.self.done _ c.loop-visit.invariant.left e _ c.in-Some.ensures ∙ ap (λ (k : Count). drop k.done es) (sym is);
       counts = λ (f : Snapshot) (p : f.entries ≡ es) (h : IsCountOf f c.args.self.now).
           subst (λ (k : Count). IsCountOf f k) (sym is)
           (count_of_kept f c.loop-visit.self (c.loop-visit.invariant.counts f p h) e (ap (λ (es : List (Credential × Entry)). slice_get es c.loop-visit.self.done) p ∙ next));

@@ -10,13 +10,13 @@ use Rattle.drep_pulser.proofs.walk.Walk.visit.Goals as goal
 
 pub weighed-requires : goal.weighed-requires
 weighed-requires c =
-    let e : Credential × Entry = (c.args.c, c.args.entry.now) in
+    let e : Credential × Entry = (c.args.c.now, c.args.entry.now) in
     let next = subst (λ (k : Count). IsNextIn e k) (sym c.self.view_is) c.requires in
     weight_fits next.0 _ next.1 e next.2
 
 pub add-requires : goal.add-requires
 add-requires c =
-    let e : Credential × Entry = (c.args.c, c.args.entry.now) in
+    let e : Credential × Entry = (c.args.c.now, c.args.entry.now) in
     let next = subst (λ (k : Count). IsNextIn e k) (sym c.self.view_is) c.requires in
-    let weighs = weighed_as (drep_of c.args.entry.now) (weight_by c.self.inside.deposits e) c.in-Some.drep c.in-Some.weight c.in-Some.ensures in
-    omega (arith, weighs, sum_fits next.0 _ next.1 e next.2 c.in-Some.drep)
+    let weighs = weighed_as (drep_of c.args.entry.now) (weight_by c.self.inside.deposits e) c.in-Some.drep.now c.in-Some.weight c.in-Some.ensures in
+    omega (arith, weighs, sum_fits next.0 _ next.1 e next.2 c.in-Some.drep.now)
