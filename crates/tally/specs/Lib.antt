@@ -4,3 +4,4 @@ pub mod Stakes
 pub mod Greatest
 pub mod Counted
 pub mod Cells
+pub mod Silent

@@ -9,6 +9,8 @@ ghost use Rattle.tally.specs.Counted.{CanBeCounted, ForSnapshot};
 use crate::committee::committee_count;
 use crate::dreps::drep_count;
 use crate::pools::pool_count;
+use crate::silent_dreps::{drep_count_from, silent_dreps};
+use crate::silent_pools::{pool_count_from, silent_pools};
 use drep_pulser::Counted;
 use gov_actions::Proposal;
 use snapshots::Frozen;
@@ -38,14 +40,25 @@ pub fn cell_of(f: &Frozen, c: &Counted, a: &Proposal) -> TallyCell
     }
 }
 
-/// Writes the counts of frozen proposals into their cells, one after the other. It takes no memory. (Own)
+/// Writes the counts of frozen proposals into their cells, one after the other. Where DReps and pools stand in order, as
+/// they do where a boundary froze them, what they count where nobody votes is added up once for all cells, and a proposal
+/// costs no walk but those over its votes and over the members. It takes no memory. (Own)
 pub fn fill_cells(f: &Frozen, c: &Counted, proposals: &[Proposal], cells: &mut [TallyCell])
     requires counted { CanBeCounted f.now c.now }
     requires voters { All (λ (a : Proposal). IsMap voter_cmp a.votes) proposals.now }
     requires each { length cells.old ≡ length proposals.now }
     ensures { ForSnapshot f.now c.now (λ s. cells.new ≡ map (cell_of s) proposals.now) }
 {
+    if cells.is_empty() {
+        return;
+    }
+    let dreps = silent_dreps(f, c);
+    let pools = silent_pools(f);
     for i in 0..cells.len() {
-        cells[i] = cell_of(f, c, &proposals[i]);
+        cells[i] = TallyCell {
+            committee: committee_count(f, &proposals[i]),
+            drep: drep_count_from(f, c, dreps, &proposals[i]),
+            pool: pool_count_from(f, pools, &proposals[i]),
+        };
     }
 }

@@ -7,6 +7,8 @@ mod dreps;
 mod needs;
 mod pools;
 mod sides;
+mod silent_dreps;
+mod silent_pools;
 
 pub use cells::{TallyCell, cell_of, fill_cells};
 pub use committee::committee_count;

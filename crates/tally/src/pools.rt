@@ -29,7 +29,7 @@ pub fn pool_count(f: &Frozen, a: &Proposal) -> (u64, u64)
 }
 
 // The side of a pool that did not vote.
-fn silent_side(default: DefaultVote, a: &Action) -> Vote
+pub(crate) fn silent_side(default: DefaultVote, a: &Action) -> Vote
     ensures { result ≡ silent_pool_side default a.now }
 {
     match a {

@@ -1,8 +1,8 @@
-ghost use Rattle.std.specs.Prelude.{◌≡◌, ◌+◌, ◌^◌, ◌<◌, ◌≤◌};
+ghost use Rattle.std.specs.Prelude.{◌≡◌, ◌+◌, ◌^◌, ◌<◌, ◌≤◌, IfSome};
 ghost use Rattle.gov_ids.specs.Orders.{voter_cmp};
 ghost use Rattle.gov_model.specs.Sides.{no_confidence_side, vote_of};
 ghost use Rattle.maps.specs.Maps.{IsMap};
-ghost use Rattle.tally.specs.Adding.{with_side};
+ghost use Rattle.tally.specs.Adding.{IsPartOf, total_of, with_side, with_vote, without_side, yes_of};
 
 use gov_actions::{Action, Proposal, Vote};
 use gov_ids::Voter;
@@ -18,6 +18,31 @@ pub(crate) fn with_side(count: (u64, u64), weight: u64, vote: Vote) -> (u64, u64
         Vote::Yes => (yes + weight, total + weight),
         Vote::No => (yes, total + weight),
         Vote::Abstain => count,
+    }
+}
+
+// Yes and total without a side that is in them.
+fn without_side(count: (u64, u64), weight: u64, vote: Vote) -> (u64, u64)
+    requires yes { yes_of (weight, vote) ≤ count.0 }
+    requires total { total_of (weight, vote) ≤ count.1 }
+    ensures { result ≡ without_side count weight vote }
+{
+    let (yes, total) = count;
+    match vote {
+        Vote::Yes => (yes - weight, total - weight),
+        Vote::No => (yes, total - weight),
+        Vote::Abstain => (yes, total),
+    }
+}
+
+// Yes and total with a vote in place of the side on which its voter stands; no change where it stands on none.
+pub(crate) fn with_vote(count: (u64, u64), side: Option<(u64, Vote)>, vote: Vote) -> (u64, u64)
+    requires { IfSome side (λ s. IsPartOf count s) }
+    ensures { result ≡ with_vote count side vote }
+{
+    match side {
+        Some((weight, silent)) => { with_side(without_side(count, weight, silent), weight, vote) }
+        None => count,
     }
 }
 
