@@ -1,7 +1,7 @@
-//! The book of hot keys: what was authorized, undone and taken over from another.
-use coin_frac::NoMemory;
+//! The book of hot keys: what was authorized, undone and taken over from another, and whom members seat.
+use coin_frac::{NoMemory, Unit};
 use committee_book::HotBook;
-use gov_actions::HotState;
+use gov_actions::{Committee, HotState, MemberList};
 use gov_ids::{CredKind, Credential};
 use std::alloc::Global;
 use std::test::Fail;
@@ -58,5 +58,33 @@ fn keeps_what_cold_keys_authorized(rt: HostRuntime) -> Result<(), Fail> {
         (key(4), state(14)),
     ];
     assert!(rt; listed.as_slice() == wanted.as_slice());
+    Ok(())
+}
+
+#[test]
+fn seats_the_hot_keys_of_members(rt: HostRuntime) -> Result<(), Fail> {
+    let members = Vec::from_slice(
+        rt.alloc(),
+        [(key(1), 9), (key(2), 9), (key(4), 9)].as_slice(),
+    )?;
+    let committee = Committee {
+        members: MemberList::from_vec(members),
+        threshold: Unit::new(2, 3)?,
+    };
+    let changed = book(rt.alloc(), [(1, 13), (3, 12)].as_slice())?;
+    let book = book(
+        rt.alloc(),
+        [(1, 11), (2, 12), (3, 11), (4, 0), (5, 14), (6, 12)].as_slice(),
+    )?;
+    for (hot, among_all, beside_changed) in [
+        (11, true, false),
+        (12, true, true),
+        (13, false, false),
+        (14, false, false),
+    ] {
+        assert!(rt; book.seats(&key(hot), Some(&committee), None) == among_all);
+        assert!(rt; book.seats(&key(hot), Some(&committee), Some(&changed)) == beside_changed);
+        assert!(rt; !book.seats(&key(hot), None, None));
+    }
     Ok(())
 }

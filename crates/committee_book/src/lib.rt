@@ -1,42 +1,54 @@
 //! The book of what the committee's cold keys authorized.
 #![tactic(auto)]
 
-ghost use Rattle.std.specs.Prelude.{◌≡◌, [], option_map, IfOk, OnOk, OnErr};
+ghost use Rattle.std.specs.Prelude.{◌≡◌, [], ◌&&◌, not, option_map, IfOk, OnOk, OnErr};
 ghost use Rattle.gov_ids.specs.Orders.{credential_cmp};
-ghost use Rattle.maps.specs.Maps.{IsMap, entry_after, value_at, with_value, with_values, without_key};
+ghost use Rattle.maps.specs.Maps.{IsMap, entry_after, has_key, value_at, with_value, with_values, without_key};
 ghost use Rattle.maps.specs.Replaced.{with_option};
+ghost use Rattle.maps.specs.Words.{some_and};
 ghost use Rattle.gov_model.specs.Hot.{is_named, is_member, of_members};
-ghost use Rattle.committee_book.specs.Counts.{AreCounted, count_of};
+ghost use Rattle.committee_book.specs.Counts.{count_of};
+ghost use Rattle.committee_book.specs.Holders.{AreHeld, IsIndexed, entries_beside};
 
-mod counts;
+mod holders;
 
 use coin_frac::NoMemory;
-use counts::HotCounts;
 use gov_actions::{Committee, HotState};
 use gov_ids::Credential;
+use holders::Holders;
 use maps::keys_past;
 use std::alloc::Global;
 use std::collections::BTreeMap;
 use std::marker::Model;
 
-/// The hot key or the resignation of each cold key that has one, in the order of cold keys. How many cold keys have a hot key is kept beside them, so that no entry is walked for it. (GState of the formal specification: ccHotKeys; that they are counted is own)
-#[derive(Debug, Drop)]
+/// The hot key or the resignation of each cold key that has one, in the order of cold keys. Which cold keys have each hot key is kept beside them, so that no other entry is walked for it. (GState of the formal specification: ccHotKeys; that they are kept is own)
+#[derive(Debug)]
 pub struct HotBook {
     entries: BTreeMap<Credential, HotState>,
-    counts: HotCounts,
+    holders: Holders,
+}
+
+// What lets it go stands here once: a derived one is proved again, part by part, in each crate above.
+impl Drop for HotBook {
+    fn drop(self) {
+        let HotBook {
+            entries: _entries,
+            holders: _holders,
+        } = self;
+    }
 }
 
 impl Model for HotBook {
     ghost use Rattle.std.specs.Prelude.{List};
     ghost use Rattle.gov_ids.specs.declared.Credential.{Credential};
     ghost use Rattle.gov_actions.specs.declared.state.HotState.{HotState};
-    ghost use Rattle.committee_book.specs.Counts.{IsIndexed};
+    ghost use Rattle.committee_book.specs.Holders.{IsIndexed};
 
     ghost Value = { List (Credential × HotState) };
 
     ghost view = { λ a. a.entries.entries };
 
-    ghost invariant = { λ a. IsIndexed a.entries.entries a.counts };
+    ghost invariant = { λ a. IsIndexed a.entries.entries a.holders };
 }
 
 impl HotBook {
@@ -46,7 +58,7 @@ impl HotBook {
     {
         HotBook {
             entries: BTreeMap::new(alloc),
-            counts: HotCounts::new(alloc),
+            holders: Holders::new(alloc),
         }
     }
 
@@ -63,12 +75,12 @@ impl HotBook {
         ensures ok { OnOk result (self.new ≡ with_value credential_cmp cold s self.old) }
         ensures err { OnErr result (self.new ≡ self.old) }
     {
-        self.counts.add(s)?;
+        self.holders.add(cold, s)?;
         let Ok(before) = self.entries.insert(cold, s) else {
-            self.counts.take(Some(s));
+            self.holders.take(&cold, Some(s));
             return Err(NoMemory);
         };
-        self.counts.take(before);
+        self.holders.leave(&cold, before, s);
         Ok(())
     }
 
@@ -77,7 +89,7 @@ impl HotBook {
         ensures { self.new ≡ without_key credential_cmp cold.now self.old }
     {
         let forgotten = self.entries.remove(cold);
-        self.counts.take(forgotten);
+        self.holders.take(cold, forgotten);
     }
 
     /// What the cold key has becomes `to`. Want of memory changes nothing. (Own)
@@ -99,7 +111,11 @@ impl HotBook {
         ensures { IfOk result (λ after. after ≡ with_values credential_cmp changed self) }
     {
         let mut book = self;
-        for (cold, s) in changed.entries {
+        let HotBook {
+            entries,
+            holders: _holders,
+        } = changed;
+        for (cold, s) in entries {
             book.set(cold, s)?;
         }
         Ok(book)
@@ -110,7 +126,7 @@ impl HotBook {
         ensures named { result ≡ is_named self.now hot.now }
         ensures in_order { IsMap credential_cmp self.now }
     {
-        self.counts.of(hot) > 0
+        self.holders.count(hot) > 0
     }
 
     /// How many cold keys have this hot key. (Own)
@@ -118,14 +134,26 @@ impl HotBook {
         ensures count { result ≡ count_of self.now hot.now }
         ensures in_order { IsMap credential_cmp self.now }
     {
-        self.counts.of(hot)
+        self.holders.count(hot)
+    }
+
+    /// Whether a member has this hot key, where the entries of cold keys that have one among the changed do not count. It walks the cold keys that have it, and no member. (GOV of the formal specification; the changed are own)
+    pub fn seats(&self, hot: &Credential, c: Option<&Committee>, changed: Option<&HotBook>) -> bool
+        ensures seated { result ≡ is_named (of_members (option_map (λ c. c.now) c.entry)
+            (entries_beside (option_map (λ b. b.now) changed.entry) self.now)) hot.now }
+        ensures in_order { IsMap credential_cmp self.now }
+    {
+        let Some(cold_keys) = self.holders.of(hot) else {
+            return false;
+        };
+        cold_keys.iter().any(|cold| is_seat(c, changed, cold))
     }
 
     /// Only members keep their entries, and none where there is no committee. (EPOCH of the formal specification)
     pub fn keep_members(&mut self, c: Option<&Committee>)
         ensures { self.new ≡ of_members (option_map (λ c. c.now) c.entry) self.old }
     {
-        take_others(&mut self.counts, &self.entries, c);
+        take_others(&mut self.holders, &self.entries, c);
         self.entries.retain(|cold, _| is_member(c, cold));
     }
 
@@ -151,20 +179,38 @@ impl HotBook {
     }
 }
 
-/// The counts of entries without those of cold keys that are no members.
+/// The holders of hot keys without the cold keys that are no members.
 fn take_others(
-    counts: &mut HotCounts,
+    holders: &mut Holders,
     entries: &BTreeMap<Credential, HotState>,
     c: Option<&Committee>,
 )
-    requires { AreCounted entries.now.entries counts.old }
-    ensures { AreCounted (of_members (option_map (λ c. c.now) c.entry) entries.now.entries) counts.new }
+    requires { IsIndexed entries.now.entries holders.old }
+    ensures { AreHeld (of_members (option_map (λ c. c.now) c.entry) entries.now.entries) holders.new }
 {
     for (cold, s) in entries {
         if !is_member(c, cold) {
-            counts.take(Some(*s));
+            holders.take(cold, Some(*s));
         }
     }
+}
+
+/// Whether a cold key is a member whose entry counts.
+fn is_seat(c: Option<&Committee>, changed: Option<&HotBook>, cold: &Credential) -> bool
+    ensures { result ≡ (is_member (option_map (λ c. c.now) c.entry) cold.now
+        && not (some_and (λ es. has_key credential_cmp es cold.now) (option_map (λ b. b.now) changed.entry))) }
+{
+    is_member(c, cold) && !has_entry(changed, cold)
+}
+
+/// Whether a cold key has an entry among the changed, if any are changed.
+fn has_entry(changed: Option<&HotBook>, cold: &Credential) -> bool
+    ensures { result ≡ some_and (λ es. has_key credential_cmp es cold.now) (option_map (λ b. b.now) changed.entry) }
+{
+    let Some(book) = changed else {
+        return false;
+    };
+    book.get(cold).is_some()
 }
 
 /// Whether a cold key is a member of the committee, none being one where there is no committee. (CIP-1694, The constitutional committee)

@@ -1,12 +1,11 @@
-use Rattle.std.proofs.Common.{◌≡◌, List, ap, arith, sym, subst, ◌∙◌}
+use Rattle.std.proofs.Common.{◌≡◌, List, sym, subst, ◌∙◌}
 use Rattle.gov_ids.specs.declared.Credential.{Credential}
 use Rattle.gov_ids.specs.Derived.{credential_is}
 use Rattle.gov_ids.specs.Orders.{credential_cmp}
 use Rattle.gov_actions.specs.declared.state.HotState.{HotState}
-use Rattle.maps.proofs.Kept.{IsMap-without_key}
 use Rattle.maps.specs.Maps.{value_at, without_key}
-use Rattle.committee_book.specs.Counts.{IsIndexed, count_in_option}
-use Rattle.committee_book.proofs.Counting.{count-without_key}
+use Rattle.committee_book.specs.Holders.{IsIndexed}
+use Rattle.committee_book.proofs.Holding.{forgotten_indexed}
 use Rattle.committee_book.proofs.HotBook.forget.Goals as goal
 
 pub invariant_of-self : goal.invariant_of-self
@@ -16,7 +15,4 @@ invariant_of-self c =
     let before : c.remove-forgotten.result ≡ value_at credential_cmp es cold = c.remove-forgotten.ensures.value ∙ (λ i. value_at (credential_is i) es cold) in
     let left : c.remove-forgotten.new.self.entries ≡ without_key credential_cmp cold es = c.remove-forgotten.ensures.entries ∙ (λ i. without_key (credential_is i) cold es) in
     subst (λ (fs : List (Credential × HotState)). IsIndexed fs c.take.new.self) (sym left)
-    (record {
-      in_order = IsMap-without_key credential_cmp cold es c.self.invariant.in_order;
-      counted = λ q. omega (arith, c.take.ensures q, c.self.invariant.counted q, ap (count_in_option q) before, count-without_key cold es q);
-    })
+    (forgotten_indexed cold es c.self.inside.holders c.self.invariant c.remove-forgotten.result c.take.new.self before c.take.ensures)

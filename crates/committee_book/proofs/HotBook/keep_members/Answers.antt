@@ -6,7 +6,7 @@ use Rattle.gov_actions.specs.declared.state.Committee.{Committee}
 use Rattle.gov_actions.specs.declared.state.HotState.{HotState}
 use Rattle.gov_model.specs.Hot.{is_member, of_members}
 use Rattle.maps.proofs.Kept.{IsMap-entries_where}
-use Rattle.committee_book.specs.Counts.{IsIndexed}
+use Rattle.committee_book.specs.Holders.{IsIndexed}
 use Rattle.committee_book.proofs.HotBook.keep_members.Goals as goal
 
 pub invariant_of-self : goal.invariant_of-self
@@ -15,8 +15,8 @@ invariant_of-self c =
     let es = c.self.inside.entries.entries in
     let kept : c.retain.new.self.entries ≡ of_members committee es =
     filter_same_pairs _ (λ (e : Credential × HotState). is_member committee e.0) _ (λ k v b w g t. search rules) es _ c.retain.ensures.filtered in
-    subst (λ (fs : List (Credential × HotState)). IsIndexed fs c.take_others.new.counts) (sym kept)
-    (record { in_order = IsMap-entries_where credential_cmp (λ cold s. is_member committee cold) es c.self.invariant.in_order; counted = c.take_others.ensures })
+    subst (λ (fs : List (Credential × HotState)). IsIndexed fs c.take_others.new.holders) (sym kept)
+    (record { in_order = IsMap-entries_where credential_cmp (λ cold s. is_member committee cold) es c.self.invariant.in_order; held = c.take_others.ensures })
 
 pub returns : goal.returns
 returns c =
