@@ -38,7 +38,7 @@ pub fn delegate(
                 drep: drep.or(registered.drep),
                 ..registered
             };
-            d.set_account(cred, Some(delegating))?;
+            d.change_account(cred, Some(registered), Some(delegating))?;
             Ok(())
         }
         None => Ok(()),

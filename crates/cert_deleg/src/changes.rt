@@ -27,7 +27,8 @@ pub fn change(d: &mut Draft, c: &Cert) -> Result<(), NoMemory>
             ..
         } => {
             let registered = new_account(d, pool, drep);
-            d.set_account(cred, Some(registered))?;
+            // (an account that comes was not registered)
+            d.change_account(cred, None, Some(registered))?;
             Ok(())
         }
         Cert::AccountUnreg { cred, .. } => {

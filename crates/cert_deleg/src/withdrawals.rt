@@ -77,13 +77,11 @@ fn empty_account(d: &mut Draft, c: Credential) -> Result<(), NoMemory>
 {
     match d.account(&c) {
         Some(registered) => {
-            d.set_account(
-                c,
-                Some(Registered {
-                    rewards: 0,
-                    ..registered
-                }),
-            )?;
+            let emptied = Registered {
+                rewards: 0,
+                ..registered
+            };
+            d.change_account(c, Some(registered), Some(emptied))?;
             Ok(())
         }
         None => Ok(()),

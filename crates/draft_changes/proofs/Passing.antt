@@ -10,6 +10,7 @@ use Rattle.std.specs.List.Sorted.{IsStrictlySortedBy}
 use Rattle.std.specs.Map.{keys_of}
 use Rattle.std.proofs.lemmas.Bool.{lt-ltb, ltb-true, ltb_from_iff}
 use Rattle.std.proofs.lemmas.Cmp.{eq_by_cmp_equiv}
+use Rattle.committee_book.proofs.Seating.{any_where}
 use Rattle.maps.proofs.Kept.{IsMap-with_value}
 use Rattle.maps.proofs.Lookups.{none_below}
 use Rattle.maps.proofs.Ties.{all_above, all_tied}
@@ -66,7 +67,7 @@ module _ {K X : Type 0} {cmp : K → K → Ordering} (o : IsTotalOrder cmp) (exa
           | false ↦ λ t. ap (λ c. not c && (not (has_key cmp new q) && p q x)) ((eq_by_cmp_equiv o).symm e.0 q ∙ t)
         ] refl
 
-  any-with_values : (p : K → X → Bool) (new es : List (K × X)) → IsMap cmp new → IsMap cmp es
+  pub any-with_values : (p : K → X → Bool) (new es : List (K × X)) → IsMap cmp new → IsMap cmp es
       → any p (with_values cmp new es) ≡ (any p new || any_kept p new es)
   unfolding IsStrictlySortedBy
   any-with_values p [] es g h = refl
@@ -113,15 +114,6 @@ module _ {K X : Type 0} (p : K → X → Bool) where
           | false ↦ omega (arith, count-cons e others, count-cons e es, count_parted es)
         ]
 
-    any_other_key : (es : List (K × X)) → any (λ k x. not (q k) && p k x) es ≡ any p (entries_where (λ k x. not (q k)) es)
-    any_other_key [] = refl
-    any_other_key (e ∷ es) =
-        let others = entries_where (λ k x. not (q k)) es in
-        elim (q e.0) as (λ b. ((not b && p e.0 e.1) || any (λ k x. not (q k) && p k x) es) ≡ any p (cond (not b) (e ∷ others) others)) [
-          | true ↦ any_other_key es
-          | false ↦ ap (λ b. p e.0 e.1 || b) (any_other_key es)
-        ]
-
 -- what is left is above 0 where the whole is above the part
 above : (part rest all : ℕ) → part + rest ≡ all → nat_lt 0 rest ≡ nat_lt part all
 above part rest all e =
@@ -136,4 +128,4 @@ passes_after {K} {X} {cmp} o exact p changed es g h =
     let others = entries_where (λ k x. not (has_key cmp changed k)) es in
     any-with_values o exact p changed es g h
     ∙ ap (λ b. any p changed || b)
-    (any_other_key p has es ∙ any_counted p others ∙ above (count p (covered_entries cmp changed es)) (count p others) (count p es) (count_parted p has es))
+    (sym (any_where (λ (e : K × X). p e.0 e.1) (λ (e : K × X). not (has e.0)) es) ∙ any_counted p others ∙ above (count p (covered_entries cmp changed es)) (count p others) (count p es) (count_parted p has es))

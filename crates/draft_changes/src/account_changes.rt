@@ -1,4 +1,4 @@
-ghost use Rattle.std.specs.Prelude.{◌≡◌, ◌<◌, ◌^◌, [], IfOk, OnOk, OnErr, if◌then◌else◌, option_map, unwrap_or};
+ghost use Rattle.std.specs.Prelude.{◌≡◌, ◌<◌, ◌^◌, [], true, IfOk, OnOk, OnErr, if◌then◌else◌, option_map, unwrap_or};
 ghost use Rattle.std.specs.Map.{keys_of};
 ghost use Rattle.gov_ids.specs.Orders.{credential_cmp};
 ghost use Rattle.ledger_model.specs.Changes.{without_drep};
@@ -128,6 +128,14 @@ impl AccountChanges {
         Ok(())
     }
 
+    /// Whether no registration was changed and no DRep left. (Own)
+    pub(crate) fn is_none(&self) -> bool
+        ensures accounts { result ≡ true → self.now.accounts ≡ [] }
+        ensures left { result ≡ true → self.now.left ≡ [] }
+    {
+        self.entries.is_empty() && self.left.is_empty()
+    }
+
     /// The DReps that left, in order.
     pub fn left(&self, alloc: Global) -> Result<Vec<Credential>, NoMemory>
         ensures names { IfOk result (λ names. names.items ≡ self.now.left) }
@@ -146,8 +154,14 @@ impl AccountChanges {
             with_registrations self.accounts (without_dreps self.left (accounts_of stake))) }
         ensures rest { IfOk result (λ after. KeepsOutputs stake after) }
     {
-        let stake = without_left(stake, left)?;
-        with_accounts(stake, self.entries, &self.left)
+        match without_left(stake, left) {
+            Ok(stake) => with_accounts(stake, self.entries, &self.left),
+            Err(error) => {
+                // let go in one call: a `?` would prove it part by part
+                drop(self);
+                Err(error)
+            }
+        }
     }
 }
 
@@ -173,6 +187,8 @@ fn without_left(stake: StakeBook, left: &[Credential]) -> Result<StakeBook, NoMe
     }
     let mut stake = stake;
     stake.clear_dreps(left)?;
+    // its accounts stand in order, and there is room
+    let _kept = stake.book();
     Ok(stake)
 }
 

@@ -73,9 +73,20 @@ impl Changes {
             laid_over (record { dreps = self.dreps; refreshed = self.refreshed }) epoch voters.dreps) }
         ensures hot { IfOk result (λ after. after.2.hot ≡ with_values credential_cmp self.hot voters.hot) }
     {
-        let voters = self.voters.lay_over(epoch, voters)?;
-        let (stake, proposals) = with_accounts(alloc, self.accounts, stake, proposals)?;
-        Ok((stake, proposals, voters))
+        match self.voters.lay_over(epoch, voters) {
+            Ok(voters) => match with_accounts(alloc, self.accounts, stake, proposals) {
+                Ok((stake, proposals)) => Ok((stake, proposals, voters)),
+                Err(error) => {
+                    // let go in one call: a `?` would prove it part by part
+                    drop(voters);
+                    Err(error)
+                }
+            },
+            Err(error) => {
+                drop((self.accounts, stake, proposals));
+                Err(error)
+            }
+        }
     }
 }
 
@@ -93,9 +104,41 @@ fn with_accounts(
     ensures rest { IfOk result (λ after. KeepsOutputs stake after.0) }
     ensures proposals { IfOk result (λ after. after.1 ≡ map (without_votes_of accounts.left) proposals) }
 {
-    let left = accounts.left(alloc)?;
-    let mut proposals = proposals;
-    proposals.clear_votes_of(&left);
-    let stake = accounts.lay_over(stake, &left)?;
-    Ok((stake, proposals))
+    if accounts.is_none() {
+        return Ok((stake, proposals));
+    }
+    with_changed_accounts(alloc, accounts, stake, proposals)
+}
+
+/// The same, where an account changed or a DRep left.
+fn with_changed_accounts(
+    alloc: Global,
+    accounts: AccountChanges,
+    stake: StakeBook,
+    proposals: ProposalStore,
+) -> Result<(StakeBook, ProposalStore), NoMemory>
+    requires stake { IsMap credential_cmp (accounts_of stake) × HasRoom 0 stake }
+    requires lower { NoneRises accounts.accounts (without_dreps accounts.left (accounts_of stake)) }
+    ensures accounts { IfOk result (λ after. accounts_of after.0 ≡
+        with_registrations accounts.accounts (without_dreps accounts.left (accounts_of stake))) }
+    ensures rest { IfOk result (λ after. KeepsOutputs stake after.0) }
+    ensures proposals { IfOk result (λ after. after.1 ≡ map (without_votes_of accounts.left) proposals) }
+{
+    match accounts.left(alloc) {
+        Ok(left) => {
+            let mut proposals = proposals;
+            proposals.clear_votes_of(&left);
+            match accounts.lay_over(stake, &left) {
+                Ok(stake) => Ok((stake, proposals)),
+                Err(error) => {
+                    drop(proposals);
+                    Err(error)
+                }
+            }
+        }
+        Err(error) => {
+            drop((accounts, stake, proposals));
+            Err(error)
+        }
+    }
 }

@@ -117,6 +117,9 @@ fn with_dreps(
 ) -> Result<DrepBook, NoMemory>
     ensures { IfOk result (λ after. after ≡ record book { dreps = with_dreps changed.entries book.dreps }) }
 {
+    if changed.is_empty() {
+        return Ok(book);
+    }
     let mut book = book;
     for (c, to) in changed {
         book.restore(c, to)?;

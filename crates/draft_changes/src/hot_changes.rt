@@ -1,4 +1,5 @@
 ghost use Rattle.std.specs.Prelude.{◌≡◌, IfOk, OnOk, OnErr, option_map};
+ghost use Rattle.std.specs.List.{list_any};
 ghost use Rattle.gov_ids.specs.Orders.{credential_cmp};
 ghost use Rattle.gov_model.specs.Hot.{is_hot_key, is_named, of_members};
 ghost use Rattle.draft_changes.specs.ChangedHot.{IsOver, none_changed};
@@ -58,16 +59,30 @@ impl HotChanges {
         self.entries.names_hot(hot) || covered < before
     }
 
-    /// Whether a member of the committee has this hot key, over this book. It walks the members, and no entry.
+    /// Whether a member of the committee has this hot key, over this book. It walks the cold keys that have it, or the members where they are fewer, and no other entry.
     pub fn seats(&self, hot: &Credential, book: &HotBook, c: Option<&Committee>) -> bool
-        requires in_order { IsMap credential_cmp book.now }
         ensures { result ≡ is_named (of_members (option_map (λ c. c.now) c.entry)
             (with_values credential_cmp self.now.entries book.now)) hot.now }
     {
         let Some(committee) = c else {
             return false;
         };
+        let holders = self
+            .entries
+            .count_of(hot)
+            .saturating_add(book.count_of(hot));
         let members = committee.members.as_slice();
+        if (members.len() as u64) < holders {
+            return self.is_of_member(hot, book, members);
+        }
+        self.entries.seats(hot, c, None) || book.seats(hot, c, Some(&self.entries))
+    }
+
+    /// Whether one of these members has this hot key, over this book: a walk over them.
+    fn is_of_member(&self, hot: &Credential, book: &HotBook, members: &[(Credential, u64)]) -> bool
+        ensures { result ≡ list_any (λ m. some_and (is_hot_key hot.now)
+            (value_at credential_cmp (with_values credential_cmp self.now.entries book.now) m.0)) members.now }
+    {
         members
             .iter()
             .any(|(cold, _)| is_hot_key(self.latest(cold, book), hot))

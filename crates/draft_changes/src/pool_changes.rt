@@ -16,14 +16,19 @@ use std::marker::Model;
 pub struct PoolChanges {
     entries: PoolBook,
     covered: PoolBook,
+    // whether a pool was ever put, so that a book that none changed is not walked
+    changed: bool,
 }
 
 impl Model for PoolChanges {
+    ghost use Rattle.std.specs.Prelude.{◌≡◌, false, []};
     ghost use Rattle.draft_changes.specs.ChangedPools.{ChangedPools};
 
     ghost Value = { ChangedPools };
 
     ghost view = { λ a. record { entries = a.entries; covered = a.covered } };
+
+    ghost invariant = { λ a. a.changed ≡ false → a.entries ≡ [] };
 }
 
 impl PoolChanges {
@@ -34,6 +39,7 @@ impl PoolChanges {
         PoolChanges {
             entries: PoolBook::new(alloc),
             covered: PoolBook::new(alloc),
+            changed: false,
         }
     }
 
@@ -68,6 +74,7 @@ impl PoolChanges {
         ensures over { IsOver book.now self.new }
         ensures err { OnErr result (self.new ≡ self.old) }
     {
+        self.changed = true;
         if self.entries.get(&p).is_some() {
             return self.entries.restore(p, Some(pool));
         }
@@ -83,6 +90,9 @@ impl PoolChanges {
     pub fn lay_over(self, book: PoolBook) -> Result<PoolBook, NoMemory>
         ensures { IfOk result (λ after. after ≡ with_values pool_cmp self.entries book) }
     {
+        if !self.changed {
+            return Ok(book);
+        }
         book.with_all(self.entries)
     }
 }

@@ -1,4 +1,4 @@
-ghost use Rattle.std.specs.Prelude.{◌≡◌, ◌+◌, ◌<◌, ◌≤◌, ◌^◌, IfOk, None, length, sum_by};
+ghost use Rattle.std.specs.Prelude.{◌≡◌, ◌+◌, ◌<◌, ◌≤◌, ◌^◌, IfOk, OnOk, None, length, sum_by};
 ghost use Rattle.std.specs.List.{AllByRecursion};
 ghost use Rattle.std.specs.Map.{keys_of};
 ghost use Rattle.gov_ids.specs.Orders.{outref_cmp};
@@ -16,99 +16,96 @@ use stake_book::StakeBook;
 use tx_records::{Tx, TxOutput};
 use utxo_set::Output;
 
-/// With the outputs of a transaction in place of its inputs, and with its id among the used ones.
-pub fn with_tx_outputs(stake: StakeBook, tx: &Tx) -> Result<StakeBook, NoMemory>
-    requires in_order { IsMap outref_cmp stake.outputs.outputs }
+/// Puts the outputs of a transaction in place of its inputs, and its id among the used ones. After want of memory the caller drops the book.
+pub fn move_outputs(stake: &mut StakeBook, tx: &Tx) -> Result<(), NoMemory>
+    requires in_order { IsMap outref_cmp stake.old.outputs.outputs }
     requires few { length tx.now.outputs ≤ 65535 }
     requires absent { AllByRecursion
-        (λ r. value_at outref_cmp (without_keys outref_cmp tx.now.inputs stake.outputs.outputs) r ≡ None)
+        (λ r. value_at outref_cmp (without_keys outref_cmp tx.now.inputs stake.old.outputs.outputs) r ≡ None)
         (keys_of (made_outputs tx.now)) }
-    requires room { lovelace_in (without_keys outref_cmp tx.now.inputs stake.outputs.outputs)
-        + balances_in (accounts_of stake) + sum_by (λ o. o.lovelace) tx.now.outputs ≤ SUPPLY_LIMIT }
-    ensures { IfOk result (λ after. IsMade stake after tx.now.inputs (made_outputs tx.now) tx.now.id) }
+    requires room { lovelace_in (without_keys outref_cmp tx.now.inputs stake.old.outputs.outputs)
+        + balances_in (accounts_of stake.old) + sum_by (λ o. o.lovelace) tx.now.outputs ≤ SUPPLY_LIMIT }
+    ensures { OnOk result (IsMade stake.old stake.new tx.now.inputs (made_outputs tx.now) tx.now.id) }
 {
-    let stake = without_outputs(stake, tx.inputs.as_slice())?;
-    let mut stake = with_outputs(stake, tx)?;
+    take_outputs(stake, tx.inputs.as_slice())?;
+    put_outputs(stake, tx)?;
     stake.mark_used(tx.id)?;
-    Ok(stake)
+    Ok(())
 }
 
-/// With the collateral return of a transaction, if it has one, in place of its collateral, and with its id among the used ones; beside what the collateral held, in lovelace.
-pub fn with_tx_collateral(stake: StakeBook, tx: &Tx) -> Result<(StakeBook, u64), NoMemory>
-    requires in_order { IsMap outref_cmp stake.outputs.outputs }
+/// Puts the collateral return of a transaction, if it has one, in place of its collateral, and its id among the used ones; it gives what the collateral held, in lovelace. After want of memory the caller drops the book.
+pub fn move_collateral(stake: &mut StakeBook, tx: &Tx) -> Result<u64, NoMemory>
+    requires in_order { IsMap outref_cmp stake.old.outputs.outputs }
     requires few { length tx.now.outputs ≤ 65535 }
     requires absent { AllByRecursion
-        (λ r. value_at outref_cmp (without_keys outref_cmp tx.now.collateral stake.outputs.outputs) r ≡ None)
+        (λ r. value_at outref_cmp (without_keys outref_cmp tx.now.collateral stake.old.outputs.outputs) r ≡ None)
         (keys_of (made_return tx.now)) }
-    requires room { lovelace_in (without_keys outref_cmp tx.now.collateral stake.outputs.outputs)
-        + balances_in (accounts_of stake) + returned tx.now ≤ SUPPLY_LIMIT }
-    requires held { lovelace_in (without_keys outref_cmp tx.now.collateral stake.outputs.outputs)
-        ≤ lovelace_in stake.outputs.outputs }
-    ensures made { IfOk result (λ after. IsMade stake after.0 tx.now.collateral (made_return tx.now) tx.now.id) }
-    ensures left { IfOk result (λ after.
-        lovelace_in (without_keys outref_cmp tx.now.collateral stake.outputs.outputs) + after.1
-        ≡ lovelace_in stake.outputs.outputs) }
+    requires room { lovelace_in (without_keys outref_cmp tx.now.collateral stake.old.outputs.outputs)
+        + balances_in (accounts_of stake.old) + returned tx.now ≤ SUPPLY_LIMIT }
+    requires held { lovelace_in (without_keys outref_cmp tx.now.collateral stake.old.outputs.outputs)
+        ≤ lovelace_in stake.old.outputs.outputs }
+    ensures made { OnOk result (IsMade stake.old stake.new tx.now.collateral (made_return tx.now) tx.now.id) }
+    ensures left { IfOk result (λ collateral.
+        lovelace_in (without_keys outref_cmp tx.now.collateral stake.old.outputs.outputs) + collateral
+        ≡ lovelace_in stake.old.outputs.outputs) }
 {
     let held = stake.outputs().total();
-    let stake = without_outputs(stake, tx.collateral.as_slice())?;
+    take_outputs(stake, tx.collateral.as_slice())?;
     let collateral = held - stake.outputs().total();
-    let mut stake = with_return(stake, tx)?;
+    put_return(stake, tx)?;
     stake.mark_used(tx.id)?;
-    Ok((stake, collateral))
+    Ok(collateral)
 }
 
-/// Without the outputs at these references.
-fn without_outputs(stake: StakeBook, taken: &[OutRef]) -> Result<StakeBook, NoMemory>
-    requires { IsMap outref_cmp stake.outputs.outputs }
-    ensures outputs { IfOk result (λ after. after.outputs ≡ record stake.outputs {
-      outputs = without_keys outref_cmp taken.now stake.outputs.outputs;
+/// Takes the outputs at these references.
+fn take_outputs(stake: &mut StakeBook, taken: &[OutRef]) -> Result<(), NoMemory>
+    requires { IsMap outref_cmp stake.old.outputs.outputs }
+    ensures outputs { OnOk result (stake.new.outputs ≡ record stake.old.outputs {
+      outputs = without_keys outref_cmp taken.now stake.old.outputs.outputs;
     }) }
-    ensures rest { IfOk result (λ after. KeepsAccounts stake after) }
+    ensures rest { OnOk result (KeepsAccounts stake.old stake.new) }
 {
-    let mut stake = stake;
     for at in taken {
         stake.spend(at)?;
     }
-    Ok(stake)
+    Ok(())
 }
 
-/// With the outputs of a transaction, as id#0, id#1 and so on, none of which is there.
-fn with_outputs(stake: StakeBook, tx: &Tx) -> Result<StakeBook, NoMemory>
+/// Puts the outputs of a transaction, as id#0, id#1 and so on, none of which is there.
+fn put_outputs(stake: &mut StakeBook, tx: &Tx) -> Result<(), NoMemory>
     requires few { length tx.now.outputs ≤ 65535 }
     requires absent { AllByRecursion
-        (λ r. value_at outref_cmp stake.outputs.outputs r ≡ None) (keys_of (made_outputs tx.now)) }
-    requires room { HasRoom (sum_by (λ o. o.lovelace) tx.now.outputs) stake }
-    ensures outputs { IfOk result (λ after. after.outputs ≡ record stake.outputs {
-      outputs = with_values outref_cmp (made_outputs tx.now) stake.outputs.outputs;
+        (λ r. value_at outref_cmp stake.old.outputs.outputs r ≡ None) (keys_of (made_outputs tx.now)) }
+    requires room { HasRoom (sum_by (λ o. o.lovelace) tx.now.outputs) stake.old }
+    ensures outputs { OnOk result (stake.new.outputs ≡ record stake.old.outputs {
+      outputs = with_values outref_cmp (made_outputs tx.now) stake.old.outputs.outputs;
     }) }
-    ensures rest { IfOk result (λ after. KeepsAccounts stake after) }
+    ensures rest { OnOk result (KeepsAccounts stake.old stake.new) }
 {
-    let mut stake = stake;
     let mut index = 0u16;
     for output in tx.outputs.as_slice() {
         stake.add(OutRef { tx: tx.id, index }, kept(output))?;
         index += 1;
     }
-    Ok(stake)
+    Ok(())
 }
 
-/// With the collateral return of a transaction, if it has one, at the place after its last output.
-fn with_return(stake: StakeBook, tx: &Tx) -> Result<StakeBook, NoMemory>
+/// Puts the collateral return of a transaction, if it has one, at the place after its last output.
+fn put_return(stake: &mut StakeBook, tx: &Tx) -> Result<(), NoMemory>
     requires few { length tx.now.outputs ≤ 65535 }
     requires absent { AllByRecursion
-        (λ r. value_at outref_cmp stake.outputs.outputs r ≡ None) (keys_of (made_return tx.now)) }
-    requires room { HasRoom (returned tx.now) stake }
-    ensures outputs { IfOk result (λ after. after.outputs ≡ record stake.outputs {
-      outputs = with_values outref_cmp (made_return tx.now) stake.outputs.outputs;
+        (λ r. value_at outref_cmp stake.old.outputs.outputs r ≡ None) (keys_of (made_return tx.now)) }
+    requires room { HasRoom (returned tx.now) stake.old }
+    ensures outputs { OnOk result (stake.new.outputs ≡ record stake.old.outputs {
+      outputs = with_values outref_cmp (made_return tx.now) stake.old.outputs.outputs;
     }) }
-    ensures rest { IfOk result (λ after. KeepsAccounts stake after) }
+    ensures rest { OnOk result (KeepsAccounts stake.old stake.new) }
 {
-    let mut stake = stake;
     if let Some(output) = &tx.collateral_return {
         let index = tx.outputs.len() as u16;
         stake.add(OutRef { tx: tx.id, index }, kept(output))?;
     }
-    Ok(stake)
+    Ok(())
 }
 
 /// What the book keeps of an output that a transaction makes.

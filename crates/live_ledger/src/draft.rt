@@ -182,7 +182,7 @@ impl<'a> Draft<'a> {
         self.hot.names(hot, self.start.hot())
     }
 
-    /// Whether a member of the committee has this hot key. It walks the members, and no other cold key. (Own)
+    /// Whether a member of the committee has this hot key. It walks the members or the cold keys that have it, whichever are fewer. (Own)
     pub fn seats_hot(&self, hot: &Credential) -> bool
         ensures { result ≡ is_seated self.now.ledger hot.now }
     {
@@ -205,11 +205,27 @@ impl<'a> Draft<'a> {
         ensures ok { OnOk result (self.new ≡ with_account c to self.old) }
         ensures err { OnErr result (self.new ≡ self.old) }
     {
-        let before = deposit_in(self.account(&c));
-        let after = deposit_in(to);
+        let before = self.account(&c);
+        self.change_account(c, before, to)
+    }
+
+    /// The same, where the caller has looked up the registration that the credential has. Want of memory changes nothing. (DELEG of the formal specification)
+    pub fn change_account(
+        &mut self,
+        c: Credential,
+        before: Option<Registered>,
+        to: Option<Registered>,
+    ) -> Result<(), NoMemory>
+        requires few { self.old.changes < 2 ^ 32 }
+        requires before { before ≡ account_at self.old.ledger c }
+        ensures ok { OnOk result (self.new ≡ with_account c to self.old) }
+        ensures err { OnErr result (self.new ≡ self.old) }
+    {
+        let held = deposit_in(before);
+        let kept = deposit_in(to);
         self.accounts.set(c, to)?;
-        self.refunds += u128::from(given_back(before, after));
-        self.deposits += u128::from(paid_by(before, after));
+        self.refunds += u128::from(given_back(held, kept));
+        self.deposits += u128::from(paid_by(held, kept));
         self.changes += 1;
         Ok(())
     }

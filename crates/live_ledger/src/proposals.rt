@@ -1,4 +1,4 @@
-ghost use Rattle.std.specs.Prelude.{◌≡◌, ◌+◌, ◌<◌, ◌≤◌, ◌^◌, ◌++◌, IfOk, length, map, sum_by};
+ghost use Rattle.std.specs.Prelude.{◌≡◌, ◌+◌, ◌<◌, ◌≤◌, ◌^◌, ◌++◌, IfOk, OnOk, length, map, sum_by};
 ghost use Rattle.gov_model.specs.Proposals.{deposits_of};
 ghost use Rattle.ledger_model.specs.Transaction.{made_proposal, made_proposals, with_votes};
 ghost use Rattle.live_ledger.specs.Proposed.{IsUnknown};
@@ -12,48 +12,46 @@ use proposal_store::ProposalStore;
 use std::alloc::Global;
 use tx_records::{ProposalRecord, Tx};
 
-/// The live proposals with the votes and then with the proposals of a transaction; `last` is the last epoch in which these may be voted on. (GOV of the formal specification)
-pub fn with_tx_proposals(
+/// Casts the votes of a transaction and then adds its proposals; `last` is the last epoch in which these may be voted on. After want of memory the caller drops the store. (GOV of the formal specification)
+pub fn add_tx_proposals(
     alloc: Global,
-    store: ProposalStore,
+    store: &mut ProposalStore,
     last: u64,
     tx: &Tx,
-) -> Result<ProposalStore, NoMemory>
+) -> Result<(), NoMemory>
     requires few { length tx.now.proposals ≤ 65536 }
-    requires unknown { IsUnknown tx.now.id (map (with_votes tx.now) store) }
-    requires room { deposits_of (map (with_votes tx.now) store)
+    requires unknown { IsUnknown tx.now.id (map (with_votes tx.now) store.old) }
+    requires room { deposits_of (map (with_votes tx.now) store.old)
         + sum_by (λ (p : ProposalRecord). p.deposit) tx.now.proposals < 2 ^ 64 }
-    ensures { IfOk result (λ after. after ≡ map (with_votes tx.now) store ++ made_proposals last tx.now) }
+    ensures { OnOk result (store.new ≡ map (with_votes tx.now) store.old ++ made_proposals last tx.now) }
 {
-    let voted = with_votes(store, tx)?;
-    let proposed = with_proposals(alloc, voted, last, tx)?;
-    Ok(proposed)
+    cast_votes(store, tx)?;
+    add_proposals(alloc, store, last, tx)?;
+    Ok(())
 }
 
-/// The live proposals with the votes of a transaction, a later one of a voter in place of an earlier one. (GOV of the formal specification)
-fn with_votes(store: ProposalStore, tx: &Tx) -> Result<ProposalStore, NoMemory>
-    ensures { IfOk result (λ after. after ≡ map (with_votes tx.now) store) }
+/// Casts the votes of a transaction, a later one of a voter in place of an earlier one. (GOV of the formal specification)
+fn cast_votes(store: &mut ProposalStore, tx: &Tx) -> Result<(), NoMemory>
+    ensures { OnOk result (store.new ≡ map (with_votes tx.now) store.old) }
 {
-    let mut store = store;
     for cast in tx.votes.as_slice() {
         store.vote(&cast.action, cast.voter, cast.vote)?;
     }
-    Ok(store)
+    Ok(())
 }
 
-/// With the proposals of a transaction, as id#0, id#1 and so on, with no votes; `last` is the last epoch in which they may be voted on. (GOV of the formal specification)
-fn with_proposals(
+/// Adds the proposals of a transaction, as id#0, id#1 and so on, with no votes; `last` is the last epoch in which they may be voted on. (GOV of the formal specification)
+fn add_proposals(
     alloc: Global,
-    store: ProposalStore,
+    store: &mut ProposalStore,
     last: u64,
     tx: &Tx,
-) -> Result<ProposalStore, NoMemory>
+) -> Result<(), NoMemory>
     requires few { length tx.now.proposals ≤ 65536 }
-    requires unknown { IsUnknown tx.now.id store }
-    requires room { deposits_of store + sum_by (λ (p : ProposalRecord). p.deposit) tx.now.proposals < 2 ^ 64 }
-    ensures { IfOk result (λ after. after ≡ store ++ made_proposals last tx.now) }
+    requires unknown { IsUnknown tx.now.id store.old }
+    requires room { deposits_of store.old + sum_by (λ (p : ProposalRecord). p.deposit) tx.now.proposals < 2 ^ 64 }
+    ensures { OnOk result (store.new ≡ store.old ++ made_proposals last tx.now) }
 {
-    let mut store = store;
     for (index, proposal) in tx.proposals.as_slice().iter().enumerate() {
         let id = ActionId {
             tx: tx.id,
@@ -61,7 +59,7 @@ fn with_proposals(
         };
         store.add(made(alloc, id, last, proposal)?)?;
     }
-    Ok(store)
+    Ok(())
 }
 
 /// What the ledger keeps of a proposal.

@@ -1,18 +1,19 @@
 //! A transaction is judged by all rules, and applied where it breaks none.
 #![tactic(auto)]
 
-ghost use Rattle.std.specs.Prelude.{◌≡◌, true, IfOk, OnOk};
+ghost use Rattle.std.specs.Prelude.{◌≡◌, None, true, IfOk, OnOk};
 ghost use Rattle.ledger_model.specs.Broken.{body_checks, first_broken, is_allowed};
 ghost use Rattle.ledger_model.specs.Checks.{first_among};
 ghost use Rattle.ledger_model.specs.Draft.{last_draft};
 ghost use Rattle.ledger_model.specs.Transaction.{accepted_as, ledger_after_tx, tx_step};
-ghost use Rattle.ledger_model.specs.UtxoRules.{unless_failed};
+ghost use Rattle.ledger_model.specs.UtxoRules.{unless_failed, utxo_checks};
 ghost use Rattle.draft_changes.specs.Changed.{laid_over};
 ghost use Rattle.live_ledger.specs.Drafts.{draft_at, draft_of};
 ghost use Rattle.rule_checks.specs.Answered.{IsAnswered};
 ghost use Rattle.run_model.specs.World.{on_ledger};
 ghost use Rattle.tx_records.specs.TxLimits.{is_within_limits};
 ghost use Rattle.tx_rule.specs.Judged.{IsJudged};
+ghost use Rattle.utxo_rules.specs.Spent.{IsSpent};
 
 mod certs;
 mod drafted;
@@ -28,7 +29,7 @@ use live_ledger::{Draft, LiveLedger};
 use rule_checks::as_fault;
 use std::alloc::Global;
 use tx_records::{Reply, Rule, Scripts, Tx, TxFault};
-use utxo_rules::check;
+use utxo_rules::check_spent;
 
 /// Judges a transaction, and applies it where it breaks no rule; the state of a refused one is the one that was given, and all that epochs add stays. After want of memory there is no state. (LEDGER of the formal specification)
 pub fn apply_tx(alloc: Global, s: LedgerState, tx: &Tx) -> Result<(LedgerState, Reply), NoMemory>
@@ -61,9 +62,21 @@ fn changes_of(alloc: Global, s: &LiveLedger, tx: &Tx) -> Result<Changes, TxFault
     requires within { is_within_limits tx.now ≡ true }
     ensures { IsJudged result s.now.ledger tx.now }
 {
-    as_fault(check(s, tx))?;
+    match check_spent(s, tx) {
+        Ok(spent) => changes_of_spent(alloc, s, tx, spent),
+        Err(rule) => Err(TxFault::Refused(rule)),
+    }
+}
+
+/// The same of one that breaks none of the first rules, and whose inputs hold so much, in lovelace.
+fn changes_of_spent(alloc: Global, s: &LiveLedger, tx: &Tx, spent: u128) -> Result<Changes, TxFault>
+    requires within { is_within_limits tx.now ≡ true }
+    requires checked { first_among (utxo_checks s.now.ledger tx.now) ≡ None }
+    requires spent { IsSpent s.now.ledger tx.now.inputs spent }
+    ensures { IsJudged result s.now.ledger tx.now }
+{
     let mut draft = Draft::new(alloc, s);
-    match judge_body(&mut draft, tx) {
+    match judge_body(&mut draft, tx, spent) {
         Ok(()) => Ok(draft.into_changes()),
         Err(fault) => {
             drop(draft);
@@ -73,23 +86,25 @@ fn changes_of(alloc: Global, s: &LiveLedger, tx: &Tx) -> Result<Changes, TxFault
 }
 
 /// Makes the draft of the transaction, or tells the first rule of its body that it breaks. One whose scripts failed need not keep them, and changes nothing in the draft.
-fn judge_body(draft: &mut Draft, tx: &Tx) -> Result<(), TxFault>
+fn judge_body(draft: &mut Draft, tx: &Tx, spent: u128) -> Result<(), TxFault>
     requires within { is_within_limits tx.now ≡ true }
     requires fresh { draft.old ≡ draft_at draft.old.start }
+    requires spent { IsSpent draft.old.start tx.now.inputs spent }
     ensures rule { IsAnswered (first_among (unless_failed tx.now.scripts (body_checks draft.old.start tx.now))) result }
     ensures ledger { OnOk result (draft.new.ledger ≡ draft_of draft.old.start tx.now) }
     ensures start { draft.new.start ≡ draft.old.start }
 {
     match tx.scripts {
         Scripts::Failed => Ok(()),
-        Scripts::Absent | Scripts::Passed => judge_passed(draft, tx),
+        Scripts::Absent | Scripts::Passed => judge_passed(draft, tx, spent),
     }
 }
 
 /// The same of one whose scripts did not fail: its withdrawals, what its proposals and votes refresh, its certificates, and what is asked after them.
-fn judge_passed(draft: &mut Draft, tx: &Tx) -> Result<(), TxFault>
+fn judge_passed(draft: &mut Draft, tx: &Tx, spent: u128) -> Result<(), TxFault>
     requires within { is_within_limits tx.now ≡ true }
     requires fresh { draft.old ≡ draft_at draft.old.start }
+    requires spent { IsSpent draft.old.start tx.now.inputs spent }
     ensures rule { IsAnswered (first_among (body_checks draft.old.start tx.now)) result }
     ensures ledger { OnOk result (draft.new.ledger ≡ last_draft draft.old.start tx.now) }
     ensures start { draft.new.start ≡ draft.old.start }
@@ -97,7 +112,7 @@ fn judge_passed(draft: &mut Draft, tx: &Tx) -> Result<(), TxFault>
     withdraw(draft, tx)?;
     refresh(draft, tx)?;
     certify(draft, tx)?;
-    as_fault(check_drafted(draft, tx))
+    as_fault(check_drafted(draft, tx, spent))
 }
 
 /// The state after a transaction that breaks no rule, whose changes these are, and the reply to it.

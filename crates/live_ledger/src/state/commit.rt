@@ -1,4 +1,4 @@
-ghost use Rattle.std.specs.Prelude.{◌≡◌, ◌+◌, ◌<◌, ◌≤◌, ◌^◌, ◌++◌, false, true, IfOk, None, length, map, sum_by};
+ghost use Rattle.std.specs.Prelude.{◌≡◌, ◌+◌, ◌<◌, ◌≤◌, ◌^◌, ◌++◌, false, true, IfOk, OnOk, None, length, map, sum_by};
 ghost use Rattle.std.specs.List.{AllByRecursion};
 ghost use Rattle.std.specs.Map.{keys_of};
 ghost use Rattle.book_records.specs.Outputs.{lovelace_in};
@@ -21,8 +21,8 @@ ghost use Rattle.tx_records.specs.declared.tx.ProposalRecord.{ProposalRecord};
 ghost use Rattle.tx_records.specs.declared.tx.TxOutput.{TxOutput};
 
 use super::LiveLedger;
-use crate::books::{with_tx_collateral, with_tx_outputs};
-use crate::proposals::with_tx_proposals;
+use crate::books::{move_collateral, move_outputs};
+use crate::proposals::add_tx_proposals;
 use coin_frac::NoMemory;
 use draft_changes::{Changes, Voters};
 use proposal_store::ProposalStore;
@@ -40,7 +40,10 @@ impl LiveLedger {
     {
         match tx.scripts {
             Scripts::Absent | Scripts::Passed => self.passed(changes, tx),
-            Scripts::Failed => self.failed(tx),
+            Scripts::Failed => {
+                drop(changes);
+                self.failed(tx)
+            }
         }
     }
 
@@ -59,23 +62,25 @@ impl LiveLedger {
             hot: self.hot,
         };
         match changes.lay_over(self.alloc, self.epoch, self.stake, self.proposals, voters) {
-            Ok((laid, cleared, voters)) => match with_tx(self.alloc, last, laid, cleared, tx) {
-                Ok((stake, proposals)) => Ok(LiveLedger {
-                    fees: self.fees + tx.fee,
-                    donations: self.donations + tx.donation,
-                    stake,
-                    pools: voters.pools,
-                    dreps: voters.dreps,
-                    hot: voters.hot,
-                    proposals,
-                    ..self
-                }),
-                Err(error) => {
-                    // let go in one call: a `?` would prove it part by part
-                    drop((self.state, voters));
-                    Err(error)
+            Ok((mut stake, mut proposals, voters)) => {
+                match apply(self.alloc, last, &mut stake, &mut proposals, tx) {
+                    Ok(()) => Ok(LiveLedger {
+                        fees: self.fees + tx.fee,
+                        donations: self.donations + tx.donation,
+                        stake,
+                        pools: voters.pools,
+                        dreps: voters.dreps,
+                        hot: voters.hot,
+                        proposals,
+                        ..self
+                    }),
+                    Err(error) => {
+                        // let go in one call: a `?` would prove it part by part
+                        drop((self.state, stake, proposals, voters));
+                        Err(error)
+                    }
                 }
-            },
+            }
             Err(error) => {
                 drop(self.state);
                 Err(error)
@@ -90,47 +95,55 @@ impl LiveLedger {
         requires failed { is_failed tx.now.scripts ≡ true }
         ensures { IfOk result (λ s. s ≡ on_ledger (λ l. ledger_after_tx l tx.now) self) }
     {
-        match with_tx_collateral(self.stake, tx) {
-            Ok((stake, collateral)) => Ok(LiveLedger {
+        let mut stake = self.stake;
+        match move_collateral(&mut stake, tx) {
+            Ok(collateral) => Ok(LiveLedger {
                 fees: self.fees + (collateral - returned(tx)),
                 stake,
                 ..self
             }),
             Err(error) => {
                 // let go in one call: a `?` would prove it part by part
-                drop((self.state, self.pools, self.dreps, self.hot, self.proposals));
+                drop((
+                    self.state,
+                    stake,
+                    self.pools,
+                    self.dreps,
+                    self.hot,
+                    self.proposals,
+                ));
                 Err(error)
             }
         }
     }
 }
 
-/// The outputs and the proposals after an allowed transaction, over which its changes are laid.
-fn with_tx(
+/// Changes the outputs and the proposals as an allowed transaction says, over which its changes are laid. After want of memory the caller drops both.
+fn apply(
     alloc: Global,
     last: u64,
-    stake: StakeBook,
-    proposals: ProposalStore,
+    stake: &mut StakeBook,
+    proposals: &mut ProposalStore,
     tx: &Tx,
-) -> Result<(StakeBook, ProposalStore), NoMemory>
-    requires in_order { IsMap outref_cmp stake.outputs.outputs }
+) -> Result<(), NoMemory>
+    requires in_order { IsMap outref_cmp stake.old.outputs.outputs }
     requires few_outputs { length tx.now.outputs ≤ 65535 }
     requires absent { AllByRecursion
-        (λ r. value_at outref_cmp (without_keys outref_cmp tx.now.inputs stake.outputs.outputs) r ≡ None)
+        (λ r. value_at outref_cmp (without_keys outref_cmp tx.now.inputs stake.old.outputs.outputs) r ≡ None)
         (keys_of (made_outputs tx.now)) }
-    requires room { lovelace_in (without_keys outref_cmp tx.now.inputs stake.outputs.outputs)
-        + balances_in (accounts_of stake) + sum_by (λ (o : TxOutput). o.lovelace) tx.now.outputs ≤ SUPPLY_LIMIT }
+    requires room { lovelace_in (without_keys outref_cmp tx.now.inputs stake.old.outputs.outputs)
+        + balances_in (accounts_of stake.old) + sum_by (λ (o : TxOutput). o.lovelace) tx.now.outputs ≤ SUPPLY_LIMIT }
     requires few_proposals { length tx.now.proposals ≤ 65536 }
-    requires unknown { IsUnknown tx.now.id (map (with_votes tx.now) proposals) }
-    requires deposits { deposits_of (map (with_votes tx.now) proposals)
+    requires unknown { IsUnknown tx.now.id (map (with_votes tx.now) proposals.old) }
+    requires deposits { deposits_of (map (with_votes tx.now) proposals.old)
         + sum_by (λ (p : ProposalRecord). p.deposit) tx.now.proposals < 2 ^ 64 }
-    ensures made { IfOk result (λ after. IsMade stake after.0 tx.now.inputs (made_outputs tx.now) tx.now.id) }
-    ensures proposed { IfOk result (λ after.
-        after.1 ≡ map (with_votes tx.now) proposals ++ made_proposals last tx.now) }
+    ensures made { OnOk result (IsMade stake.old stake.new tx.now.inputs (made_outputs tx.now) tx.now.id) }
+    ensures proposed { OnOk result
+        (proposals.new ≡ map (with_votes tx.now) proposals.old ++ made_proposals last tx.now) }
 {
-    let stake = with_tx_outputs(stake, tx)?;
-    let proposals = with_tx_proposals(alloc, proposals, last, tx)?;
-    Ok((stake, proposals))
+    move_outputs(stake, tx)?;
+    add_tx_proposals(alloc, proposals, last, tx)?;
+    Ok(())
 }
 
 /// What the collateral return of a transaction gives back, 0 where it has none, in lovelace.

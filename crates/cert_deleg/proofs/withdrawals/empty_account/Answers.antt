@@ -9,9 +9,9 @@ use Rattle.std.proofs.Common.{List}
 use Rattle.cert_deleg.proofs.Delegating.{emptied_one}
 use Rattle.cert_deleg.proofs.withdrawals.empty_account.Goals as goal
 
-pub returns-in_ok-set_account-in-Some-clause-ledger : goal.returns-in_ok-set_account-in-Some-clause-ledger
-returns-in_ok-set_account-in-Some-clause-ledger c =
-    ap (λ (d : Drafted). d.ledger) c.in_ok-set_account-in-Some.ensures.ok
+pub returns-in_ok-change_account-in-Some-clause-ledger : goal.returns-in_ok-change_account-in-Some-clause-ledger
+returns-in_ok-change_account-in-Some-clause-ledger c =
+    ap (λ (d : Drafted). d.ledger) c.in_ok-change_account-in-Some.ensures.ok
     ∙ emptied_one c.args.d.now c.args.c c.in-Some.registered c.in-Some.ensures.map (sym c.in-Some.ensures.value)
 
 pub returns-in-None-clause-ledger : goal.returns-in-None-clause-ledger

@@ -29,4 +29,4 @@ returns c =
     let tx = c.args.tx.now in
     let proposals = c.in_ok-check.ensures ∙ ap (λ (d : Ledger). answer_of (per_place (proposal_checks l d) tx.proposals)) c.requires.drafted in
     let votes = c.in_ok-check-2.ensures ∙ ap (λ (d : Ledger). answer_of (per_place (vote_checks l d) tx.votes)) c.requires.drafted in
-    drafted_answer l tx _ (later _ _ _ proposals (later _ _ _ votes c.balance.ensures))
+    drafted_answer l tx _ (later _ _ _ proposals (later _ _ _ votes c.balance_of_spent.ensures))

@@ -9,6 +9,6 @@ use Rattle.draft_changes.proofs.account_changes.AccountChanges.lay_over.Goals as
 pub with_accounts-requires-clause-lower : goal.with_accounts-requires-clause-lower
 with_accounts-requires-clause-lower c =
     let accounts = accounts_of c.args.stake in
-    subst (λ (es : List (Credential × Registered)). NoneRises (standing_of c.self.inside.left.entries c.self.inside.entries.entries) es) (sym c.in_ok-stake.ensures.accounts)
+    subst (λ (es : List (Credential × Registered)). NoneRises (standing_of c.self.inside.left.entries c.self.inside.entries.entries) es) (sym c.in-Ok.ensures.accounts)
     (subst (λ (a : ChangedAccounts). NoneRises a.accounts (without_dreps c.args.left.now accounts)) (sym c.self.view_is)
     (subst (λ (ks : List Credential). NoneRises c.args.self.accounts (without_dreps ks accounts)) (sym c.requires.left) c.requires.lower))

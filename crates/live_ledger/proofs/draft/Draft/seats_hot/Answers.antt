@@ -1,17 +1,11 @@
-use Rattle.std.proofs.Common.{List, ap, subst, sym, ◌∙◌}
-use Rattle.gov_ids.specs.declared.Credential.{Credential}
+use Rattle.std.proofs.Common.{ap, ◌∙◌}
 use Rattle.gov_ids.specs.Orders.{credential_cmp}
 use Rattle.gov_actions.specs.declared.state.EnactState.{EnactState}
-use Rattle.gov_actions.specs.declared.state.HotState.{HotState}
 use Rattle.gov_model.specs.Hot.{is_named, of_members}
 use Rattle.ledger_model.specs.ProposalRules.{is_seated}
-use Rattle.maps.specs.Maps.{IsMap, with_values}
+use Rattle.maps.specs.Maps.{with_values}
 use Rattle.live_ledger.specs.Drafts.{Drafted}
 use Rattle.live_ledger.proofs.draft.Draft.seats_hot.Goals as goal
-
-pub seats-requires : goal.seats-requires
-seats-requires c =
-    record { in_order = subst (λ (es : List (Credential × HotState)). IsMap credential_cmp es) (sym c.hot.ensures) c.self.invariant.kept.sound.hot }
 
 pub returns : goal.returns
 returns c =

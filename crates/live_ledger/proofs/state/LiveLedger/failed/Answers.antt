@@ -9,8 +9,8 @@ use Rattle.live_ledger.proofs.Committing.{failing, few_outputs}
 use Rattle.live_ledger.proofs.Parts.{failed_parts}
 use Rattle.live_ledger.proofs.state.LiveLedger.failed.Goals as goal
 
-pub with_tx_collateral-requires : goal.with_tx_collateral-requires
-with_tx_collateral-requires c =
+pub move_collateral-requires : goal.move_collateral-requires
+move_collateral-requires c =
     let l = (the_view c.self.inside).ledger in
     let e = ap (λ (s : Standing). s.ledger) c.self.view_is in
     let f = failing l c.args.self.ledger c.args.tx.now e c.self.invariant c.requires.within c.requires.allowed c.requires.failed in
@@ -38,7 +38,7 @@ invariant_of-result c =
     let e = ap (λ (s : Standing). s.ledger) c.self.view_is in
     let f = failing l c.args.self.ledger c.args.tx.now e c.self.invariant c.requires.within c.requires.allowed c.requires.failed in
     let paid : c.in-Ok.collateral - c.returned.result ≡ collateral_left (the_view c.self.inside).ledger c.args.tx.now = omega (arith, c.in-Ok.ensures.left, f.taken, f.covered, c.returned.ensures) in
-    subst (λ (x : Ledger). IsKept x) (sym (failed_parts l c.args.tx.now c.self.inside.stake c.in-Ok.stake _ c.in-Ok.ensures.made paid)) f.kept
+    subst (λ (x : Ledger). IsKept x) (sym (failed_parts l c.args.tx.now c.self.inside.stake c.move_collateral.new.stake _ c.in-Ok.ensures.made paid)) f.kept
 
 pub returns-in-Ok : goal.returns-in-Ok
 returns-in-Ok c =
@@ -47,6 +47,6 @@ returns-in-Ok c =
     let f = failing l c.args.self.ledger c.args.tx.now e c.self.invariant c.requires.within c.requires.allowed c.requires.failed in
     let paid : c.in-Ok.collateral - c.returned.result ≡ collateral_left (the_view c.self.inside).ledger c.args.tx.now = omega (arith, c.in-Ok.ensures.left, f.taken, f.covered, c.returned.ensures) in
     let made = c.in-Ok.ensures.made in
-    let ledger = failed_parts l c.args.tx.now c.self.inside.stake c.in-Ok.stake _ made paid ∙ f.is ∙ ap (λ (x : Ledger). ledger_after_tx x c.args.tx.now) e in
+    let ledger = failed_parts l c.args.tx.now c.self.inside.stake c.move_collateral.new.stake _ made paid ∙ f.is ∙ ap (λ (x : Ledger). ledger_after_tx x c.args.tx.now) e in
     let frozen = made.kept.frozen ∙ ap (λ (s : Standing). s.frozen) c.self.view_is in
     λ i. record { ledger = ledger i; frozen = frozen i }

@@ -12,7 +12,7 @@ use Rattle.maps.specs.Maps.{value_at, without_keys}
 use Rattle.stake_book.specs.Stakes.{balances_in}
 use Rattle.utxo_set.specs.Utxos.{Utxos}
 use Rattle.live_ledger.proofs.Parts.{made_from_taken, taken_from}
-use Rattle.live_ledger.proofs.books.with_tx_collateral.Goals as goal
+use Rattle.live_ledger.proofs.books.move_collateral.Goals as goal
 
 -- the outputs that are left are those without the collateral
 left_is : (rs taken : List OutRef) (before after : Utxos) → rs ≡ taken → after ≡ record before { outputs = without_keys outref_cmp rs before.outputs } → after.outputs ≡ without_keys outref_cmp taken before.outputs
@@ -23,28 +23,28 @@ pub overflow_sub-collateral : goal.overflow_sub-collateral
 overflow_sub-collateral c =
     let held = c.total-held.ensures.sum ∙ ap (λ (u : Utxos). lovelace_in u.outputs) c.outputs.ensures.value in
     let kept = c.total.ensures.sum ∙ ap (λ (u : Utxos). lovelace_in u.outputs) c.outputs-2.ensures.value in
-    omega (arith, c.requires.held, held, kept, ap (λ (es : List (OutRef × Output)). lovelace_in es) (left_is _ c.args.tx.now.collateral c.args.stake.outputs c.in_ok-stake.stake.outputs c.as_slice.ensures c.in_ok-stake.ensures.outputs))
+    omega (arith, c.requires.held, held, kept, ap (λ (es : List (OutRef × Output)). lovelace_in es) (left_is _ c.args.tx.now.collateral c.args.stake.now.outputs c.take_outputs.new.stake.outputs c.as_slice.ensures c.in_ok-take_outputs.ensures.outputs))
 
-pub with_return-requires-clause-absent : goal.with_return-requires-clause-absent
-with_return-requires-clause-absent c =
-    subst (λ (es : List (OutRef × Output)). AllByRecursion (λ r. value_at outref_cmp es r ≡ None) (keys_of (made_return c.args.tx.now))) (sym (left_is _ c.args.tx.now.collateral c.args.stake.outputs c.in_ok-stake.stake.outputs c.as_slice.ensures c.in_ok-stake.ensures.outputs)) c.requires.absent
+pub put_return-requires-clause-absent : goal.put_return-requires-clause-absent
+put_return-requires-clause-absent c =
+    subst (λ (es : List (OutRef × Output)). AllByRecursion (λ r. value_at outref_cmp es r ≡ None) (keys_of (made_return c.args.tx.now))) (sym (left_is _ c.args.tx.now.collateral c.args.stake.now.outputs c.take_outputs.new.stake.outputs c.as_slice.ensures c.in_ok-take_outputs.ensures.outputs)) c.requires.absent
 
-pub with_return-requires-clause-room : goal.with_return-requires-clause-room
-with_return-requires-clause-room c =
+pub put_return-requires-clause-room : goal.put_return-requires-clause-room
+put_return-requires-clause-room c =
     omega (
       arith,
       c.requires.room,
-      ap (λ (es : List (OutRef × Output)). lovelace_in es) (left_is _ c.args.tx.now.collateral c.args.stake.outputs c.in_ok-stake.stake.outputs c.as_slice.ensures c.in_ok-stake.ensures.outputs),
-      ap (λ (es : List (Credential × Registered)). balances_in es) c.in_ok-stake.ensures.rest.accounts,
+      ap (λ (es : List (OutRef × Output)). lovelace_in es) (left_is _ c.args.tx.now.collateral c.args.stake.now.outputs c.take_outputs.new.stake.outputs c.as_slice.ensures c.in_ok-take_outputs.ensures.outputs),
+      ap (λ (es : List (Credential × Registered)). balances_in es) c.in_ok-take_outputs.ensures.rest.accounts,
     )
 
 pub returns-clause-made : goal.returns-clause-made
 returns-clause-made c =
-    let taken = taken_from c.args.stake c.in_ok-stake.stake _ c.args.tx.now.collateral c.as_slice.ensures c.in_ok-stake.ensures.outputs c.in_ok-stake.ensures.rest in
-    made_from_taken c.args.stake c.in_ok-stake.stake c.in_ok-stake-2.stake c.mark_used.new.self c.args.tx.now.collateral (made_return c.args.tx.now) c.args.tx.now.id taken c.in_ok-stake-2.ensures.outputs c.in_ok-stake-2.ensures.rest c.in_ok-mark_used.ensures.ok
+    let taken = taken_from c.args.stake.now c.take_outputs.new.stake _ c.args.tx.now.collateral c.as_slice.ensures c.in_ok-take_outputs.ensures.outputs c.in_ok-take_outputs.ensures.rest in
+    made_from_taken c.args.stake.now c.take_outputs.new.stake c.put_return.new.stake c.mark_used.new.self c.args.tx.now.collateral (made_return c.args.tx.now) c.args.tx.now.id taken c.in_ok-put_return.ensures.outputs c.in_ok-put_return.ensures.rest c.in_ok-mark_used.ensures.ok
 
 pub returns-clause-left : goal.returns-clause-left
 returns-clause-left c =
     let held = c.total-held.ensures.sum ∙ ap (λ (u : Utxos). lovelace_in u.outputs) c.outputs.ensures.value in
     let kept = c.total.ensures.sum ∙ ap (λ (u : Utxos). lovelace_in u.outputs) c.outputs-2.ensures.value in
-    omega (arith, c.requires.held, held, kept, ap (λ (es : List (OutRef × Output)). lovelace_in es) (left_is _ c.args.tx.now.collateral c.args.stake.outputs c.in_ok-stake.stake.outputs c.as_slice.ensures c.in_ok-stake.ensures.outputs))
+    omega (arith, c.requires.held, held, kept, ap (λ (es : List (OutRef × Output)). lovelace_in es) (left_is _ c.args.tx.now.collateral c.args.stake.now.outputs c.take_outputs.new.stake.outputs c.as_slice.ensures c.in_ok-take_outputs.ensures.outputs))

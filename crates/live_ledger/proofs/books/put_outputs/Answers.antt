@@ -10,13 +10,13 @@ use Rattle.std.proofs.lemmas.List.Sums.{sum_by-drop_more}
 use Rattle.stake_book.specs.Stakes.{Stakes, accounts_of, balances_in}
 use Rattle.tx_balance.proofs.Outputs.{made_once}
 use Rattle.live_ledger.proofs.Puts.{made_absent, made_at, made_fresh, made_lovelace, made_rest, made_sum}
-use Rattle.live_ledger.proofs.books.with_outputs.Goals as goal
+use Rattle.live_ledger.proofs.books.put_outputs.Goals as goal
 
 pub loop-output-init : goal.loop-output-init
 loop-output-init c =
     rw c.as_slice-output-items.ensures (record {
       place = refl;
-      fresh = fresh_from_absent outref_total (made_at c.args.tx.now.id 0 c.args.tx.now.outputs) c.args.stake.outputs.outputs (made_once c.args.tx.now.id kept_output 0 c.args.tx.now.outputs) c.requires.absent;
+      fresh = fresh_from_absent outref_total (made_at c.args.tx.now.id 0 c.args.tx.now.outputs) c.args.stake.now.outputs.outputs (made_once c.args.tx.now.id kept_output 0 c.args.tx.now.outputs) c.requires.absent;
       sum = refl;
       rest = refl;
       kept = record { accounts = refl; frozen = refl };
@@ -29,7 +29,7 @@ add-requires-clause-absent c =
 
 pub add-requires-clause-room : goal.add-requires-clause-room
 add-requires-clause-room c =
-    let same : balances_in (accounts_of c.loop-output.stake) ≡ balances_in (accounts_of c.args.stake) = ap (λ (es : List (Credential × Registered)). balances_in es) c.loop-output.invariant.kept.accounts in
+    let same : balances_in (accounts_of c.loop-output.stake) ≡ balances_in (accounts_of c.args.stake.now) = ap (λ (es : List (Credential × Registered)). balances_in es) c.loop-output.invariant.kept.accounts in
     let room = c.requires.room in
     grind (arith, sum_by-drop_more made_lovelace, same, room)
 

@@ -7,7 +7,7 @@ use Rattle.maps.specs.Maps.{IsMap}
 use Rattle.stake_book.specs.Stakes.{Stakes}
 use Rattle.utxo_set.specs.Utxos.{Utxos}
 use Rattle.live_ledger.proofs.Puts.{without, without_next, without_none}
-use Rattle.live_ledger.proofs.books.without_outputs.Goals as goal
+use Rattle.live_ledger.proofs.books.take_outputs.Goals as goal
 
 pub loop-at-preserved : goal.loop-at-preserved
 loop-at-preserved c =

@@ -4,7 +4,7 @@ use Rattle.gov_ids.specs.Orders.{outref_cmp}
 use Rattle.maps.proofs.Fresh.{AreFresh}
 use Rattle.live_ledger.specs.Books.{KeepsAccounts}
 use Rattle.live_ledger.proofs.Puts.{made_at, made_lovelace, with_made}
-use Rattle.live_ledger.proofs.books.with_outputs.Given as goal
+use Rattle.live_ledger.proofs.books.put_outputs.Given as goal
 
 -- what is left is new, and the book with it is the book with all, with the accounts of the first
 abbrev pub invariant-loop-output : goal.invariant-loop-output

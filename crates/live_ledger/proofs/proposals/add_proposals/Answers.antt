@@ -7,7 +7,7 @@ use Rattle.gov_ids.specs.Orders.{voter_cmp}
 use Rattle.maps.specs.Maps.{IsMap}
 use Rattle.tx_records.specs.declared.tx.ProposalRecord.{ProposalRecord}
 use Rattle.live_ledger.proofs.Proposing.{next_made, next_room, next_unknown, proposals_done, proposed_from}
-use Rattle.live_ledger.proofs.proposals.with_proposals.Goals as goal
+use Rattle.live_ledger.proofs.proposals.add_proposals.Goals as goal
 
 pub add-requires-clause-ordered : goal.add-requires-clause-ordered
 unfolding IsStrictlySortedBy
@@ -35,4 +35,4 @@ loop-index-preserved c =
 pub returns : goal.returns
 returns c =
     sym (proposals_done c.args.last c.args.tx.now.id c.as_slice-proposal-items.result.now c.loop-index.index c.loop-index.store c.loop-index-test.false)
-    ∙ c.loop-index.invariant.made ∙ ap (λ (ps : List ProposalRecord). c.args.store ++ proposed_from c.args.last c.args.tx.now.id 0 ps) c.as_slice-proposal-items.ensures
+    ∙ c.loop-index.invariant.made ∙ ap (λ (ps : List ProposalRecord). c.args.store.now ++ proposed_from c.args.last c.args.tx.now.id 0 ps) c.as_slice-proposal-items.ensures

@@ -3,7 +3,7 @@ use Rattle.gov_ids.specs.Orders.{outref_cmp}
 use Rattle.maps.specs.Maps.{IsMap}
 use Rattle.live_ledger.specs.Books.{KeepsAccounts}
 use Rattle.live_ledger.proofs.Puts.{without}
-use Rattle.live_ledger.proofs.books.without_outputs.Given as goal
+use Rattle.live_ledger.proofs.books.take_outputs.Given as goal
 
 -- the book without what is left is the book without all, with the accounts of the first
 abbrev pub invariant-loop-at : goal.invariant-loop-at
