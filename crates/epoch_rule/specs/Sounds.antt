@@ -1,6 +1,8 @@
 -- What the steps of a boundary are asked to begin with. (Own)
-use Rattle.std.specs.Prelude.{ℕ}
+use Rattle.std.specs.Prelude.{◌≡◌, ℕ}
 use Rattle.drep_pulser.specs.Count.{Ended}
+use Rattle.epoch_steps.specs.Decisions.{decided_of}
+use Rattle.epoch_steps.specs.declared.pass.Decided.{Decided}
 use Rattle.gov_model.specs.Snapshot.{Snapshot}
 use Rattle.ledger_books.specs.declared.Books.{Books}
 use Rattle.ledger_books.specs.Parts.{world_of_books}
@@ -12,3 +14,8 @@ use Rattle.tally.specs.Counted.{AreOf}
 pub record AreSoundBooks (b : Books) (counted : ℕ) (s : Snapshot) (f : Frozen) (c : Ended) : Type 0 where
   pub sound : IsSoundWorld (world_of_books b counted s)
   pub frozen : AreOf s f c
+
+-- the same, and this is what the snapshot comes to
+pub record AreDecidedBooks (b : Books) (counted : ℕ) (s : Snapshot) (d : Decided) : Type 0 where
+  pub sound : IsSoundWorld (world_of_books b counted s)
+  pub decided : d ≡ decided_of s

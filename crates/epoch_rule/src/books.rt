@@ -1,6 +1,6 @@
 ghost use Rattle.std.specs.Prelude.{◌≡◌, ◌<◌, ◌^◌, ℕ, IfOk};
 ghost use Rattle.epoch_rule.specs.Lists.{lists_of};
-ghost use Rattle.epoch_rule.specs.Sounds.{AreSoundBooks};
+ghost use Rattle.epoch_rule.specs.Sounds.{AreDecidedBooks, AreSoundBooks};
 ghost use Rattle.epoch_start.specs.Begun.{begun_of};
 ghost use Rattle.gov_model.specs.Snapshot.{Snapshot};
 ghost use Rattle.ledger_books.specs.Parts.{world_of_books};
@@ -48,7 +48,32 @@ pub(crate) fn crossed(
         r.1 ≡ lists_of (world_of_books b counted s)) }
 {
     sound_can_be_counted();
+    match decide(alloc, f, c, cells) {
+        Ok(decided) => applied(alloc, b, decided),
+        Err(fault) => {
+            drop(b);
+            Err(fault)
+        }
+    }
+}
+
+// The same by what was decided.
+fn applied(alloc: Global, b: Books, d: Decided) -> Result<(Books, Lists), NoMemory>
+    requires sound { (counted : ℕ) × (s : Snapshot) × AreDecidedBooks b counted s d }
+    requires early { b.epoch < 2 ^ 62 }
+    ensures begun { IfOk result (λ r. (counted : ℕ) (s : Snapshot) → AreDecidedBooks b counted s d →
+        begun_of r.0 ≡ world_after_boundary (world_of_books b counted s)) }
+    ensures lists { IfOk result (λ r. (counted : ℕ) (s : Snapshot) → AreDecidedBooks b counted s d →
+        r.1 ≡ lists_of (world_of_books b counted s)) }
+{
     payments_are_covered();
+    let (turned, retired) = match before_pass(alloc, b) {
+        Ok(turned) => turned,
+        Err(fault) => {
+            drop(d);
+            return Err(fault);
+        }
+    };
     let Decided {
         ratified,
         expired,
@@ -56,8 +81,7 @@ pub(crate) fn crossed(
         tallies,
         stakes,
         targets,
-    } = decide(alloc, f, c, cells)?;
-    let (turned, retired) = before_pass(alloc, b)?;
+    } = d;
     let (ended, paid, removed) = after_pass(
         alloc,
         turned,

@@ -25,7 +25,6 @@ use std::marker::Model;
 use tx_records::{Pots, Rewards};
 
 /// The whole state after some records: what transactions see, and what epochs add to it. Its pots hold the supply, its maps are maps, what was frozen still stands, and its count is one of what was frozen. (EpochState and NewEpochState of the formal specification)
-#[derive(Drop)]
 pub struct LedgerState {
     alloc: Global,
     live: LiveLedger,
@@ -33,6 +32,22 @@ pub struct LedgerState {
     pending: Option<Rewards>,
     frozen: Frozen,
     pulser: Pulser,
+}
+
+// What lets it go stands here once: a derived one is proved again, part by part, in each crate above.
+impl Drop for LedgerState {
+    fn drop(self) {
+        let LedgerState {
+            alloc: _,
+            live,
+            snapshots,
+            pending,
+            frozen,
+            pulser,
+        } = self;
+        drop(live);
+        drop((snapshots, pending, frozen, pulser));
+    }
 }
 
 impl Model for LedgerState {

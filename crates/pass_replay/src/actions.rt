@@ -1,6 +1,7 @@
 //! Actions, by the number of their type.
 use crate::numbers::Numbers;
 use crate::stop::Result;
+use coin_frac::Unit;
 use credential_list::CredentialList;
 use gov_actions::Action;
 use gov_ids::Account;
@@ -61,6 +62,22 @@ fn narrow(n: &mut Numbers) -> Option<u16> {
     }
 }
 
+fn dreps_thresholds(n: &mut Numbers) -> Option<[Unit; 10]> {
+    if n.is_there() {
+        Some(n.dreps_thresholds())
+    } else {
+        None
+    }
+}
+
+fn pools_thresholds(n: &mut Numbers) -> Option<[Unit; 5]> {
+    if n.is_there() {
+        Some(n.pools_thresholds())
+    } else {
+        None
+    }
+}
+
 // A parameter of each group, security parameters and others, and the thresholds by which the rest of the pass goes.
 fn update(n: &mut Numbers) -> Update {
     Update {
@@ -69,16 +86,8 @@ fn update(n: &mut Numbers) -> Update {
         key_deposit: amount(n),
         min_fee_a: amount(n),
         n_opt: narrow(n),
-        drep_voting_thresholds: if n.is_there() {
-            Some(n.dreps_thresholds())
-        } else {
-            None
-        },
-        pool_voting_thresholds: if n.is_there() {
-            Some(n.pools_thresholds())
-        } else {
-            None
-        },
+        drep_voting_thresholds: dreps_thresholds(n),
+        pool_voting_thresholds: pools_thresholds(n),
         committee_min_size: narrow(n),
         committee_max_term_length: wide(n),
         gov_action_deposit: amount(n),

@@ -63,16 +63,35 @@ fn pools(alloc: Global, n: &mut Numbers) -> Result<Vec<FrozenPool>> {
     Ok(all)
 }
 
-fn of_parts(
-    epoch: u64,
-    start: EnactState,
+// The lists of a snapshot.
+#[derive(Drop)]
+struct Parts {
     hot: Vec<(Credential, HotState)>,
     dreps: Vec<(Credential, u64)>,
     pools: Vec<FrozenPool>,
     proposals: Listed<Proposal>,
-) -> Frozen
-    requires distinct { HaveDistinctIds proposals }
-    requires voters { All (λ (a : Proposal). IsMap voter_cmp a.votes) proposals }
+}
+
+// Hot keys, DReps with their expiries, pools and proposals.
+fn lists(alloc: Global, n: &mut Numbers) -> Result<Parts>
+    ensures distinct { IfOk result (λ l. HaveDistinctIds l.proposals) }
+    ensures voters { IfOk result (λ l. All (λ (a : Proposal). IsMap voter_cmp a.votes) l.proposals) }
+{
+    let hot = hot(alloc, n)?;
+    let dreps = n.pairs(alloc)?;
+    let pools = pools(alloc, n)?;
+    let proposals = proposals(alloc, n)?;
+    Ok(Parts {
+        hot,
+        dreps,
+        pools,
+        proposals,
+    })
+}
+
+fn of_parts(epoch: u64, start: EnactState, lists: Parts) -> Frozen
+    requires distinct { HaveDistinctIds lists.proposals }
+    requires voters { All (λ (a : Proposal). IsMap voter_cmp a.votes) lists.proposals }
     requires members { IsMap credential_cmp (members_of start.committee) }
     ensures distinct { HaveDistinctIds result.proposals }
     ensures voters { All (λ (a : Proposal). IsMap voter_cmp a.votes) result.proposals }
@@ -81,14 +100,14 @@ fn of_parts(
     Frozen {
         epoch,
         start,
-        dreps: Listed::from_vec(dreps),
-        pools: Listed::from_vec(pools),
-        hot: HotList::from_vec(hot),
-        proposals,
+        dreps: Listed::from_vec(lists.dreps),
+        pools: Listed::from_vec(lists.pools),
+        hot: HotList::from_vec(lists.hot),
+        proposals: lists.proposals,
     }
 }
 
-// The epoch, the state from which the pass starts, hot keys, DReps with their expiries, pools and proposals.
+// The epoch, the state from which the pass starts, and the lists.
 pub(crate) fn frozen(alloc: Global, n: &mut Numbers) -> Result<Frozen>
     ensures distinct { IfOk result (λ f. HaveDistinctIds f.proposals) }
     ensures voters { IfOk result (λ f. All (λ (a : Proposal). IsMap voter_cmp a.votes) f.proposals) }
@@ -96,8 +115,11 @@ pub(crate) fn frozen(alloc: Global, n: &mut Numbers) -> Result<Frozen>
 {
     let epoch = n.next();
     let start = start(alloc, n)?;
-    let hot = hot(alloc, n)?;
-    let dreps = n.pairs(alloc)?;
-    let pools = pools(alloc, n)?;
-    Ok(of_parts(epoch, start, hot, dreps, pools, proposals(alloc, n)?))
+    match lists(alloc, n) {
+        Ok(lists) => Ok(of_parts(epoch, start, lists)),
+        Err(stop) => {
+            drop(start);
+            Err(stop)
+        }
+    }
 }

@@ -48,14 +48,22 @@ fn is_in_order(votes: &[(Voter, Vote)]) -> bool
 }
 
 fn proposal(alloc: Global, n: &mut Numbers) -> Result<Proposal> {
-    Ok(Proposal {
-        id: n.id(),
-        deposit: n.next(),
-        account: n.account(),
-        expires_after: n.next(),
-        action: action(alloc, n)?,
-        votes: votes(alloc, n)?,
-    })
+    let (id, deposit, account, expires_after) = (n.id(), n.next(), n.account(), n.next());
+    let action = action(alloc, n)?;
+    match votes(alloc, n) {
+        Ok(votes) => Ok(Proposal {
+            id,
+            action,
+            deposit,
+            account,
+            expires_after,
+            votes,
+        }),
+        Err(stop) => {
+            drop(action);
+            Err(stop)
+        }
+    }
 }
 
 fn none(alloc: Global) -> Listed<Proposal>
@@ -97,6 +105,14 @@ fn check_order(votes: &Listed<(Voter, Vote)>) -> Result<()>
     }
 }
 
+fn check_next(first: &Proposal, rest: &Listed<Proposal>) -> Result<()>
+    ensures new { IfOk result (λ _. list_all (λ (p : Proposal). not (same_action first.now.id p.id)) rest.now ≡ true) }
+    ensures order { IfOk result (λ _. IsMap voter_cmp first.now.votes) }
+{
+    check_new(rest, first.id)?;
+    check_order(&first.votes)
+}
+
 // One more proposal, before the others.
 fn before(first: Proposal, rest: Listed<Proposal>) -> Result<Listed<Proposal>>
     requires distinct { HaveDistinctIds rest }
@@ -104,8 +120,24 @@ fn before(first: Proposal, rest: Listed<Proposal>) -> Result<Listed<Proposal>>
     ensures distinct { IfOk result HaveDistinctIds }
     ensures voters { IfOk result (All (λ (a : Proposal). IsMap voter_cmp a.votes)) }
 {
-    check_new(&rest, first.id)?;
-    check_order(&first.votes)?;
+    match check_next(&first, &rest) {
+        Ok(()) => inserted(first, rest),
+        Err(stop) => {
+            drop((first, rest));
+            Err(stop)
+        }
+    }
+}
+
+// The same of one with a new id, whose voters stand in order.
+fn inserted(first: Proposal, rest: Listed<Proposal>) -> Result<Listed<Proposal>>
+    requires new { list_all (λ (p : Proposal). not (same_action first.id p.id)) rest ≡ true }
+    requires order { IsMap voter_cmp first.votes }
+    requires distinct { HaveDistinctIds rest }
+    requires voters { All (λ (a : Proposal). IsMap voter_cmp a.votes) rest }
+    ensures distinct { IfOk result HaveDistinctIds }
+    ensures voters { IfOk result (All (λ (a : Proposal). IsMap voter_cmp a.votes)) }
+{
     let mut all = rest;
     all.insert(0, first)?;
     Ok(all)

@@ -119,7 +119,10 @@ fn with_committee(
         tx: TxId([0; 32]),
         index: 0,
     };
-    Ok(bare.apply(alloc, id, &committee(alloc, members, threshold))?)
+    let action = committee(alloc, members, threshold);
+    let applied = bare.apply(alloc, id, &action);
+    drop(action);
+    Ok(applied?)
 }
 
 fn last_ids(n: &mut Numbers) -> LastIds {
@@ -145,15 +148,30 @@ fn bare_start(n: &mut Numbers) -> EnactState
     bare(params, treasury, version, document, n.script())
 }
 
+// The committee that is read, where there is none.
+fn seated(alloc: Global, bare: EnactState, n: &mut Numbers) -> Result<EnactState>
+    requires { IsMap credential_cmp (members_of bare.committee) }
+    ensures { IfOk result (λ s. IsMap credential_cmp (members_of s.committee)) }
+{
+    match n.pairs(alloc) {
+        Ok(members) => with_committee(alloc, bare, members, n.unit()),
+        Err(stop) => {
+            drop(bare);
+            Err(stop)
+        }
+    }
+}
+
 // The thresholds, the treasury and the constitution, the committee where there is one, and the last enacted ids.
 pub(crate) fn start(alloc: Global, n: &mut Numbers) -> Result<EnactState>
     ensures { IfOk result (λ s. IsMap credential_cmp (members_of s.committee)) }
 {
-    let mut state = bare_start(n);
-    if n.is_there() {
-        let members = n.pairs(alloc)?;
-        state = with_committee(alloc, state, members, n.unit())?;
-    }
+    let bare = bare_start(n);
+    let mut state = if n.is_there() {
+        seated(alloc, bare, n)?
+    } else {
+        bare
+    };
     state.last = last_ids(n);
     Ok(state)
 }

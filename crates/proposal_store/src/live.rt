@@ -15,11 +15,20 @@ use std::collections::btree_map::Iter;
 use std::marker::Model;
 
 /// A live proposal whose votes stand in a tree, so that no vote walks those that stand. Contracts see the proposal. (GovActionState of the formal specification)
-#[derive(Drop)]
 pub struct LiveProposal {
     // what was proposed, whose own list of votes is not read
     proposal: Proposal,
     votes: BTreeMap<Voter, Vote>,
+}
+
+// What lets it go stands here once: a derived one is proved again, part by part, in each crate above.
+impl Drop for LiveProposal {
+    fn drop(self) {
+        let LiveProposal {
+            proposal: _proposal,
+            votes: _votes,
+        } = self;
+    }
 }
 
 impl Model for LiveProposal {

@@ -28,7 +28,6 @@ use std::marker::Model;
 use std::mem;
 
 /// The live proposals with their votes, in order of submission. (GovState of the formal specification)
-#[derive(Drop)]
 pub struct ProposalStore {
     alloc: Global,
     proposals: IndexMap<ActionId, LiveProposal>,
@@ -36,6 +35,20 @@ pub struct ProposalStore {
     voted: VotedOn,
     added: AddedKeys,
     deposits: u64,
+}
+
+// What lets it go stands here once: a derived one is proved again, part by part, in each crate above.
+impl Drop for ProposalStore {
+    fn drop(self) {
+        let ProposalStore {
+            alloc: _alloc,
+            proposals: _proposals,
+            families: _families,
+            voted: _voted,
+            added: _added,
+            deposits: _deposits,
+        } = self;
+    }
 }
 
 impl Model for ProposalStore {
@@ -132,7 +145,25 @@ impl ProposalStore {
         let alloc = self.alloc;
         let keep = set_of(alloc, keep)?;
         let old = mem::replace(self, ProposalStore::new(alloc));
-        self.refill(old.proposals, &keep)
+        self.refill(old.into_proposals(), &keep)
+    }
+
+    // The proposals, each at its id.
+    fn into_proposals(self) -> IndexMap<ActionId, LiveProposal>
+        ensures proposals { values_of result.entries ≡ self }
+        ensures distinct { IsDistinct same_action (ids_of self) }
+        ensures fit { deposits_of self < 2 ^ 64 }
+        ensures ordered { AllOrdered self }
+    {
+        let ProposalStore {
+            alloc: _alloc,
+            proposals,
+            families: _families,
+            voted: _voted,
+            added: _added,
+            deposits: _deposits,
+        } = self;
+        proposals
     }
 
     /// The vote of a voter on the proposal of an id, in place of an earlier one; nothing where there is no such proposal. Want of memory changes nothing. (GOV of the formal specification)

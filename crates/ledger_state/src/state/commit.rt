@@ -19,10 +19,25 @@ impl LedgerState {
         requires drafted { laid_over changes self.ledger ≡ draft_of self.ledger tx.now }
         ensures { IfOk result (λ s. s ≡ on_ledger (λ l. ledger_after_tx l tx.now) self) }
     {
-        match self.live.commit(changes, tx) {
-            Ok(live) => Ok(LedgerState { live, ..self }),
+        let LedgerState {
+            alloc,
+            live,
+            snapshots,
+            pending,
+            frozen,
+            pulser,
+        } = self;
+        match live.commit(changes, tx) {
+            Ok(live) => Ok(LedgerState {
+                alloc,
+                live,
+                snapshots,
+                pending,
+                frozen,
+                pulser,
+            }),
             Err(error) => {
-                drop((self.snapshots, self.pending, self.frozen, self.pulser));
+                drop((snapshots, pending, frozen, pulser));
                 Err(error)
             }
         }

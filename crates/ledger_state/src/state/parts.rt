@@ -15,8 +15,16 @@ impl LedgerState {
         ensures world { world_of_parts result.0 result.1 result.2 ≡ self }
         ensures held { IsHeldBy self result.1 result.2 }
     {
-        let books = self.live.into_books(self.snapshots, self.pending);
-        (books, self.frozen, self.pulser)
+        let LedgerState {
+            alloc: _,
+            live,
+            snapshots,
+            pending,
+            frozen,
+            pulser,
+        } = self;
+        let books = live.into_books(snapshots, pending);
+        (books, frozen, pulser)
     }
 
     /// The state of these parts. It takes no memory. (Own)

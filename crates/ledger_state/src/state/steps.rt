@@ -42,12 +42,23 @@ impl LedgerState {
         requires unbroken { first_among (block_checks self.ledger slot pulse) ≡ None }
         ensures { result ≡ pulsed slot pulse self }
     {
-        let live = self.live.at_slot(slot);
-        let pulser = advanced(self.pulser, live.stake().book(), pulse);
-        LedgerState {
+        let LedgerState {
+            alloc,
             live,
+            snapshots,
+            pending,
+            frozen,
             pulser,
-            ..self
+        } = self;
+        let live = live.at_slot(slot);
+        let pulser = advanced(pulser, live.stake().book(), pulse);
+        LedgerState {
+            alloc,
+            live,
+            snapshots,
+            pending,
+            frozen,
+            pulser,
         }
     }
 
@@ -117,9 +128,21 @@ impl LedgerState {
         requires { IsSoundWorld (record self { pending = Some update }) }
         ensures { result ≡ record self { pending = Some update } }
     {
+        let LedgerState {
+            alloc,
+            live,
+            snapshots,
+            pending: _none,
+            frozen,
+            pulser,
+        } = self;
         LedgerState {
+            alloc,
+            live,
+            snapshots,
             pending: Some(update),
-            ..self
+            frozen,
+            pulser,
         }
     }
 }

@@ -10,7 +10,7 @@ use Rattle.gov_actions.specs.declared.action.Proposal.{Proposal}
 use Rattle.gov_model.specs.Laws.{HaveDistinctIds}
 use Rattle.gov_model.specs.Ratified.{ids_of}
 use Rattle.maps.specs.Maps.{IsMap}
-use Rattle.pass_replay.proofs.proposals.before.Goals as goal
+use Rattle.pass_replay.proofs.proposals.inserted.Goals as goal
 
 left_of : (a b : Bool) → (a && b) ≡ true → a ≡ true
 left_of true b h = refl
@@ -36,8 +36,8 @@ returns-clause-distinct c =
     let first = c.args.first in
     let rest = c.args.rest in
     subst HaveDistinctIds (sym c.in_ok-insert.ensures.ok)
-    (IsDistinct-cons same_action first.id (ids_of rest) (apart first.id rest c.in_ok-check_new.ensures) c.requires.distinct)
+    (IsDistinct-cons same_action first.id (ids_of rest) (apart first.id rest c.requires.new) c.requires.distinct)
 
 pub returns-clause-voters : goal.returns-clause-voters
 returns-clause-voters c =
-    subst (All IsOrdered) (sym c.in_ok-insert.ensures.ok) (All-cons IsOrdered c.args.first c.args.rest c.in_ok-check_order.ensures c.requires.voters)
+    subst (All IsOrdered) (sym c.in_ok-insert.ensures.ok) (All-cons IsOrdered c.args.first c.args.rest c.requires.order c.requires.voters)
