@@ -10,5 +10,6 @@ mod state;
 mod view;
 mod walk;
 
+pub use proposals::put_proposal;
 pub use state::{put_state, state_text, write_state};
 pub use view::StateView;

@@ -55,8 +55,8 @@ fn proposed(proposal: &LiveProposal) -> Proposed<'_>
     }
 }
 
-/// Hands over the lines of a proposal and its votes.
-fn put_proposal<T: LineTaker>(
+/// Hands over the lines of a proposal and its votes, as a print of a state has them. (Own)
+pub fn put_proposal<T: LineTaker>(
     to: &mut T,
     text: &mut Vec<u8>,
     line: u64,
