@@ -1,4 +1,4 @@
-"""The lines of streams: what the tables, tests/replay and tests/bench make their records from."""
+"""The lines of streams: what the tables, tests/run/replay and tests/run/bench make their records from."""
 
 import json
 

@@ -1,4 +1,4 @@
-"""The streams that tests/replay runs, each with the words, and the text and the status that it must give."""
+"""The streams that tests/run/replay runs, each with the words, and the text and the status that it must give."""
 
 from tables import (
     accounts,

@@ -1,4 +1,4 @@
--- Worked rows of whole streams: further texts of Worlds that are not sound. Made by tests/rows_of, from the streams of these names in tests/streams/further.
+-- Worked rows of whole streams: further texts of Worlds that are not sound. Made by tests/made/rows_of, from the streams of these names in tests/streams/further.
 use Rattle.std.specs.Prelude.{◌≡◌, [], ◌∷◌, Some, None, false, refl, nat_le}
 use Rattle.std.specs.Fmt.{digits}
 use Rattle.hex.specs.Hex.{encode_with}

@@ -1,4 +1,4 @@
--- Worked rows of whole streams: certificates of hard forks and of exact thresholds. Made by tests/rows_of, from the streams of these names in tests/streams/further.
+-- Worked rows of whole streams: certificates of hard forks and of exact thresholds. Made by tests/made/rows_of, from the streams of these names in tests/streams/further.
 use Rattle.std.specs.Prelude.{ℕ, ◌≡◌, List, [], ◌∷◌, Some, None, true, codes, refl}
 use Rattle.std.specs.Fmt.{digits}
 use Rattle.hex.specs.Hex.{encode_with}

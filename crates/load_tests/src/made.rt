@@ -1,4 +1,4 @@
-//! Streams, as tests/made_load makes them from their description.
+//! Streams, as tests/agree/made_load makes them from their description.
 
 /// The seed, the accounts and the epochs, and then how many bytes the stream has, and the FNV-1a of 64 bits of them.
 pub(crate) const MADE: [(u64, u32, u32, u64, u64); 32] = [
