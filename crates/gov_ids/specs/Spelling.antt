@@ -1,5 +1,5 @@
 -- How each id is written: what a text reads as, and what an id is printed as.
-use Rattle.std.specs.Prelude.{ℕ, ◌*◌, ◌&&◌, ◌==◌, nat_lt, if◌then◌else◌, List, [], ◌∷◌, ◌++◌, length, take, drop, codes, decimal, bytes_eq, nat_eq, Option, Some, None, option_map, option_and_then, Result, Ok, Err}
+use Rattle.std.specs.Prelude.{ℕ, ◌*◌, ◌/◌, ◌&&◌, ◌==◌, nat_le, nat_lt, if◌then◌else◌, List, [], ◌∷◌, ◌++◌, length, take, drop, codes, decimal, bytes_eq, nat_eq, Option, Some, None, option_map, option_and_then, Result, Ok, Err}
 use Rattle.std.specs.List.{starts_with}
 use Rattle.std.specs.Result.{result_ok}
 use Rattle.std.specs.Str.{all_ascii_digits}
@@ -36,6 +36,10 @@ or_bad_hex (Err e) = Err BadHex
 -- n bytes as 2 * n hex digits, in either case
 abbrev pub hash_of : ℕ → List ℕ → Result (List ℕ) IdFault
 hash_of n text = if length text == 2 * n then or_bad_hex (decode_of text) else Err BadLength
+
+-- an asset's name: at most 32 bytes, each as two hex digits, in either case
+abbrev pub asset_name_of : List ℕ → Option (List ℕ)
+asset_name_of digits = if nat_le (length digits) 64 then result_ok (hash_of (length digits / 2) digits) else None
 
 -- `k` is a key, `s` a script
 abbrev pub kind_of : ℕ → Option CredKind
@@ -131,6 +135,11 @@ voter_of text =
 -- in lower case
 abbrev pub hash_text : List ℕ → List ℕ
 hash_text h = encode_lower h
+
+-- an asset's name, `-` where it is empty
+abbrev pub asset_name_text : List ℕ → List ℕ
+asset_name_text [] = codes "-"
+asset_name_text (byte ∷ bytes) = hash_text (byte ∷ bytes)
 
 -- a key or a script
 abbrev pub kind_text : CredKind → List ℕ

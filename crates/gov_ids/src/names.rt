@@ -1,7 +1,7 @@
 ghost use Rattle.std.specs.Prelude.{◌≡◌, IfOk, map};
 ghost use Rattle.maps.specs.Words.{repeats};
 
-use crate::{Account, Credential, OutRef, PoolId};
+use crate::{Account, AssetId, Credential, OutRef, PoolId};
 use coin_frac::NoMemory;
 use std::alloc::Global;
 use std::collections::BTreeSet;
@@ -22,6 +22,15 @@ impl Name for Account {
     ghost order = { account_cmp };
 
     ghost is_order = { account_is };
+}
+
+impl Name for AssetId {
+    ghost use Rattle.std.specs.Prelude.{refl};
+    ghost use Rattle.gov_ids.specs.Orders.{asset_cmp};
+
+    ghost order = { asset_cmp };
+
+    ghost is_order = { refl };
 }
 
 impl Name for Credential {
@@ -84,6 +93,16 @@ impl<N: Name, A> Named for (N, A) {
 }
 
 impl<N: Name, A, B> Named for (N, A, B) {
+    type Name = N;
+
+    ghost name = { λ e. e.0 };
+
+    fn name(&self) -> N {
+        self.0
+    }
+}
+
+impl<N: Name, A, B, C> Named for (N, A, B, C) {
     type Name = N;
 
     ghost name = { λ e. e.0 };

@@ -1,8 +1,10 @@
 // What an id is printed as: one printer for each id.
 ghost use Rattle.std.specs.Prelude.{◌≡◌, ◌≤◌, ◌++◌, length, take, vec_len, decimal, OnOk, OnErr};
-ghost use Rattle.gov_ids.specs.Spelling.{hash_text, kind_text, stake_text, credential_text, account_text, address_text, ref_text, action_id_text, pool_text, drep_text, voter_text};
+ghost use Rattle.gov_ids.specs.Spelling.{hash_text, asset_name_text, kind_text, stake_text, credential_text, account_text, address_text, ref_text, action_id_text, pool_text, drep_text, voter_text};
 
-use crate::{Account, ActionId, Address, CredKind, Credential, Drep, OutRef, PoolId, Voter};
+use crate::{
+    Account, ActionId, Address, AssetName, CredKind, Credential, Drep, OutRef, PoolId, Voter,
+};
 use coin_frac::NoMemory;
 use itoa::Buffer;
 
@@ -17,6 +19,19 @@ pub fn push_hash(out: &mut Vec<u8>, hash: &[u8]) -> Result<(), NoMemory>
     hex::encode_to_slice(hash, digits).unwrap();
     out.extend_from_slice(digits)?;
     Ok(())
+}
+
+/// Appends an asset's name in lower case hex digits, `-` where it is empty. After want of memory what stood there stands, with perhaps a part of the text behind it. (Own)
+pub fn push_asset_name(out: &mut Vec<u8>, name: &AssetName) -> Result<(), NoMemory>
+    ensures ok { OnOk result (out.new.items ≡ out.old.items ++ asset_name_text name.now) }
+    ensures err { OnErr result (take (vec_len out.old) out.new.items ≡ out.old.items) }
+{
+    let bytes = name.bytes();
+    if bytes.is_empty() {
+        out.push(b'-')?;
+        return Ok(());
+    }
+    push_hash(out, bytes)
 }
 
 /// Appends a credential. After want of memory what stood there stands, with perhaps a part of the text behind it. (Own)

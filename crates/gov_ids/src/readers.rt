@@ -1,9 +1,12 @@
 // What a text reads as: one reader for each id.
 ghost use Rattle.std.specs.Prelude.{◌≡◌};
-ghost use Rattle.gov_ids.specs.Spelling.{kind_of, network_of, number_of, index_of, place_of, stake_of, credential_of, account_of, address_of, ref_of, action_id_of, pool_of, drep_of, voter_of};
+ghost use Rattle.gov_ids.specs.Spelling.{kind_of, network_of, number_of, index_of, place_of, stake_of, credential_of, account_of, address_of, asset_name_of, ref_of, action_id_of, pool_of, drep_of, voter_of};
 
 use crate::hashes::read_hash;
-use crate::{Account, ActionId, Address, CredKind, Credential, Drep, OutRef, PoolId, TxId, Voter};
+use crate::{
+    Account, ActionId, Address, AssetName, CredKind, Credential, Drep, NAME_LIMIT, OutRef, PoolId,
+    TxId, Voter,
+};
 
 /// Reads a credential: `k` (key) or `s` (script), then 56 hex digits. (Own)
 pub fn read_credential(text: &str) -> Option<Credential>
@@ -37,6 +40,20 @@ pub fn read_address(text: &str) -> Option<Address>
         payment: credential(payment)?,
         stake: stake_part(stake)?,
     })
+}
+
+/// Reads an asset's name: at most 32 bytes, each as two hex digits in either case. (Own)
+pub fn read_asset_name(text: &str) -> Option<AssetName>
+    ensures { result ≡ asset_name_of text.now }
+{
+    let digits = text.as_bytes();
+    if digits.len() > 2 * NAME_LIMIT {
+        return None;
+    }
+    let mut bytes = [0; NAME_LIMIT];
+    let bytes = &mut bytes[..digits.len() / 2];
+    hex::decode_to_slice(digits, bytes).ok()?;
+    Some(AssetName::new(bytes))
 }
 
 /// Reads an output reference: 64 hex digits, `#`, a decimal index below 65536 without a leading
