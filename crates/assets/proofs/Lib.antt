@@ -1,0 +1,5 @@
+mod Lists
+mod Values
+mod Quantities
+mod Sums
+mod Balanced
