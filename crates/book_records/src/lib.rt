@@ -3,16 +3,19 @@
 
 mod pool;
 
+use assets::Assets;
 use gov_ids::{Address, Drep, PoolId};
 pub use pool::{DefaultVote, Pool, PoolTerms};
 
 /// An unspent output. (UTxO of the formal specification)
-#[derive(Clone, Copy, Debug, PartialEq, Eq)]
+#[derive(Drop)]
 pub struct Output {
     /// Who may spend it, with its stake part.
     pub address: Address,
     /// Its amount, in lovelace.
     pub lovelace: u64,
+    /// Its native assets, in order, each once.
+    pub assets: Assets,
 }
 
 /// A registered account. (DState of the formal specification: rewards, deposits and delegations)

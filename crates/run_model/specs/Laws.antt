@@ -1,17 +1,22 @@
 -- The laws over the definitions, each for every World that records reach. They are stated here, and proved where a public call cites them.
-use Rattle.std.specs.Prelude.{◌≡◌, ◌+◌, ◌^◌, ◌≤◌, ◌<◌, ◌⊎◌, List, [], Some, None, Contains, true}
+use Rattle.std.specs.Prelude.{◌≡◌, ◌+◌, ◌^◌, ◌≤◌, ◌<◌, ◌⊎◌, ℤ, List, [], Some, None, Contains, true}
 use Rattle.std.specs.List.{AllZip, list_all}
+use Rattle.assets.specs.Quantities.{all_burned, all_minted, quantity_of}
 use Rattle.maps.specs.Maps.{value_at}
 use Rattle.gov_ids.specs.Orders.{credential_cmp}
 use Rattle.gov_ids.specs.declared.ActionId.{ActionId}
+use Rattle.gov_ids.specs.declared.assets.AssetId.{AssetId}
 use Rattle.gov_ids.specs.declared.Credential.{Credential}
 use Rattle.book_records.specs.declared.DrepState.{DrepState}
+use Rattle.book_records.specs.Outputs.{assets_in}
 use Rattle.gov_actions.specs.declared.action.Proposal.{Proposal}
 use Rattle.gov_model.specs.Laws.{IsOneOrNoneDelays}
 use Rattle.gov_model.specs.Ratified.{IsRatified, ratified_of}
 use Rattle.tx_records.specs.declared.record.Record.{Record}
 use Rattle.tx_records.specs.declared.record.Record.TheVariants as records
 use Rattle.tx_records.specs.declared.record.Rewards.{Rewards}
+use Rattle.tx_records.specs.declared.reply.Reply.{Reply}
+use Rattle.tx_records.specs.declared.reply.Reply.TheVariants as replies
 use Rattle.ledger_model.specs.Ledger.{Ledger}
 use Rattle.ledger_model.specs.Supply.{pots_of, supply_of}
 use Rattle.ledger_model.specs.Moves.{IsMovedBy}
@@ -33,6 +38,18 @@ FlowsBalance = (w : World) → IsReached w → (r : Record) → is_within_limits
 -- all pots together are the supply of the genesis that the World is reached from
 abbrev pub SupplyStays : Type 0
 SupplyStays = (w : World) (reached : IsReached w) → supply_of w.ledger ≡ reached.genesis.supply
+
+-- what a record mints and burns: nothing, but where it is an accepted transaction whose scripts did not fail
+abbrev pub mint_of : Record → Reply → List (AssetId × ℤ)
+mint_of (records.Tx tx) replies.Accepted = tx.mint
+mint_of _ _ = []
+
+-- assets change by mint alone: each record changes what unspent outputs hold of an asset by what it mints and burns of it
+abbrev pub AssetsChangeByMint : Type 0
+AssetsChangeByMint = (w : World) → IsReached w → (r : Record) → is_within_limits r ≡ true → (a : AssetId) →
+    let mint : List (AssetId × ℤ) = mint_of r (step w r).1 in
+    assets_in (step w r).0.ledger.outputs a + quantity_of (all_burned mint) a
+    ≡ assets_in w.ledger.outputs a + quantity_of (all_minted mint) a
 
 -- each epoch ratifies one list of what it froze; it is the only one, and it is one delaying action or has none
 abbrev pub EpochsRatifyOneList : Type 0

@@ -1,11 +1,14 @@
 -- Which entries of the books have the form of the formats. (Own)
-use Rattle.std.specs.Prelude.{ℕ, Bool, true, ◌&&◌}
+use Rattle.std.specs.Prelude.{ℕ, Bool, true, ◌&&◌, List}
 use Rattle.std.specs.List.{list_all}
+use Rattle.assets.specs.Quantities.{is_held}
 use Rattle.maps.specs.Words.{none_or}
 use Rattle.gov_ids.specs.declared.Account.{Account}
+use Rattle.gov_ids.specs.declared.assets.AssetId.{AssetId}
 use Rattle.gov_ids.specs.declared.Credential.{Credential}
 use Rattle.gov_ids.specs.declared.OutRef.{OutRef}
 use Rattle.gov_ids.specs.declared.PoolId.{PoolId}
+use Rattle.gov_ids.specs.Orders.{asset_cmp}
 use Rattle.book_records.specs.declared.DrepState.{DrepState}
 use Rattle.book_records.specs.declared.Entry.{Entry}
 use Rattle.book_records.specs.declared.Output.{Output}
@@ -16,11 +19,19 @@ use Rattle.gov_actions.specs.declared.state.HotState.{HotState}
 use Rattle.gov_actions.specs.declared.state.HotState.TheVariants.{Hot, Resigned}
 use Rattle.tx_records.specs.declared.record.Rewards.{Rewards}
 use Rattle.tx_records.specs.Limits.{is_u64}
-use Rattle.text_forms.specs.Ids.{is_account_id, is_address, is_credential, is_drep_id, is_hash, is_pool_id, is_ref, is_unit}
+use Rattle.text_forms.specs.Ids.{is_account_id, is_address, is_asset_id, is_credential, is_drep_id, is_hash, is_map, is_pool_id, is_ref, is_unit}
+
+-- an asset with how much an output holds of it
+abbrev pub is_held_asset : AssetId × ℕ → Bool
+is_held_asset e = is_asset_id e.0 && is_held e.1
+
+-- the assets of an output, in order, each once
+abbrev pub are_held_assets : List (AssetId × ℕ) → Bool
+are_held_assets held = is_map asset_cmp held && list_all is_held_asset held
 
 -- an unspent output
 abbrev pub is_output : OutRef × Output → Bool
-is_output o = is_ref o.0 && is_address o.1.address && is_u64 o.1.lovelace
+is_output o = is_ref o.0 && is_address o.1.address && is_u64 o.1.lovelace && are_held_assets o.1.assets
 
 -- a registration
 abbrev pub is_registration : Registered → Bool

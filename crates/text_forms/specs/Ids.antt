@@ -1,5 +1,5 @@
 -- Which ids, numbers and lists have the form of the formats, and stand in order. (Own)
-use Rattle.std.specs.Prelude.{ℕ, ◌^◌, ◌==◌, Bool, true, ◌&&◌, List, [], ◌∷◌, length, nat_lt}
+use Rattle.std.specs.Prelude.{ℕ, ◌^◌, ◌==◌, Bool, true, ◌&&◌, List, [], ◌∷◌, length, nat_le, nat_lt}
 use Rattle.std.specs.declared.cmp.Ordering.{Ordering}
 use Rattle.std.specs.List.{list_all}
 use Rattle.std.specs.Map.{keys_of}
@@ -9,6 +9,7 @@ use Rattle.coin_frac.specs.Fraction.{Fraction}
 use Rattle.gov_ids.specs.declared.Account.{Account}
 use Rattle.gov_ids.specs.declared.ActionId.{ActionId}
 use Rattle.gov_ids.specs.declared.Address.{Address}
+use Rattle.gov_ids.specs.declared.assets.AssetId.{AssetId}
 use Rattle.gov_ids.specs.declared.Credential.{Credential}
 use Rattle.gov_ids.specs.declared.Drep.{Drep}
 use Rattle.gov_ids.specs.declared.Drep.TheVariants as drep
@@ -85,6 +86,10 @@ is_action_id a = is_tx_id a.tx && is_u16 a.index
 -- an address of one of the two networks
 abbrev pub is_address : Address → Bool
 is_address a = is_network a.network && is_credential a.payment && none_or is_credential a.stake
+
+-- an asset: the hash of its policy, and a name of at most 32 bytes
+abbrev pub is_asset_id : AssetId → Bool
+is_asset_id a = is_hash 28 a.policy && nat_le (length a.name) 32 && list_all (λ b. nat_lt b 256) a.name
 
 -- a DRep
 abbrev pub is_drep_id : Drep → Bool

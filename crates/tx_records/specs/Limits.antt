@@ -1,9 +1,12 @@
 -- What a record's parts must keep within: lists and names within their limits, and the numbers that a law asks for. (Own)
-use Rattle.std.specs.Prelude.{ℕ, ◌^◌, Bool, true, not, ◌&&◌, List, [], Option, Some, None, length, map, nat_le, nat_lt}
+use Rattle.std.specs.Prelude.{ℕ, ◌^◌, ℤ, Bool, true, not, ◌&&◌, List, [], Option, Some, None, length, map, nat_le, nat_lt}
 use Rattle.std.specs.List.{list_all}
+use Rattle.std.specs.Map.{keys_of}
+use Rattle.assets.specs.Quantities.{is_held, is_moved}
 use Rattle.maps.specs.Words.{none_or, repeats}
+use Rattle.gov_ids.specs.declared.assets.AssetId.{AssetId}
 use Rattle.gov_ids.specs.declared.Credential.{Credential}
-use Rattle.gov_ids.specs.Orders.{account_cmp, credential_cmp}
+use Rattle.gov_ids.specs.Orders.{account_cmp, asset_cmp, credential_cmp}
 use Rattle.coin_frac.specs.Fraction.{Fraction}
 use Rattle.pparams.specs.declared.Params.{Params}
 use Rattle.pparams.specs.declared.Update.{Update}
@@ -63,9 +66,19 @@ is_action (TreasuryWithdrawals targets policy) =
     is_at_most LIST_LIMIT targets && not (repeats account_cmp (map (λ t. t.0) targets)) && list_all (λ t. is_network t.0.network && is_u64 t.1) targets
 is_action _ = true
 
+-- the assets of an output, each once, its quantity in its range
+abbrev pub are_assets : List (AssetId × ℕ) → Bool
+are_assets held =
+    is_at_most LIST_LIMIT held && not (repeats asset_cmp (keys_of held)) && list_all (λ (e : AssetId × ℕ). is_held e.1) held
+
+-- what a transaction mints and burns, each asset once, its quantity in its range
+abbrev pub is_mint : List (AssetId × ℤ) → Bool
+is_mint mint =
+    is_at_most LIST_LIMIT mint && not (repeats asset_cmp (keys_of mint)) && list_all (λ (e : AssetId × ℤ). is_moved e.1) mint
+
 -- an output of a transaction
 abbrev pub is_output : TxOutput → Bool
-is_output o = is_network o.address.network && is_u64 o.lovelace && is_u32 o.bytes
+is_output o = is_network o.address.network && is_u64 o.lovelace && is_u32 o.bytes && are_assets o.assets
 
 -- the members of the committee at the start
 abbrev pub genesis_members : Option GenesisCommittee → List (Credential × ℕ × Option Credential)

@@ -6,7 +6,7 @@ use Rattle.gov_ids.specs.Orders.{account_cmp}
 use Rattle.tx_records.specs.declared.limits.TheConstants.{OUTPUT_LIMIT, TX_LIST_LIMIT}
 use Rattle.tx_records.specs.declared.tx.ProposalRecord.{ProposalRecord}
 use Rattle.tx_records.specs.declared.tx.Tx.{Tx}
-use Rattle.tx_records.specs.Limits.{is_action, is_at_most, is_output, is_slot, is_u64}
+use Rattle.tx_records.specs.Limits.{is_action, is_at_most, is_mint, is_output, is_slot, is_u64}
 
 -- each list has at most so many entries as one may have
 abbrev pub has_short_lists : Tx → Bool
@@ -21,5 +21,5 @@ is_within_limits tx =
     has_short_lists tx
     && not (repeats account_cmp (map (λ x. x.0) tx.withdrawals))
     && list_all (λ (p : ProposalRecord). is_action p.action) tx.proposals
-    && list_all is_output tx.outputs && none_or is_output tx.collateral_return
+    && list_all is_output tx.outputs && none_or is_output tx.collateral_return && is_mint tx.mint
     && none_or is_slot tx.from && none_or is_slot tx.until && is_u64 tx.fee && is_u64 tx.donation

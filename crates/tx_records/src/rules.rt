@@ -61,6 +61,8 @@ pub const COLLATERAL_NOT_KEY: u16 = 43;
 pub const COLLATERAL_TOO_SMALL: u16 = 44;
 /// TreasuryValueWrong: The stated treasury is not the treasury. Keeps `is`.
 pub const TREASURY_VALUE_WRONG: u16 = 45;
+/// CollateralAssetsWrong: The collateral holds another quantity of an asset than its return gives back.
+pub const COLLATERAL_ASSETS_WRONG: u16 = 46;
 
 // Withdrawals.
 /// WithdrawalWrongNetwork: A withdrawal is from an account of another network.
@@ -143,3 +145,5 @@ pub const VOTER_NOT_SEATED: u16 = 104;
 // The balance.
 /// NotBalanced: What the transaction takes is not what it gives. Keeps `consumed` and `produced`.
 pub const NOT_BALANCED: u16 = 110;
+/// AssetNotBalanced: What the transaction takes and mints of an asset is not what it gives and burns of it. Keeps `consumed` and `produced`.
+pub const ASSET_NOT_BALANCED: u16 = 111;

@@ -4,10 +4,11 @@ ghost use Rattle.std.specs.Prelude.{◌≡◌, IfOk, ◌&&◌};
 ghost use Rattle.std.specs.List.{list_all};
 ghost use Rattle.tx_records.specs.declared.tx.ProposalRecord.{ProposalRecord};
 ghost use Rattle.maps.specs.Words.{none_or};
-ghost use Rattle.tx_records.specs.Limits.{are_params, is_action, is_at_most, is_network, is_output, is_share, is_slot, is_u32, is_u64, is_update};
+ghost use Rattle.tx_records.specs.Limits.{are_assets, are_params, is_action, is_mint, is_at_most, is_network, is_output, is_share, is_slot, is_u32, is_u64, is_update};
 
 use crate::limits::{LIST_LIMIT, NETWORK_LIMIT, SLOT_LIMIT};
 use crate::tx::{ProposalRecord, TxOutput};
+use assets::{Assets, Mint};
 use coin_frac::{NoMemory, Unit};
 use credential_list::CredentialList;
 use gov_actions::Action;
@@ -176,13 +177,27 @@ pub fn are_actions(alloc: Global, proposals: &[ProposalRecord]) -> Result<bool, 
     Ok(true)
 }
 
+/// Whether an output's assets are within the limits. Their type keeps each once, and its quantity in its range.
+pub fn are_assets(assets: &Assets) -> bool
+    ensures { result ≡ are_assets assets.now }
+{
+    assets.as_slice().len() as u64 <= u64::from(LIST_LIMIT)
+}
+
+/// The same of what a transaction mints.
+pub fn is_mint(mint: &Mint) -> bool
+    ensures { result ≡ is_mint mint.now }
+{
+    mint.as_slice().len() as u64 <= u64::from(LIST_LIMIT)
+}
+
 /// Whether an output is within the limits.
 fn is_output(output: &TxOutput) -> bool
     ensures { result ≡ is_output output.now }
 {
     let _lovelace = output.lovelace;
     let _bytes = output.bytes;
-    is_network(output.address.network)
+    is_network(output.address.network) && are_assets(&output.assets)
 }
 
 /// The same of several.

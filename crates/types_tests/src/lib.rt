@@ -4,6 +4,8 @@
 #[cfg(test)]
 mod actions;
 #[cfg(test)]
+mod balances;
+#[cfg(test)]
 mod fractions;
 #[cfg(test)]
 mod ids;
@@ -11,6 +13,8 @@ mod ids;
 mod limits;
 #[cfg(test)]
 mod lists;
+#[cfg(test)]
+mod names;
 #[cfg(test)]
 mod parameters;
 #[cfg(test)]

@@ -1,4 +1,5 @@
 //! Records within the limits of the formats, and just beyond them.
+use assets::AssetList;
 use gov_ids::{Account, CredKind, Credential, TxId};
 use listed::{Boxed, Listed};
 use out_refs::OutRefs;
@@ -34,6 +35,7 @@ fn transaction(
         until: Some(until),
         collateral: OutRefs::new(alloc),
         collateral_return: None,
+        mint: AssetList::none(),
         treasury: None,
         donation: 0,
         withdrawals: Listed::from_vec(withdrawals.to_vec(alloc)?),
