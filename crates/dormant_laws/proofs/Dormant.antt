@@ -399,7 +399,7 @@ actions_active [] h = tt
 actions_active (p ∷ ps) h = (action_active p.action (left_of _ _ h), actions_active ps (right_of _ _ h))
 
 tx_active : (tx : Tx) → tx_limits.is_within_limits tx ≡ true → AreActiveRecords (2 ^ 32) tx.proposals
-tx_active tx h = actions_active tx.proposals (right_of _ _ (left_of _ _ (left_of _ _ (left_of _ _ (left_of _ _ (left_of _ _ (left_of _ _ h)))))))
+tx_active tx h = actions_active tx.proposals (right_of _ _ (left_of _ _ (left_of _ _ (left_of _ _ (left_of _ _ (left_of _ _ (left_of _ _ (left_of _ _ h))))))))
 
 -- the genesis
 abbrev Drep3 : Type 0
@@ -420,9 +420,9 @@ at_least_none n = omega arith
 
 pub genesis_bounded : (g : Genesis) → genesis_limits.is_within_limits g ≡ true → IsBounded (world_of_genesis g)
 genesis_bounded g h =
-    let params : are_params g.params ≡ true = right_of _ _ (left_of _ _ h) in
+    let params : are_params g.params ≡ true = right_of _ _ (left_of _ _ (left_of _ _ h)) in
     let activity : g.params.drep_activity ≤ 2 ^ 32 = short g.params.drep_activity (right_of _ _ (left_of _ _ params)) in
-    let expiries : list_all (λ (d : Drep3). is_slot d.2) g.dreps ≡ true = right_of _ _ (left_of _ _ (left_of _ _ h)) in
+    let expiries : list_all (λ (d : Drep3). is_slot d.2) g.dreps ≡ true = right_of _ _ (left_of _ _ (left_of _ _ (left_of _ _ h))) in
     let epoch : ℕ = (world_of_genesis g).ledger.epoch in
     record {
       ledger = record {

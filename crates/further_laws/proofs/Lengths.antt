@@ -42,14 +42,14 @@ use Rattle.text_forms.specs.States.{is_committee, is_state}
 use Rattle.text_model.specs.ParamLines.{param_lines}
 use Rattle.text_model.specs.Replies.{pots_words}
 use Rattle.text_model.specs.Shown.{shown_of}
-use Rattle.text_model.specs.StateLines.{account_words, book_lines, committee_lines, drep_words, governance_lines, hot_outside, hot_words, member_among, noted_fees_words, output_words, pending_lines, pending_reward_words, pool_lines, proposal_lines, snapshot_lines, snapshot_words, state_lines, vote_words, words_of_enacted}
+use Rattle.text_model.specs.StateLines.{account_words, book_lines, committee_lines, drep_words, governance_lines, hot_outside, hot_words, member_among, noted_fees_words, output_lines, pending_lines, pending_reward_words, pool_lines, proposal_lines, snapshot_lines, snapshot_words, state_lines, vote_words, words_of_enacted}
 use Rattle.text_model.specs.Words.{Text, or_none}
 use Rattle.tx_records.specs.declared.limits.TheConstants.{LINE_LIMIT}
 use Rattle.checkpoint_model.specs.Checkpoint.{checkpoint_words, frozen, frozen_lines, frozen_proposal_lines, used_words}
 use Rattle.checkpoint_model.specs.Laws.{ShortByForm}
 use Rattle.checkpoint_model.specs.Resumable.{has_book_form, has_form, has_plain_form, holds_supply, is_pending_form}
 use Rattle.further_laws.proofs.Followed.{all_join}
-use Rattle.further_laws.proofs.Widths.{AreLines, IsLine, IsWord, account, account_line, action_id, committee_line, constitution_line, cred, dec, drep_line, enacted_line, hash_word, hot_line, lines_flat, lines_map, member_line, network, now_line, output_line, param_lines_are, pool, pool_lines_are, proposal_line, short_line, short_lines, slot, u32, u64, vote_line}
+use Rattle.further_laws.proofs.Widths.{AreLines, IsLine, IsWord, account, account_line, action_id, committee_line, constitution_line, cred, dec, drep_line, enacted_line, hash_word, hot_line, lines_flat, lines_map, member_line, network, now_line, output_lines_are, param_lines_are, pool, pool_lines_are, proposal_line, short_line, short_lines, slot, u32, u64, vote_line}
 
 -- ---- what stands between
 
@@ -125,7 +125,7 @@ one_part (Some c) cs h k = (h, k)
 parts_formed : (es : List (OutRef × Output)) → list_all books.is_output es ≡ true → AreFormed (filter_map (λ (e : OutRef × Output). e.1.address.stake) es)
 parts_formed [] h = tt
 parts_formed (e ∷ es) h =
-    one_part e.1.address.stake _ (right_of _ _ (right_of _ _ (left_of _ _ (left_of (books.is_output e) (list_all books.is_output es) h)))) (parts_formed es (right_of (books.is_output e) (list_all books.is_output es) h))
+    one_part e.1.address.stake _ (right_of _ _ (right_of _ _ (left_of _ _ (left_of _ _ (left_of (books.is_output e) (list_all books.is_output es) h))))) (parts_formed es (right_of (books.is_output e) (list_all books.is_output es) h))
 
 ordered_formed : (cs s : List Credential) → AreFormed cs → AreFormed s → AreFormed (fold (λ t c. with_key credential_cmp c t) s cs)
 ordered_formed [] s h k = k
@@ -162,7 +162,7 @@ frozen_proposal p h = (((omega arith, (action_id p.id (left_of _ _ (left_of _ _ 
 books_are : (w : World) → has_book_form w.ledger ≡ true → lovelace_in w.ledger.outputs < 2 ^ 64 → AreLines (book_lines (shown_of w))
 books_are w h few =
     let l : Ledger = w.ledger in
-    (all_append IsLine (map drep_words l.dreps ++ flat_map pool_lines l.pools ++ map account_words (entries_of l) ++ map output_words l.outputs) (flat_map proposal_lines l.proposals) (all_append IsLine (map drep_words l.dreps ++ flat_map pool_lines l.pools ++ map account_words (entries_of l)) (map output_words l.outputs) (all_append IsLine (map drep_words l.dreps ++ flat_map pool_lines l.pools) (map account_words (entries_of l)) (all_append IsLine (map drep_words l.dreps) (flat_map pool_lines l.pools) (lines_map books.is_drep drep_words drep_line l.dreps (right_of _ _ (left_of _ _ (left_of _ _ (left_of _ _ h))))) (lines_flat books.is_pool pool_lines pool_lines_are l.pools (right_of _ _ (left_of _ _ (left_of _ _ (left_of _ _ (left_of _ _ (left_of _ _ h)))))))) (live_entries l few h)) (lines_map books.is_output output_words output_line l.outputs (right_of _ _ (left_of _ _ (left_of _ _ (left_of _ _ (left_of _ _ (left_of _ _ (left_of _ _ (left_of _ _ (left_of _ _ (left_of _ _ (left_of _ _ (left_of _ _ h)))))))))))))) (lines_flat is_proposal proposal_lines whole_proposal l.proposals (left_of _ _ (right_of _ _ h))))
+    (all_append IsLine (map drep_words l.dreps ++ flat_map pool_lines l.pools ++ map account_words (entries_of l) ++ flat_map output_lines l.outputs) (flat_map proposal_lines l.proposals) (all_append IsLine (map drep_words l.dreps ++ flat_map pool_lines l.pools ++ map account_words (entries_of l)) (flat_map output_lines l.outputs) (all_append IsLine (map drep_words l.dreps ++ flat_map pool_lines l.pools) (map account_words (entries_of l)) (all_append IsLine (map drep_words l.dreps) (flat_map pool_lines l.pools) (lines_map books.is_drep drep_words drep_line l.dreps (right_of _ _ (left_of _ _ (left_of _ _ (left_of _ _ h))))) (lines_flat books.is_pool pool_lines pool_lines_are l.pools (right_of _ _ (left_of _ _ (left_of _ _ (left_of _ _ (left_of _ _ (left_of _ _ h)))))))) (live_entries l few h)) (lines_flat books.is_output output_lines output_lines_are l.outputs (right_of _ _ (left_of _ _ (left_of _ _ (left_of _ _ (left_of _ _ (left_of _ _ (left_of _ _ (left_of _ _ (left_of _ _ (left_of _ _ (left_of _ _ (left_of _ _ h)))))))))))))) (lines_flat is_proposal proposal_lines whole_proposal l.proposals (left_of _ _ (right_of _ _ h))))
 
 stake_line : (name : Text) (s : PoolId × ℕ) → IsWord name → books.is_stake s ≡ true → IsLine (snapshot_words name s)
 stake_line name s k h = ((omega arith, (k, (pool s.0 (left_of _ _ h), (dec s.1 (u64 s.1 (right_of _ _ h)), tt)))), omega arith)

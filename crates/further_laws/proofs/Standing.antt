@@ -162,7 +162,7 @@ goes_all (r ∷ rs) w good h s =
 -- the length of an epoch of a genesis
 pub long_epochs : (g : Genesis) → genesis_limits.is_within_limits g ≡ true → 0 < g.epoch_length
 long_epochs g h =
-    ltb-true 0 g.epoch_length (right_of _ _ (left_of _ _ (left_of _ _ (left_of _ _ (left_of _ _ (left_of _ _ (left_of _ _ (left_of _ _ (left_of _ _ (left_of _ _ (left_of _ _ (left_of _ _ h))))))))))))
+    ltb-true 0 g.epoch_length (right_of _ _ (left_of _ _ (left_of _ _ (left_of _ _ (left_of _ _ (left_of _ _ (left_of _ _ (left_of _ _ (left_of _ _ (left_of _ _ (left_of _ _ (left_of _ _ (left_of _ _ h)))))))))))))
 
 pub genesis_timed : (g : Genesis) → genesis_limits.is_within_limits g ≡ true → IsTimed (world_of_genesis g)
 genesis_timed g h = record { clock = refl; long = long_epochs g h }

@@ -13,6 +13,7 @@ use Rattle.maps.specs.Words.{none_or}
 use Rattle.gov_ids.specs.declared.Account.{Account}
 use Rattle.gov_ids.specs.declared.ActionId.{ActionId}
 use Rattle.gov_ids.specs.declared.Address.{Address}
+use Rattle.gov_ids.specs.declared.assets.AssetId.{AssetId}
 use Rattle.gov_ids.specs.declared.CredKind.{CredKind}
 use Rattle.gov_ids.specs.declared.CredKind.TheVariants.{Key, Script}
 use Rattle.gov_ids.specs.declared.Credential.{Credential}
@@ -23,7 +24,7 @@ use Rattle.gov_ids.specs.declared.PoolId.{PoolId}
 use Rattle.gov_ids.specs.declared.Voter.{Voter}
 use Rattle.gov_ids.specs.declared.Voter.TheVariants as voter
 use Rattle.gov_ids.specs.Orders.{credential_cmp}
-use Rattle.gov_ids.specs.Spelling.{account_text, action_id_text, address_text, credential_text, drep_text, hash_text, kind_text, pool_text, ref_text, stake_text, voter_text}
+use Rattle.gov_ids.specs.Spelling.{account_text, action_id_text, address_text, asset_name_text, credential_text, drep_text, hash_text, kind_text, pool_text, ref_text, stake_text, voter_text}
 use Rattle.pparams.specs.declared.Params.{Params}
 use Rattle.book_records.specs.declared.DrepState.{DrepState}
 use Rattle.book_records.specs.declared.Entry.{Entry}
@@ -50,7 +51,7 @@ use Rattle.text_forms.specs.Lines.{are_short_lines, joined}
 use Rattle.text_forms.specs.States.{are_economic_params, are_governance_params, are_last_ids, are_network_params, are_params, are_technical_params, is_committee}
 use Rattle.text_model.specs.ActionWords as action_words
 use Rattle.text_model.specs.ParamLines.{param, param_lines, shares}
-use Rattle.text_model.specs.StateLines.{account_words, committee_words, drep_words, hot_text, hot_words, key_words, member_among, next_words, output_words, pool_lines, pool_words, proposal_words, registration_words, retires_text, terms_words, vote_words, words_of_constitution, words_of_enacted, words_of_now}
+use Rattle.text_model.specs.StateLines.{account_words, asset_words, committee_words, drep_words, hot_text, hot_words, key_words, member_among, next_words, output_lines, output_words, pool_lines, pool_words, proposal_words, registration_words, retires_text, terms_words, vote_words, words_of_constitution, words_of_enacted, words_of_now}
 use Rattle.text_model.specs.Words.{Text, or_none, share_text, version_text}
 use Rattle.tx_records.specs.declared.limits.TheConstants.{LINE_LIMIT}
 
@@ -300,8 +301,23 @@ account_line c e h s k = by_registration e.registered k
     by_registration None k = ((omega arith, (cred c h, (omega arith, (dec e.stake s, (omega arith, tt))))), omega arith)
     by_registration (Some r) k = ((omega arith, (cred c h, (omega arith, (dec e.stake s, (omega arith, (dec r.deposit (u64 r.deposit (left_of _ _ (left_of _ _ (left_of _ _ k)))), (omega arith, (dec r.rewards (u64 r.rewards (right_of _ _ (left_of _ _ (left_of _ _ k)))), (omega arith, (optional is_pool_id pool_text r.pool pool (right_of _ _ (left_of _ _ k)), (omega arith, (optional is_drep_id drep_text r.drep drep_word (right_of _ _ k), tt)))))))))))), omega arith)
 
-pub output_line : (o : OutRef × Output) → books.is_output o ≡ true → IsLine (output_words o)
-output_line o h = ((omega arith, (ref o.0 (left_of _ _ (left_of _ _ h)), (address o.1.address (right_of _ _ (left_of _ _ h)), (dec o.1.lovelace (u64 o.1.lovelace (right_of _ _ h)), tt)))), omega arith)
+output_line : (o : OutRef × Output) → books.is_output o ≡ true → IsLine (output_words o)
+output_line o h = ((omega arith, (ref o.0 (left_of _ _ (left_of _ _ (left_of _ _ h))), (address o.1.address (right_of _ _ (left_of _ _ (left_of _ _ h))), (dec o.1.lovelace (u64 o.1.lovelace (right_of _ _ (left_of _ _ h))), tt)))), omega arith)
+
+asset_name : (n : List ℕ) → nat_le (length n) 32 ≡ true → IsWord (asset_name_text n)
+asset_name [] h = omega arith
+asset_name (b ∷ bs) h =
+    let few : length (b ∷ bs) ≤ 32 = leb-true (length (b ∷ bs)) 32 h in
+    omega (arith, few, length-encode_with lower_digits (b ∷ bs))
+
+asset_line : (e : AssetId × ℕ) → books.is_held_asset e ≡ true → IsLine (asset_words e)
+asset_line e h =
+    let id = left_of _ _ h in
+    let held : e.1 < 2 ^ 64 = ltb-true e.1 (2 ^ 64) (right_of _ _ (right_of _ _ h)) in
+    ((omega arith, (hash_word 28 e.0.policy (omega arith) (left_of _ _ (left_of _ _ id)), (asset_name e.0.name (right_of _ _ (left_of _ _ id)), (dec e.1 held, tt)))), omega arith)
+
+pub output_lines_are : (o : OutRef × Output) → books.is_output o ≡ true → AreLines (output_lines o)
+output_lines_are o h = (output_line o h, lines_map books.is_held_asset asset_words asset_line o.1.assets (right_of _ _ (right_of _ _ h)))
 
 pub vote_line : (p : Proposal) (v : Voter × Vote) → is_action_id p.id ≡ true → is_vote v ≡ true → IsLine (vote_words p v)
 vote_line p v k h = ((omega arith, (action_id p.id k, (voter_word v.0 h, (vote_word v.1, tt)))), omega arith)

@@ -17,6 +17,7 @@ use Rattle.maps.proofs.Kept.{IsMap-with_values}
 use Rattle.maps.proofs.Several.{sum_values-with_values}
 use Rattle.maps.proofs.Sets.{IsSet-in_order, has_member-with_key}
 use Rattle.gov_ids.specs.declared.Address.{Address}
+use Rattle.gov_ids.specs.declared.assets.AssetId.{AssetId}
 use Rattle.gov_ids.specs.declared.Credential.{Credential}
 use Rattle.gov_ids.specs.declared.Drep.{Drep}
 use Rattle.gov_ids.specs.declared.OutRef.{OutRef}
@@ -53,16 +54,16 @@ stays : (ks s : List TxId) (q : TxId) → has_member txid_cmp s q ≡ true → h
 stays [] s q h = h
 stays (k ∷ ks) s q h = stays ks (with_key txid_cmp k s) q (has_member-with_key txid_total k s q ∙ or_right (eq_by_cmp txid_cmp k q) _ h)
 
-abbrev Entry3 : Type 0
-Entry3 = OutRef × Address × ℕ
+abbrev Output4 : Type 0
+Output4 = OutRef × Address × ℕ × List (AssetId × ℕ)
 
-abbrev as_entry : Entry3 → OutRef × Output
-as_entry o = (o.0, record { address = o.1; lovelace = o.2 })
+abbrev as_entry : Output4 → OutRef × Output
+as_entry o = (o.0, record { address = o.1; lovelace = o.2; assets = o.3 })
 
-all_in : (os : List Entry3) (s : List TxId) → AllByRecursion (λ (r : OutRef). has_member txid_cmp (made_set s (map (λ (o : Entry3). o.0.tx) os)) r.tx ≡ true) (keys_of (map as_entry os))
+all_in : (os : List Output4) (s : List TxId) → AllByRecursion (λ (r : OutRef). has_member txid_cmp (made_set s (map (λ (o : Output4). o.0.tx) os)) r.tx ≡ true) (keys_of (map as_entry os))
 all_in [] s = tt
 all_in (o ∷ os) s = (
-  stays (map (λ (o : Entry3). o.0.tx) os) (with_key txid_cmp o.0.tx s) o.0.tx (has_member-with_key txid_total o.0.tx s o.0.tx ∙ or_left _ (has_member txid_cmp s o.0.tx) ((eq_by_cmp_equiv txid_total).refl o.0.tx)),
+  stays (map (λ (o : Output4). o.0.tx) os) (with_key txid_cmp o.0.tx s) o.0.tx (has_member-with_key txid_total o.0.tx s o.0.tx ∙ or_left _ (has_member txid_cmp s o.0.tx) ((eq_by_cmp_equiv txid_total).refl o.0.tx)),
   all_in os (with_key txid_cmp o.0.tx s),
 )
 
@@ -127,18 +128,18 @@ Member3 = Credential × ℕ × Option Credential
 pub genesis_is_sound : GenesisIsSound
 genesis_is_sound g = record {
   outputs = from_none outref_total (map as_entry g.outputs);
-  used = IsSet-in_order txid_total (map (λ (o : Entry3). o.0.tx) g.outputs);
+  used = IsSet-in_order txid_total (map (λ (o : Output4). o.0.tx) g.outputs);
   accounts = from_none credential_total (map (λ (x : Account5). (x.0, as_registered x)) g.accounts);
   pools = from_none pool_total (map (λ (p : GenesisPool). (p.pool, as_pool p)) g.pools);
   dreps = from_none credential_total (map (λ (x : Drep3). (x.0, as_drep x)) g.dreps);
   hot = from_none credential_total (filter_map (λ (m : Member3). option_map (λ (key : Credential). (m.0, Hot key)) m.2) (genesis_members g.committee));
-  ids_used = all-with_values outref_cmp (λ (r : OutRef). has_member txid_cmp (in_order txid_cmp (map (λ (o : Entry3). o.0.tx) g.outputs)) r.tx ≡ true) (map as_entry g.outputs) [] (all_in g.outputs []) tt;
+  ids_used = all-with_values outref_cmp (λ (r : OutRef). has_member txid_cmp (in_order txid_cmp (map (λ (o : Output4). o.0.tx) g.outputs)) r.tx ≡ true) (map as_entry g.outputs) [] (all_in g.outputs []) tt;
 }
 
 -- what holds where a genesis breaks no rule
 pub record IsUnbrokenGenesis (g : Genesis) : Type 0 where
   pub within : nat_lt SUPPLY_LIMIT g.supply ≡ false
-  pub outputs_apart : repeats outref_cmp (map (λ (o : Entry3). o.0) g.outputs) ≡ false
+  pub outputs_apart : repeats outref_cmp (map (λ (o : Output4). o.0) g.outputs) ≡ false
   pub accounts_apart : repeats credential_cmp (map (λ (x : Account5). x.0) g.accounts) ≡ false
   pub pools_apart : repeats pool_cmp (pool_ids g) ≡ false
   pub dreps_apart : repeats credential_cmp (drep_ids g) ≡ false
@@ -153,7 +154,7 @@ unbroken_genesis g h =
     let d = fault-cons _ _ _ c.1 in
     let e = fault-cons _ _ _ d.1 in
     let members = repeats credential_cmp (map (λ m. m.0) (genesis_members g.committee)) in
-    let outputs = repeats outref_cmp (map (λ (o : Entry3). o.0) g.outputs) in
+    let outputs = repeats outref_cmp (map (λ (o : Output4). o.0) g.outputs) in
     let accounts = repeats credential_cmp (map (λ (x : Account5). x.0) g.accounts) in
     let pools = repeats pool_cmp (pool_ids g) in
     let r4 = or_parts (members || outputs || accounts || pools) (repeats credential_cmp (drep_ids g)) b.0 in
@@ -176,7 +177,7 @@ genesis_holds_supply g h =
     omega (
       arith,
       u.sum,
-      sum-started outref_total (λ (o : Entry3). o.0) (λ (o : Entry3). let x : Output = record { address = o.1; lovelace = o.2 } in x) (λ (x : Output). x.lovelace) g.outputs u.outputs_apart,
+      sum-started outref_total (λ (o : Output4). o.0) (λ (o : Output4). let x : Output = record { address = o.1; lovelace = o.2; assets = o.3 } in x) (λ (x : Output). x.lovelace) g.outputs u.outputs_apart,
       sum-started credential_total (λ (x : Account5). x.0) as_registered (λ (r : Registered). r.deposit) g.accounts u.accounts_apart,
       sum-started credential_total (λ (x : Account5). x.0) as_registered (λ (r : Registered). r.rewards) g.accounts u.accounts_apart,
       sum-started pool_total (λ (p : GenesisPool). p.pool) as_pool (λ (p : Pool). p.deposit) g.pools u.pools_apart,

@@ -225,7 +225,7 @@ count_along (r ∷ more) rs v g c h =
 -- the length of an epoch, as it is read
 long_epochs : (g : Genesis) → genesis_limits.is_within_limits g ≡ true → 0 < g.epoch_length
 long_epochs g h =
-    ltb-true 0 g.epoch_length (right_of _ _ (left_of _ _ (left_of _ _ (left_of _ _ (left_of _ _ (left_of _ _ (left_of _ _ (left_of _ _ (left_of _ _ (left_of _ _ (left_of _ _ (left_of _ _ h))))))))))))
+    ltb-true 0 g.epoch_length (right_of _ _ (left_of _ _ (left_of _ _ (left_of _ _ (left_of _ _ (left_of _ _ (left_of _ _ (left_of _ _ (left_of _ _ (left_of _ _ (left_of _ _ (left_of _ _ (left_of _ _ h)))))))))))))
 
 pub counted_is_the_pulses : CountedIsThePulses
 counted_is_the_pulses g h f rs r =

@@ -3,6 +3,7 @@ pub mod GoodTx
 pub mod GoodBlock
 pub mod Start
 pub mod Reach
+pub mod AssetMoves
 pub mod Counted
 pub mod Pulses
 pub mod Parted

@@ -37,7 +37,7 @@ use Rattle.run_laws.proofs.Start.{genesis_good}
 
 -- what reading gives of withdrawals and rewards
 own_withdrawals : (tx : Tx) → tx_limits.is_within_limits tx ≡ true → HasOwnWithdrawals tx
-own_withdrawals tx h = not-true _ (right_of _ _ (left_of _ _ (left_of _ _ (left_of _ _ (left_of _ _ (left_of _ _ (left_of _ _ (left_of _ _ h))))))))
+own_withdrawals tx h = not-true _ (right_of _ _ (left_of _ _ (left_of _ _ (left_of _ _ (left_of _ _ (left_of _ _ (left_of _ _ (left_of _ _ (left_of _ _ h)))))))))
 
 own_rewards : (u : Rewards) → rewards_limits.is_within_limits u ≡ true → repeats credential_cmp (map (λ r. r.0) u.rewards) ≡ false
 own_rewards u h = not-true _ (right_of _ _ (left_of _ _ (left_of _ _ (left_of _ _ (left_of _ _ h)))))
@@ -110,8 +110,11 @@ reached_held w h =
     subst (λ (v : World). IsHeld h.genesis.supply v) h.reached
     (all_held h.records (world_of_genesis h.genesis) (record { good = genesis_good h.genesis; supply = genesis_holds_supply h.genesis h.no_fault }) h.all_within)
 
+pub reached_good : (w : World) → IsReached w → IsGood w
+reached_good w h = (reached_held w h).good
+
 pub flows_balance : FlowsBalance
-flows_balance w h r e = record_moves w r (reached_held w h).good e
+flows_balance w h r e = record_moves w r (reached_good w h) e
 
 pub supply_stays : SupplyStays
 supply_stays w h = (reached_held w h).supply

@@ -1,5 +1,5 @@
 ghost use Rattle.run_laws.specs.Boundaries.{BoundariesKeepSound};
-ghost use Rattle.run_model.specs.Laws.{CountedIsThePulses, EpochsRatifyOneList, FlowsBalance, PulsesDoNotShow, StandsBetweenBoundaries, SupplyStays};
+ghost use Rattle.run_model.specs.Laws.{AssetsChangeByMint, CountedIsThePulses, EpochsRatifyOneList, FlowsBalance, PulsesDoNotShow, StandsBetweenBoundaries, SupplyStays};
 ghost use Rattle.run_model.specs.SoundLaws.{DrepStakesAreWithin, GenesisBeginsSound, PoolStakesAreWithin, RecordsKeepSound};
 
 /// Each record moves each pot by its flows, and nothing stays in hand, for every ledger that records reach. (The preservation of value of the formal specification)
@@ -10,6 +10,11 @@ pub fn flows_balance()
 /// All pots together hold the supply of the genesis, for every ledger that records reach. (The preservation of value of the formal specification)
 pub fn supply_stays()
     ensures { SupplyStays }
+{}
+
+/// Assets change by mint alone: each record changes how much of an asset the unspent outputs hold by what it mints and burns of it, for every ledger that records reach. (The preservation of value of the formal specification)
+pub fn assets_change_by_mint()
+    ensures { AssetsChangeByMint }
 {}
 
 /// Each epoch ratifies exactly one list of what it froze, which is one delaying action or has none, for every ledger that records reach. (CIP-1694, Ratification)

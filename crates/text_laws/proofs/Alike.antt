@@ -8,7 +8,7 @@ use Rattle.tx_records.specs.declared.record.Reading.{Reading}
 use Rattle.tx_records.specs.declared.record.Reading.TheVariants.{Read, Malformed, TooLong}
 use Rattle.tx_records.specs.declared.record.Record.{Record}
 use Rattle.tx_records.specs.declared.record.Record.TheVariants as records
-use Rattle.tx_records.specs.declared.record.What.TheVariants.{Pots, State}
+use Rattle.tx_records.specs.declared.record.What.TheVariants.{Pots, State, Assets}
 use Rattle.tx_records.specs.declared.reply.Reply.{Reply}
 use Rattle.tx_records.specs.declared.reply.Reply.TheVariants.{Accepted, AcceptedFailedScripts, Refused}
 use Rattle.tx_records.specs.declared.reply.Rule.{Rule}
@@ -23,7 +23,7 @@ use Rattle.run_model.specs.Step.{crossed, enters_next, epoch_at, pulsed, refusal
 use Rattle.run_model.specs.World.{World}
 use Rattle.text_model.specs.Replies.{block_words, pots_words}
 use Rattle.text_model.specs.Runs.{crossing_lines, lines_by, reading_lines, text_from, text_of_genesis, text_of_lines, text_of_readings, world_after_reading}
-use Rattle.text_model.specs.StateLines.{state_lines}
+use Rattle.text_model.specs.StateLines.{asset_lines, state_lines}
 use Rattle.text_model.specs.Words.{Text, line_of}
 use Rattle.text_laws.specs.Alike.{AreAlikeButCounted, AreOfOneBlock, IsReadSameButPulse, IsSameButCounted, IsSameButPulse, IsTextSameButCounted}
 use Rattle.text_laws.specs.Laws.{PulsesDoNotShowInText}
@@ -117,6 +117,7 @@ accepted_alike n w (records.Tx tx) =
     (tx_lines (accepted_as tx.scripts) tx (counting n w) w (counting n after) after, refl)
 accepted_alike n w (records.Print Pots) = ((inl refl, tt), refl)
 accepted_alike n w (records.Print State) = (same_lines (state_lines w), refl)
+accepted_alike n w (records.Print Assets) = (same_lines (asset_lines w), refl)
 
 record_by : (o : Option Rule) (n : ℕ) (w : World) (r : Record) → AreToldAlike o n w r r
 record_by (Some rule) n w r = refused_alike rule n w r r

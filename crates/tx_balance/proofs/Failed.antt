@@ -1,7 +1,8 @@
 -- A transaction whose scripts failed moves the pots by its flows.
-use Rattle.std.proofs.Common.{◌≡◌, ℕ, ◌+◌, List, [], ◌∷◌, ◌++◌, true, cond, Option, Some, None, map, sum_by, length, refl, ap, ◌∙◌, arith}
+use Rattle.std.proofs.Common.{◌≡◌, ℕ, ◌+◌, List, [], ◌∷◌, ◌++◌, true, cond, Option, Some, None, map, sum_by, length, refl, ap, arith}
 use Rattle.std.specs.Option.{option_to_list}
-use Rattle.maps.specs.Maps.{value_at, with_values, without_keys}
+use Rattle.maps.specs.Maps.{value_at, sum_values, with_values, without_keys}
+use Rattle.maps.specs.Words.{amount}
 use Rattle.gov_ids.specs.declared.OutRef.{OutRef}
 use Rattle.gov_ids.specs.Orders.{outref_cmp}
 use Rattle.book_records.specs.declared.Output.{Output}
@@ -9,9 +10,8 @@ use Rattle.tx_records.specs.declared.tx.Scripts.{Scripts}
 use Rattle.tx_records.specs.declared.tx.Scripts.TheVariants.{Absent, Passed, Failed}
 use Rattle.tx_records.specs.declared.tx.Tx.{Tx}
 use Rattle.tx_records.specs.declared.tx.TxOutput.{TxOutput}
-use Rattle.ledger_model.specs.Ledger.{Ledger}
+use Rattle.ledger_model.specs.Ledger.{Ledger, output_at}
 use Rattle.ledger_model.specs.UtxoRules.{lovelace_at, is_failed, has_scripts, collateral_left, returned}
-use Rattle.book_records.specs.Outputs.{lovelace_in}
 use Rattle.ledger_model.specs.Supply.{pots_of}
 use Rattle.ledger_model.specs.Flows.{Pot, outputs, deposits, rewards, fees, donations, treasury, reserves, hand, Flow, flow, End, source, sink, sum_at, flows_of_failed, flows_of_scripts}
 use Rattle.ledger_model.specs.Moves.{IsMovedBy, held_in}
@@ -19,7 +19,7 @@ use Rattle.ledger_model.specs.Transaction.{after_failed, after_scripts, made_ret
 use Rattle.ledger_model.specs.Sound.{IsSound}
 use Rattle.tx_balance.specs.Laws.{FailedBalances}
 use Rattle.ledger_model.proofs.FlowSums.{is_end, sum-cons, sum-append, sum-map}
-use Rattle.tx_balance.proofs.Outputs.{made_from, made_once, made_not_there, sum-made, outputs_settled, not_there_after}
+use Rattle.tx_balance.proofs.Outputs.{made_from, made_once, made_not_there, sum_values-made, outputs_settled, not_there_after}
 use Rattle.tx_balance.proofs.OutputParts.{IsPassed, parts_of, id_is_new, collateral_once, collateral_split}
 
 abbrev lovelace_of : TxOutput → ℕ
@@ -64,17 +64,23 @@ module _ (l : Ledger) (tx : Tx) where
   pub made : made_return tx ≡ made_from tx.id kept_output (length tx.outputs) (option_to_list tx.collateral_return)
   made = made_by tx.collateral_return
 
+  -- what collateral and its return hold of anything, beside what there was
+  pub collateral_settled : IsSound l → IsPassed l tx → (f : Output → ℕ)
+      → sum_values f (after_failed l tx).outputs + sum_by (λ r. amount f (output_at l r)) tx.collateral ≡ sum_values f l.outputs + sum_by (λ o. f (kept_output o)) (option_to_list tx.collateral_return)
+  collateral_settled s p f =
+      let n : ℕ = length tx.outputs in
+      let back : List TxOutput = option_to_list tx.collateral_return in
+      let settled =
+      outputs_settled f l tx.collateral (made_from tx.id kept_output n back) s (collateral_once l tx p) (made_once tx.id kept_output n back)
+      (made_not_there tx.id kept_output (λ r. value_at outref_cmp (without_keys outref_cmp tx.collateral l.outputs) r ≡ None) (λ i. not_there_after l tx.id i tx.collateral s (id_is_new l tx p)) n back) in
+      let there = ap (λ (es : List (OutRef × Output)). sum_values f (with_values outref_cmp es (without_keys outref_cmp tx.collateral l.outputs))) made in
+      omega (arith, settled, there, sum_values-made tx.id kept_output f n back)
+
   failed_moves : IsSound l → IsPassed l tx → has_scripts tx.scripts ≡ true → IsMovedBy (flows_of_failed l tx) (pots_of l) (pots_of (after_failed l tx))
   failed_moves s once e =
-      let new : List (OutRef × Output) = made_from tx.id kept_output (length tx.outputs) (option_to_list tx.collateral_return) in
-      let settled : lovelace_in (with_values outref_cmp new (without_keys outref_cmp tx.collateral l.outputs)) + all_spent ≡ lovelace_in l.outputs + lovelace_in new =
-      outputs_settled l tx.id tx.collateral new s (collateral_once l tx once) (made_once tx.id kept_output (length tx.outputs) (option_to_list tx.collateral_return))
-      (made_not_there tx.id kept_output (λ r. value_at outref_cmp (without_keys outref_cmp tx.collateral l.outputs) r ≡ None) (λ i. not_there_after l tx.id i tx.collateral s (id_is_new l tx once)) (length tx.outputs) (option_to_list tx.collateral_return)) in
-      let there : lovelace_in (with_values outref_cmp (made_return tx) (without_keys outref_cmp tx.collateral l.outputs)) + all_spent ≡ lovelace_in l.outputs + lovelace_in new =
-      ap (λ (es : List (OutRef × Output)). lovelace_in (with_values outref_cmp es (without_keys outref_cmp tx.collateral l.outputs)) + all_spent) made ∙ settled in
-      let holds : lovelace_in new ≡ all_returned = sum-made tx.id kept_output (length tx.outputs) (option_to_list tx.collateral_return) in
+      let settled = collateral_settled s once (λ (o : Output). o.lovelace) in
       λ p. elim p as (λ p. held_in p (pots_of (after_failed l tx)) + sum_at source p (flows_of_failed l tx) ≡ held_in p (pots_of l) + sum_at sink p (flows_of_failed l tx)) [
-        | outputs ↦ omega (arith, failed_sum sink outputs, failed_sum source outputs, there, holds)
+        | outputs ↦ omega (arith, failed_sum sink outputs, failed_sum source outputs, settled)
         | deposits ↦ omega (arith, failed_sum sink deposits, failed_sum source deposits)
         | rewards ↦ omega (arith, failed_sum sink rewards, failed_sum source rewards)
         | fees ↦ omega (arith, failed_sum sink fees, failed_sum source fees)

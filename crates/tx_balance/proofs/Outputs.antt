@@ -10,7 +10,8 @@ use Rattle.std.specs.declared.cmp.Ordering.TheVariants.{Less, Equal, Greater}
 use Rattle.std.proofs.lemmas.Cmp.{eq_by_cmp_equiv}
 use Rattle.std.proofs.lemmas.List.Folds.{list_any-append}
 use Rattle.std.proofs.Math.Seq.{take-append_seam}
-use Rattle.maps.specs.Maps.{value_at, has_member, with_values, without_keys}
+use Rattle.maps.specs.Maps.{value_at, has_member, sum_values, with_values, without_keys}
+use Rattle.maps.specs.Words.{amount}
 use Rattle.maps.proofs.Lookups.{value_at-without_keys}
 use Rattle.maps.proofs.Several.{sum_values-with_values, sum_values-without_keys}
 use Rattle.maps.proofs.Ties.{is_equal}
@@ -21,9 +22,9 @@ use Rattle.gov_ids.specs.Same.{same_outref}
 use Rattle.gov_ids.proofs.Exacts.{outref_exact}
 use Rattle.gov_ids.proofs.Totals.{outref_total}
 use Rattle.book_records.specs.declared.Output.{Output}
-use Rattle.ledger_model.specs.Ledger.{Ledger}
+use Rattle.ledger_model.specs.Ledger.{Ledger, output_at}
 use Rattle.ledger_model.specs.Checks.{Check, per_place_from}
-use Rattle.ledger_model.specs.UtxoRules.{lovelace_at, is_spent_before}
+use Rattle.ledger_model.specs.UtxoRules.{is_spent_before}
 use Rattle.book_records.specs.Outputs.{lovelace_in}
 use Rattle.ledger_model.specs.Sound.{IsSound}
 use Rattle.ledger_model.proofs.Unbroken.{IsUnbroken, unbroken-per_place}
@@ -110,17 +111,20 @@ module _ (id : TxId) {X : Type 0} (kept : X → Output) where
   made_not_there P h n [] = tt
   made_not_there P h n (x ∷ xs) = (h n, made_not_there P h (n + 1) xs)
 
-  pub sum-made : (n : ℕ) (xs : List X) → lovelace_in (made_from n xs) ≡ sum_by (λ x. (kept x).lovelace) xs
-  sum-made n [] = refl
-  sum-made n (x ∷ xs) = omega (arith, sum-made (n + 1) xs, sum_by-cons (λ (o : Output). o.lovelace) (kept x) (values_of (made_from (n + 1) xs)), sum_by-cons (λ x. (kept x).lovelace) x xs)
+  pub sum_values-made : (f : Output → ℕ) (n : ℕ) (xs : List X) → sum_values f (made_from n xs) ≡ sum_by (λ x. f (kept x)) xs
+  sum_values-made f n [] = refl
+  sum_values-made f n (x ∷ xs) = omega (arith, sum_values-made f (n + 1) xs, sum_by-cons f (kept x) (values_of (made_from (n + 1) xs)), sum_by-cons (λ x. f (kept x)) x xs)
 
--- what is spent and what is made, beside what there was
-pub outputs_settled : (l : Ledger) (id : TxId) (rs : List OutRef) (new : List (OutRef × Output)) → IsSound l → IsDistinct same_outref rs
+  pub sum-made : (n : ℕ) (xs : List X) → lovelace_in (made_from n xs) ≡ sum_by (λ x. (kept x).lovelace) xs
+  sum-made = sum_values-made (λ (o : Output). o.lovelace)
+
+-- what is spent and what is made of anything that outputs hold, beside what there was
+pub outputs_settled : (f : Output → ℕ) (l : Ledger) (rs : List OutRef) (new : List (OutRef × Output)) → IsSound l → IsDistinct same_outref rs
     → IsDistinct same_outref (keys_of new) → AllByRecursion (λ r. value_at outref_cmp (without_keys outref_cmp rs l.outputs) r ≡ None) (keys_of new)
-    → lovelace_in (with_values outref_cmp new (without_keys outref_cmp rs l.outputs)) + sum_by (lovelace_at l) rs ≡ lovelace_in l.outputs + lovelace_in new
-outputs_settled l id rs new s once new_once fresh =
+    → sum_values f (with_values outref_cmp new (without_keys outref_cmp rs l.outputs)) + sum_by (λ r. amount f (output_at l r)) rs ≡ sum_values f l.outputs + sum_values f new
+outputs_settled f l rs new s once new_once fresh =
     omega (
       arith,
-      sum_values-with_values outref_total (λ (o : Output). o.lovelace) new (without_keys outref_cmp rs l.outputs) new_once fresh,
-      sum_values-without_keys outref_total outref_exact (λ (o : Output). o.lovelace) rs l.outputs s.outputs once,
+      sum_values-with_values outref_total f new (without_keys outref_cmp rs l.outputs) new_once fresh,
+      sum_values-without_keys outref_total outref_exact f rs l.outputs s.outputs once,
     )

@@ -3,10 +3,13 @@ use Rattle.std.proofs.Common.{◌≡◌, ℕ, ◌+◌, List, [], ◌∷◌, ◌+
 use Rattle.std.specs.List.{enumerate_from}
 use Rattle.std.proofs.lemmas.Bool.{eqb-true, not-false}
 use Rattle.std.proofs.lemmas.List.Sums.{sum_by-append, sum_by-cons}
-use Rattle.maps.specs.Maps.{value_at, without_keys}
+use Rattle.maps.specs.Maps.{value_at, sum_values, without_keys}
+use Rattle.maps.specs.Words.{amount}
 use Rattle.gov_ids.specs.declared.Account.{Account}
+use Rattle.gov_ids.specs.declared.OutRef.{OutRef}
 use Rattle.gov_ids.specs.declared.TxId.{TxId}
 use Rattle.gov_ids.specs.Orders.{outref_cmp}
+use Rattle.book_records.specs.declared.Output.{Output}
 use Rattle.book_records.specs.declared.Registered.{Registered}
 use Rattle.gov_actions.specs.declared.action.Proposal.{Proposal}
 use Rattle.tx_records.specs.declared.tx.ProposalRecord.{ProposalRecord}
@@ -14,15 +17,14 @@ use Rattle.tx_records.specs.declared.tx.Scripts.{Scripts}
 use Rattle.tx_records.specs.declared.tx.Scripts.TheVariants.{Absent, Passed, Failed}
 use Rattle.tx_records.specs.declared.tx.Tx.{Tx}
 use Rattle.tx_records.specs.declared.tx.TxOutput.{TxOutput}
-use Rattle.ledger_model.specs.Ledger.{Ledger}
+use Rattle.ledger_model.specs.Ledger.{Ledger, output_at}
 use Rattle.ledger_model.specs.Checks.{Check, per_place}
 use Rattle.ledger_model.specs.Changes.{withdrawn, emptied, is_withdrawn}
 use Rattle.ledger_model.specs.CertRules.{withdrawal_checks, cert_checks}
 use Rattle.ledger_model.specs.ProposalRules.{proposal_checks, vote_checks}
 use Rattle.ledger_model.specs.UtxoRules.{lovelace_at, is_failed, unless_failed}
-use Rattle.book_records.specs.Outputs.{lovelace_in}
 use Rattle.ledger_model.specs.Supply.{pots_of, deposits_of}
-use Rattle.ledger_model.specs.Broken.{body_checks, balance_checks, consumed, produced}
+use Rattle.ledger_model.specs.Broken.{asset_checks, body_checks, balance_checks, consumed, produced}
 use Rattle.ledger_model.specs.Draft.{draft_after, last_draft}
 use Rattle.ledger_model.specs.Flows.{Pot, outputs, deposits, rewards, fees, donations, treasury, reserves, hand, Flow, flow, End, source, sink, sum_at, flows_of_certs, flows_of_passed, flows_of_scripts}
 use Rattle.ledger_model.specs.Moves.{IsMovedBy, held_in}
@@ -33,7 +35,7 @@ use Rattle.ledger_model.proofs.DraftKeeps.{HasMaps, IsKept, draft_keeps}
 use Rattle.ledger_model.proofs.Unbroken.{IsUnbroken, unbroken-append, unbroken-cons}
 use Rattle.ledger_model.proofs.FlowSums.{is_end, sum-cons, sum-append, sum-map}
 use Rattle.ledger_model.proofs.SameSums.{sum_by-map, sum_values-changed_same}
-use Rattle.tx_balance.proofs.Outputs.{made_from, made_once, made_not_there, sum-made, outputs_settled, not_there_after}
+use Rattle.tx_balance.proofs.Outputs.{made_from, made_once, made_not_there, sum_values-made, outputs_settled, not_there_after}
 use Rattle.tx_balance.proofs.OutputParts.{IsPassed, parts_of, id_is_new, inputs_once}
 use Rattle.tx_balance.proofs.Withdrawals.{withdrawals_sum, withdrawals_whole, own_credentials}
 use Rattle.tx_balance.proofs.Certs.{IsMovedDraft, rewards_in}
@@ -128,6 +130,7 @@ module _ (l : Ledger) (tx : Tx) where
     pub certs : IsUnbroken cert_group
     pub proposals : IsUnbroken proposal_group
     pub balanced : consumed l tx ≡ produced l tx
+    pub assets : IsUnbroken (asset_checks l tx)
 
   pub body_parts : IsUnbroken (body_checks l tx) → IsBodyPassed
   body_parts h =
@@ -135,7 +138,18 @@ module _ (l : Ledger) (tx : Tx) where
       let b = unbroken-append (withdrawal_group ++ cert_group ++ proposal_group) vote_group a.0 in
       let c = unbroken-append (withdrawal_group ++ cert_group) proposal_group b.0 in
       let d = unbroken-append withdrawal_group cert_group c.0 in
-      record { withdrawals = d.0; certs = d.1; proposals = c.1; balanced = eqb-true (consumed l tx) (produced l tx) (not-false _ (unbroken-cons _ _ a.1).0) }
+      let e = unbroken-cons _ _ a.1 in
+      record { withdrawals = d.0; certs = d.1; proposals = c.1; balanced = eqb-true (consumed l tx) (produced l tx) (not-false _ e.0); assets = e.1 }
+
+  -- what inputs and outputs hold of anything, beside what there was
+  pub inputs_settled : IsSound l → IsPassed l tx → (f : Output → ℕ)
+      → sum_values f (after_passed l tx).outputs + sum_by (λ r. amount f (output_at l r)) tx.inputs ≡ sum_values f l.outputs + sum_by (λ o. f (kept_output o)) tx.outputs
+  inputs_settled s p f =
+      let new : List (OutRef × Output) = made_from tx.id kept_output 0 tx.outputs in
+      let settled =
+      outputs_settled f l tx.inputs new s (inputs_once l tx p) (made_once tx.id kept_output 0 tx.outputs)
+      (made_not_there tx.id kept_output (λ r. value_at outref_cmp (without_keys outref_cmp tx.inputs l.outputs) r ≡ None) (λ i. not_there_after l tx.id i tx.inputs s (id_is_new l tx p)) 0 tx.outputs) in
+      omega (arith, settled, sum_values-made tx.id kept_output f 0 tx.outputs)
 
   -- the draft after the withdrawals
   abbrev emptied_ledger : Ledger
@@ -157,10 +171,7 @@ module _ (l : Ledger) (tx : Tx) where
       let moves : IsMovedDraft certified (draft_after l tx 0) last = certs_move l tx maps [] tx.certs refl b.certs in
       let dep : AreDeposits certified = all_deposits l tx maps 0 tx.certs in
       let taken_sum = withdrawn_rewards s own b in
-      let settled =
-      outputs_settled l tx.id tx.inputs (made_from tx.id kept_output 0 tx.outputs) s (inputs_once l tx p) (made_once tx.id kept_output 0 tx.outputs)
-      (made_not_there tx.id kept_output (λ r. value_at outref_cmp (without_keys outref_cmp tx.inputs l.outputs) r ≡ None) (λ i. not_there_after l tx.id i tx.inputs s (id_is_new l tx p)) 0 tx.outputs) in
-      let holds : lovelace_in (made_from tx.id kept_output 0 tx.outputs) ≡ all_made = sum-made tx.id kept_output 0 tx.outputs in
+      let settled = inputs_settled s p (λ (o : Output). o.lovelace) in
       let voted : sum_by proposal_dep (map (with_votes tx) last.proposals) ≡ sum_by proposal_dep last.proposals = sum_by-map proposal_dep (with_votes tx) last.proposals in
       let listed : sum_by proposal_dep (map (with_votes tx) last.proposals ++ made_proposals (last_voting_epoch l) tx) ≡ sum_by proposal_dep (map (with_votes tx) last.proposals) + sum_by proposal_dep (made_proposals (last_voting_epoch l) tx) =
       sum_by-append proposal_dep (map (with_votes tx) last.proposals) (made_proposals (last_voting_epoch l) tx) in
@@ -169,7 +180,7 @@ module _ (l : Ledger) (tx : Tx) where
       let reserves_stay : last.reserves ≡ l.reserves = ap (λ (d : Ledger). d.reserves) (sym kept.only) in
       let others : (p : Pot) → is_other p ≡ true → sum_at source p certified + sum_at sink p certified ≡ 0 = λ p h. omega (arith, dep source p h, dep sink p h) in
       λ p. elim p as (λ p. held_in p (pots_of (after_passed l tx)) + sum_at source p (flows_of_passed l tx) ≡ held_in p (pots_of l) + sum_at sink p (flows_of_passed l tx)) [
-        | outputs ↦ omega (arith, passed_sum sink outputs, passed_sum source outputs, others outputs refl, settled, holds)
+        | outputs ↦ omega (arith, passed_sum sink outputs, passed_sum source outputs, others outputs refl, settled)
         | deposits ↦ omega (arith, passed_sum sink deposits, passed_sum source deposits, moves.deposits, refresh.deposits, withdrawn_deposits, voted, listed, new)
         | rewards ↦ omega (arith, passed_sum sink rewards, passed_sum source rewards, others rewards refl, moves.rewards, refresh.rewards, taken_sum)
         | fees ↦ omega (arith, passed_sum sink fees, passed_sum source fees, others fees refl)

@@ -1,6 +1,9 @@
 -- The laws on one transaction; src/laws.rt has a function for each, whose contract is the law.
-use Rattle.std.specs.Prelude.{◌≡◌, true, false, List, map}
+use Rattle.std.specs.Prelude.{◌≡◌, ◌+◌, true, false, List, map}
 use Rattle.maps.specs.Words.{repeats}
+use Rattle.assets.specs.Quantities.{all_burned, all_minted, quantity_of}
+use Rattle.book_records.specs.Outputs.{assets_in}
+use Rattle.gov_ids.specs.declared.assets.AssetId.{AssetId}
 use Rattle.gov_ids.specs.Orders.{account_cmp}
 use Rattle.tx_records.specs.declared.report.Pots.{Pots}
 use Rattle.tx_records.specs.declared.tx.Tx.{Tx}
@@ -26,6 +29,17 @@ HasOwnWithdrawals tx = repeats account_cmp (map (λ x. x.0) tx.withdrawals) ≡ 
 abbrev pub PassedBalances : Type 0
 PassedBalances = (l : Ledger) (tx : Tx) → IsSound l → HasOwnWithdrawals tx → is_failed tx.scripts ≡ false →
     is_allowed l tx ≡ true → IsMovedBy (flows_of_tx l tx) (pots_of l) (pots_of (ledger_after_tx l tx))
+
+-- an allowed transaction whose scripts did not fail changes what unspent outputs hold of an asset by what it mints and burns of it
+abbrev pub PassedMints : Type 0
+PassedMints = (l : Ledger) (tx : Tx) → IsSound l → is_failed tx.scripts ≡ false → is_allowed l tx ≡ true → (a : AssetId) →
+    assets_in (ledger_after_tx l tx).outputs a + quantity_of (all_burned tx.mint) a
+    ≡ assets_in l.outputs a + quantity_of (all_minted tx.mint) a
+
+-- and one whose scripts failed changes nothing of it
+abbrev pub FailedKeepsAssets : Type 0
+FailedKeepsAssets = (l : Ledger) (tx : Tx) → IsSound l → is_failed tx.scripts ≡ true → is_allowed l tx ≡ true → (a : AssetId) →
+    assets_in (ledger_after_tx l tx).outputs a ≡ assets_in l.outputs a
 
 -- pots that are moved by flows hold as much together as before
 abbrev pub MovesKeepSupply : Type 0

@@ -1,4 +1,4 @@
-ghost use Rattle.tx_balance.specs.Laws.{AllowedKeepsSupply, AllowedStaysSound, FailedBalances, MovesKeepSupply, PassedBalances};
+ghost use Rattle.tx_balance.specs.Laws.{AllowedKeepsSupply, AllowedStaysSound, FailedBalances, FailedKeepsAssets, MovesKeepSupply, PassedBalances, PassedMints};
 
 /// An allowed transaction whose scripts did not fail and that withdraws from no account twice moves each pot of a sound ledger by its flows, and all that it takes in hand it gives on. (The preservation of value of the formal specification)
 pub fn passed_balances()
@@ -8,6 +8,16 @@ pub fn passed_balances()
 /// And so does an allowed one whose scripts failed. (The preservation of value of the formal specification)
 pub fn failed_balances()
     ensures { FailedBalances }
+{}
+
+/// An allowed transaction whose scripts did not fail changes how much of an asset the unspent outputs of a sound ledger hold by what it mints and burns of it. (The preservation of value of the formal specification)
+pub fn passed_mints()
+    ensures { PassedMints }
+{}
+
+/// And an allowed one whose scripts failed changes nothing of it. (The preservation of value of the formal specification)
+pub fn failed_keeps_assets()
+    ensures { FailedKeepsAssets }
 {}
 
 /// Pots that are moved by flows, none of which stays in hand, hold as much together as before. (Own)
