@@ -2,7 +2,7 @@
 use Rattle.std.proofs.Common.{◌≡◌, ◌≢◌, List, [], ◌∷◌, length, get_or, Some, None, refl, arith}
 use Rattle.json_tree.specs.View.{items_view, view}
 use Rattle.json_tree.specs.declared.value.Value.{Value}
-use Rattle.json_fields.specs.Kinds.{two_of, three_of, four_of, five_of, six_or_seven_of}
+use Rattle.json_fields.specs.Kinds.{two_of, three_of, three_or_four_of, four_of, five_of, six_or_seven_of}
 
 -- an array of another length has no two entries
 pub not_two : (xs : List Value) → length xs ≢ 2 → two_of (items_view xs) ≡ None
@@ -18,6 +18,15 @@ not_three (a ∷ []) h = refl
 not_three (a ∷ b ∷ []) h = refl
 not_three (a ∷ b ∷ c ∷ []) h = absurd (h refl)
 not_three (a ∷ b ∷ c ∷ d ∷ xs) h = refl
+
+-- an array of another length has neither three nor four entries
+pub not_three_or_four : (xs : List Value) → length xs ≢ 3 → length xs ≢ 4 → three_or_four_of (items_view xs) ≡ None
+not_three_or_four [] h k = refl
+not_three_or_four (a ∷ []) h k = refl
+not_three_or_four (a ∷ b ∷ []) h k = refl
+not_three_or_four (a ∷ b ∷ c ∷ []) h k = absurd (h refl)
+not_three_or_four (a ∷ b ∷ c ∷ d ∷ []) h k = absurd (k refl)
+not_three_or_four (a ∷ b ∷ c ∷ d ∷ e ∷ xs) h k = refl
 
 -- an array of another length has no four entries
 pub not_four : (xs : List Value) → length xs ≢ 4 → four_of (items_view xs) ≡ None

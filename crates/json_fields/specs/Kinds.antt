@@ -13,7 +13,7 @@ use Rattle.gov_ids.specs.declared.OutRef.{OutRef}
 use Rattle.gov_ids.specs.declared.PoolId.{PoolId}
 use Rattle.gov_ids.specs.declared.TxId.{TxId}
 use Rattle.gov_ids.specs.declared.Voter.{Voter}
-use Rattle.gov_ids.specs.Spelling.{account_of, action_id_of, address_of, credential_of, drep_of, hash_of, pool_of, ref_of, voter_of}
+use Rattle.gov_ids.specs.Spelling.{account_of, action_id_of, address_of, asset_name_of, credential_of, drep_of, hash_of, pool_of, ref_of, voter_of}
 use Rattle.json_fields.specs.declared.fault.FieldFault.{FieldFault}
 use Rattle.json_fields.specs.declared.fault.FieldFault.TheVariants.{Missing, WrongKind, OutOfRange}
 use Rattle.json_fields.specs.Steps.{◌>>=◌, or_fault}
@@ -109,6 +109,10 @@ account_in d = text_by account_of d
 abbrev pub address_in : Data → Result Address FieldFault
 address_in d = text_by address_of d
 
+-- an asset's name
+abbrev pub asset_name_in : Data → Result (List ℕ) FieldFault
+asset_name_in d = text_by asset_name_of d
+
 -- a reference to an output
 abbrev pub ref_in : Data → Result OutRef FieldFault
 ref_in d = text_by ref_of d
@@ -148,6 +152,16 @@ three_of _ = None
 -- an array of three entries
 abbrev pub three_in : Data → Result (Data × Data × Data) FieldFault
 three_in d = items_in d >>= λ ds. or_fault OutOfRange (three_of ds)
+
+-- three entries, or four: the fourth may be left out
+abbrev pub three_or_four_of : Items → Option (Data × Data × Data × Option Data)
+three_or_four_of (item a (item b (item c no_items))) = Some (a, b, c, None)
+three_or_four_of (item a (item b (item c (item e no_items)))) = Some (a, b, c, Some e)
+three_or_four_of _ = None
+
+-- an array of three entries, or of four
+abbrev pub three_or_four_in : Data → Result (Data × Data × Data × Option Data) FieldFault
+three_or_four_in d = items_in d >>= λ ds. or_fault OutOfRange (three_or_four_of ds)
 
 -- four entries
 abbrev pub four_of : Items → Option (Data × Data × Data × Data)

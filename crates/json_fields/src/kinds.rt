@@ -6,12 +6,14 @@ ghost use Rattle.json_fields.specs.Reads.{Reads};
 use crate::fault::FieldFault;
 use crate::lists::Kind;
 use crate::readers::{
-    field, optional_field, read_account, read_action_id, read_address, read_bool, read_credential,
-    read_drep, read_hash28, read_hash32, read_pair, read_pool_id, read_ratio, read_ref, read_tx_id,
-    read_u16, read_u32, read_u64, read_unit, read_voter,
+    field, optional_field, read_account, read_action_id, read_address, read_asset_name, read_bool,
+    read_credential, read_drep, read_hash28, read_hash32, read_pair, read_pool_id, read_ratio,
+    read_ref, read_tx_id, read_u16, read_u32, read_u64, read_unit, read_voter,
 };
 use coin_frac::{Ratio, Unit};
-use gov_ids::{Account, ActionId, Address, Credential, Drep, OutRef, PoolId, TxId, Voter};
+use gov_ids::{
+    Account, ActionId, Address, AssetName, Credential, Drep, OutRef, PoolId, TxId, Voter,
+};
 use json_tree::Value;
 use std::alloc::Global;
 
@@ -169,6 +171,18 @@ impl Kind for Address {
 
     fn read(_alloc: Global, value: &Value<'_>) -> Result<Address, FieldFault> {
         read_address(value)
+    }
+}
+
+impl Kind for AssetName {
+    type Entry = AssetName;
+
+    ghost use Rattle.json_fields.specs.Kinds.{asset_name_in};
+
+    ghost reading = { asset_name_in };
+
+    fn read(_alloc: Global, value: &Value<'_>) -> Result<AssetName, FieldFault> {
+        read_asset_name(value)
     }
 }
 

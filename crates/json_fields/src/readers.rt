@@ -1,12 +1,13 @@
 ghost use Rattle.std.specs.Prelude.{◌≡◌, Ok, Err, ◌^◌, option_map};
 ghost use Rattle.std.specs.Result.{result_map_both};
 ghost use Rattle.json_tree.specs.View.{view, items_view};
-ghost use Rattle.json_fields.specs.Kinds.{field_in, optional_in, bool_in, u64_in, number_below, u32_in, u16_in, text_in, hash28_in, hash32_in, tx_id_in, pool_id_in, credential_in, account_in, address_in, ref_in, action_id_in, drep_in, voter_in, items_in, pair_in, three_in, four_in, five_in, six_or_seven_in, unit_in, ratio_in};
+ghost use Rattle.json_fields.specs.Kinds.{field_in, optional_in, bool_in, u64_in, number_below, u32_in, u16_in, text_in, hash28_in, hash32_in, tx_id_in, pool_id_in, credential_in, account_in, address_in, asset_name_in, ref_in, action_id_in, drep_in, voter_in, items_in, pair_in, three_in, three_or_four_in, four_in, five_in, six_or_seven_in, unit_in, ratio_in};
 
 use crate::fault::FieldFault;
 use coin_frac::{Ratio, Unit};
 use gov_ids::{
-    Account, ActionId, Address, Credential, Drep, OutRef, PoolId, TxId, Voter, hash28, hash32,
+    Account, ActionId, Address, AssetName, Credential, Drep, OutRef, PoolId, TxId, Voter, hash28,
+    hash32,
 };
 use json_tree::Value;
 
@@ -138,6 +139,13 @@ pub fn read_address(v: &Value<'_>) -> Result<Address, FieldFault>
     gov_ids::read_address(read_text(v)?).ok_or(FieldFault::OutOfRange)
 }
 
+/// An asset's name: at most 32 bytes, each as two hex digits. (Own)
+pub fn read_asset_name(v: &Value<'_>) -> Result<AssetName, FieldFault>
+    ensures { result ≡ asset_name_in (view v.now) }
+{
+    gov_ids::read_asset_name(read_text(v)?).ok_or(FieldFault::OutOfRange)
+}
+
 /// A reference to an output: a transaction, `#`, an index below 65536. (Own)
 pub fn read_ref(v: &Value<'_>) -> Result<OutRef, FieldFault>
     ensures { result ≡ ref_in (view v.now) }
@@ -194,6 +202,30 @@ pub fn read_three<'v, 'a>(
 {
     match read_items(v)? {
         [a, b, c] => Ok((a, b, c)),
+        _ => Err(FieldFault::OutOfRange),
+    }
+}
+
+/// An array of three entries, or of four. (Own)
+#[tactic(auto, using(crate::proofs::Items::not_three_or_four))]
+pub fn read_three_or_four<'v, 'a>(
+    v: &'v Value<'a>,
+) -> Result<
+    (
+        &'v Value<'a>,
+        &'v Value<'a>,
+        &'v Value<'a>,
+        Option<&'v Value<'a>>,
+    ),
+    FieldFault,
+>
+    ensures { result_map_both
+        (λ t. (view t.0.now, view t.1.now, view t.2.now, option_map (λ d. view d.now) t.3)) (λ e. e) result
+        ≡ three_or_four_in (view v.now) }
+{
+    match read_items(v)? {
+        [a, b, c] => Ok((a, b, c, None)),
+        [a, b, c, d] => Ok((a, b, c, Some(d))),
         _ => Err(FieldFault::OutOfRange),
     }
 }

@@ -7,4 +7,6 @@ mod actions;
 #[cfg(test)]
 mod fields;
 #[cfg(test)]
+mod outputs;
+#[cfg(test)]
 mod records;

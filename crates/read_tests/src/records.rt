@@ -4,7 +4,7 @@ use std::test::Fail;
 use tx_records::{FieldName, Record, What};
 
 /// A genesis with a pool, up to its key.
-const GENESIS: &str =
+pub const GENESIS: &str =
     r#"{"kind":"genesis","network":1,"slot":0,"epochLength":10,"version":[10,0],"supply":9,"reserves":9,"treasury":0,"params":{"maxBlockBodySize":90112,"maxTxSize":16384,"maxBlockHeaderSize":1100,"maxValueSize":5000,"maxTxExUnits":[1000,1000],"maxBlockExUnits":[1000,1000],"maxCollateralInputs":3,"minFeeA":1,"minFeeB":70,"keyDeposit":2,"poolDeposit":5,"rho":[0,1],"tau":[0,1],"minPoolCost":0,"coinsPerUTxOByte":1,"prices":[[0,1],[0,1]],"minFeeRefScriptCostPerByte":[15,1],"a0":[0,1],"eMax":18,"nOpt":500,"costModels":"0000000000000000000000000000000000000000000000000000000000000000","collateralPercentage":150,"poolVotingThresholds":[[0,1],[0,1],[0,1],[0,1],[0,1]],"drepVotingThresholds":[[67,100],[67,100],[67,100],[67,100],[67,100],[67,100],[67,100],[67,100],[67,100],[67,100]],"govActionLifetime":2,"govActionDeposit":10,"drepDeposit":5,"drepActivity":20,"committeeMinSize":0,"committeeMaxTermLength":100},"document":"dddddddddddddddddddddddddddddddddddddddddddddddddddddddddddddddd","committee":{"threshold":[2,3],"members":[["keeeeeeeeeeeeeeeeeeeeeeeeeeeeeeeeeeeeeeeeeeeeeeeeeeeeeeee",100,null]]},"outputs":[],"accounts":[],"pools":[["0000000000000000000000000000000000000000000000000000001f",5,0,0,[0,1],"1k0000000000000000000000000000000000000000000000000000001f""#;
 
 const GENESIS_END: &str = r#"]],"dreps":[]}"#;
@@ -18,12 +18,16 @@ const POOL_REG_END: &str = "}]}";
 /// A print of the state: of two fields of one name the last counts.
 const PRINT: &[u8] = br#"{"what":"pots","kind":"block","kind":"print","what":"state"}"#;
 
+const PRINT_ASSETS: &[u8] = br#"{"kind":"print","what":"assets"}"#;
+
 const BLOCK: &[u8] = br#"{"kind":"block","slot":5,"pulse":3}"#;
 
 #[test]
 fn reads_a_record(rt: HostRuntime) -> Result<(), Fail> {
     let print = read_record(rt.alloc(), PRINT).ok();
     assert!(rt; matches!(print, Some(Record::Print(What::State))));
+    let print = read_record(rt.alloc(), PRINT_ASSETS).ok();
+    assert!(rt; matches!(print, Some(Record::Print(What::Assets))));
     let block = read_record(rt.alloc(), BLOCK).ok();
     assert!(rt; matches!(block, Some(Record::Block { slot: 5, pulse: 3 })));
     let line = format!(in rt.alloc(); "{GENESIS}{GENESIS_END}")?;

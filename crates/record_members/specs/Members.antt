@@ -17,7 +17,7 @@ place_in (x ∷ xs) k name = if bytes_eq name x then Some k else place_in xs (su
 abbrev pub names : List (List ℕ)
 names =
     codes "kind" ∷ codes "id" ∷ codes "inputs" ∷ codes "outputs" ∷ codes "fee" ∷ codes "size" ∷ codes "scriptFee" ∷ codes "witnessed"
-    ∷ codes "scripts" ∷ codes "from" ∷ codes "until" ∷ codes "collateral" ∷ codes "collateralReturn" ∷ codes "treasury" ∷ codes "donation"
+    ∷ codes "scripts" ∷ codes "from" ∷ codes "until" ∷ codes "collateral" ∷ codes "collateralReturn" ∷ codes "mint" ∷ codes "treasury" ∷ codes "donation"
     ∷ codes "withdrawals" ∷ codes "certs" ∷ codes "proposals" ∷ codes "votes" ∷ []
 
 -- the place of a name

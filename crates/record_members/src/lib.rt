@@ -15,7 +15,7 @@ use std::marker::Model;
 use tx_records::FieldName;
 
 /// How many names have a place.
-const PLACES: usize = 19;
+const PLACES: usize = 20;
 
 /// The members of an object by their places. Contracts see the object.
 #[derive(Drop)]
@@ -60,12 +60,13 @@ fn place_of(text: &str) -> Option<usize>
         "until" => Some(10),
         "collateral" => Some(11),
         "collateralReturn" => Some(12),
-        "treasury" => Some(13),
-        "donation" => Some(14),
-        "withdrawals" => Some(15),
-        "certs" => Some(16),
-        "proposals" => Some(17),
-        "votes" => Some(18),
+        "mint" => Some(13),
+        "treasury" => Some(14),
+        "donation" => Some(15),
+        "withdrawals" => Some(16),
+        "certs" => Some(17),
+        "proposals" => Some(18),
+        "votes" => Some(19),
         _ => None,
     }
 }
@@ -88,12 +89,13 @@ fn place_of_name(name: FieldName) -> Option<usize>
         FieldName::Until => Some(10),
         FieldName::Collateral => Some(11),
         FieldName::CollateralReturn => Some(12),
-        FieldName::Treasury => Some(13),
-        FieldName::Donation => Some(14),
-        FieldName::Withdrawals => Some(15),
-        FieldName::Certs => Some(16),
-        FieldName::Proposals => Some(17),
-        FieldName::Votes => Some(18),
+        FieldName::Mint => Some(13),
+        FieldName::Treasury => Some(14),
+        FieldName::Donation => Some(15),
+        FieldName::Withdrawals => Some(16),
+        FieldName::Certs => Some(17),
+        FieldName::Proposals => Some(18),
+        FieldName::Votes => Some(19),
         _ => None,
     }
 }

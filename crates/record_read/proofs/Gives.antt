@@ -1,5 +1,5 @@
 -- What a reading gives has a property: how a property of the parts becomes one of the whole, of a list and of a field.
-use Rattle.std.proofs.Common.{◌≡◌, ℕ, Bool, true, false, cond, List, Option, Some, None, Result, Ok, Err, refl, ◌||◌, [], ◌∷◌, ◌++◌, length, map, ap, ◌∙◌, arith, length-append}
+use Rattle.std.proofs.Common.{◌≡◌, ℕ, Bool, true, false, cond, ◌&&◌, List, Option, Some, None, Result, Ok, Err, refl, ◌||◌, [], ◌∷◌, ◌++◌, length, map, ap, ◌∙◌, arith, length-append}
 use Rattle.std.specs.Prelude.{IfOk, nat_le, unwrap_or}
 use Rattle.serde_json.specs.Data.{Data, Items, no_items, item}
 use Rattle.maps.specs.Words.{none_or, repeats}
@@ -45,6 +45,10 @@ next {r = Err e} g k = record { holds = tt }
 pub skip : {A B E : Type 0} {Q : B → Type 0} (r : Result A E) {f : A → Result B E} → ((x : A) → Gives Q (f x)) → Gives Q (r >>= f)
 skip (Ok x) k = k x
 skip (Err e) k = record { holds = tt }
+
+-- both tests hold
+pub both : {a b : Bool} → a ≡ true → b ≡ true → (a && b) ≡ true
+both p q = λ i. p i && q i
 
 always : {A E : Type 0} (r : Result A E) → Gives (λ _. true ≡ true) r
 always (Ok x) = record { holds = refl }

@@ -11,11 +11,11 @@ use Rattle.gov_ids.proofs.Spelled.{account_spelled, address_spelled}
 use Rattle.json_fields.specs.declared.fault.FieldFault.TheVariants.{WrongKind, OutOfRange, Missing}
 use Rattle.json_fields.specs.Entries.{needed_in, both_in, maybe_in}
 use Rattle.json_fields.specs.Steps.{or_fault}
-use Rattle.json_fields.specs.Kinds.{text_in, text_by, pair_in, three_in, credential_in, u64_in, u32_in, u16_in, number_below, account_in, address_in, unit_in, hash28_in, hash32_in, items_in}
+use Rattle.json_fields.specs.Kinds.{text_in, text_by, pair_in, ref_in, three_in, three_or_four_in, credential_in, u64_in, u32_in, u16_in, number_below, account_in, address_in, unit_in, hash28_in, hash32_in, items_in}
 use Rattle.tx_records.specs.declared.genesis.GenesisCommittee.{GenesisCommittee}
 use Rattle.tx_records.specs.declared.limits.TheConstants.{LEAST_MAJOR, LIST_LIMIT, NETWORK_LIMIT, SLOT_LIMIT}
-use Rattle.tx_records.specs.Limits.{is_slot, is_u32, is_u64, is_network, is_share, is_at_most, is_output, are_params, is_action}
-use Rattle.record_read.specs.Entries.{slot_in, network_in, epoch_length_in, genesis_version_in, nullable_in, member_in, committee_in, genesis_drep_in, output_in}
+use Rattle.tx_records.specs.Limits.{is_slot, is_u32, is_u64, is_network, is_share, is_at_most, is_output, are_assets, are_params, is_action}
+use Rattle.record_read.specs.Entries.{slot_in, network_in, epoch_length_in, genesis_version_in, nullable_in, member_in, committee_in, genesis_drep_in, genesis_output_in, output_in}
 use Rattle.std.proofs.lemmas.List.{map-id}
 use Rattle.std.proofs.lemmas.Option.{none-some, same_Some}
 use Rattle.serde_json.specs.Data.{Data, Items, no_items, item}
@@ -28,7 +28,8 @@ use Rattle.gov_actions.specs.declared.action.Action.{Action}
 use Rattle.action_read.specs.Actions.{credentials_in, members_in, targets_in, previous_in, no_confidence_in, update_committee_in, new_constitution_in, hard_fork_in, parameter_change_in, treasury_withdrawals_in, action_of_type, action_in}
 use Rattle.action_read.specs.Params.{param_object, units_in, is_five, is_ten, five_units_in, ten_units_in, no_update, network_group_in, fees_in, incomes_in, technical_group_in, governance_group_in, update_in, params_in}
 use Rattle.action_read.specs.Whole.{network_params_of, fee_params_of, income_params_of, technical_params_of, governance_params_of, params_of_update}
-use Rattle.record_read.proofs.Gives.{Within, given, next, skip, if_some, if_test, needed_in-within, Gives, or_else, anything, maybe_in-within, both_in-within, list_in-within, without_place-within, IsDistinctListOf, distinct_list_in-within}
+use Rattle.record_read.proofs.AssetsGive.{assets_by-within}
+use Rattle.record_read.proofs.Gives.{both, Within, given, next, skip, if_some, if_test, needed_in-within, Gives, or_else, anything, maybe_in-within, both_in-within, list_in-within, without_place-within, IsDistinctListOf, distinct_list_in-within}
 
 -- ---- numbers
 
@@ -93,10 +94,20 @@ genesis_drep_in-within d =
 pub output_in-within : Within (λ o. is_output o ≡ true) output_in
 unfolding output_in
 output_in-within d =
-    skip (three_in d) (λ parts.
+    skip (three_or_four_in d) (λ parts.
     next (address_in-within parts.0) (λ address a.
     next (u64_in-within parts.1) (λ lovelace l.
-    next (u32_in-within parts.2) (λ bytes b. given (cc)))))
+    next (u32_in-within parts.2) (λ bytes b.
+    next (assets_by-within parts.3) (λ assets h. given (both (both (both a l) b) h))))))
+
+pub genesis_output_in-within : Within (λ o. are_assets o.3 ≡ true) genesis_output_in
+unfolding genesis_output_in
+genesis_output_in-within d =
+    skip (three_or_four_in d) (λ parts.
+    skip (ref_in parts.0) (λ at.
+    skip (address_in parts.1) (λ address.
+    skip (u64_in parts.2) (λ lovelace.
+    next (assets_by-within parts.3) (λ assets h. given h)))))
 
 -- ---- thresholds
 
@@ -165,9 +176,6 @@ passing (Some x) h k = k x h
 through : {A B : Type 0} {P : B → Type 0} {Q : A → Type 0} {o : Option A} {f : A → Option B} → OfSome Q o → ((x : A) → Q x → OfSome P (f x)) → OfSome P (option_and_then f o)
 through {o = None} g k = record { holds = λ y e. absurd (none-some y e) }
 through {o = Some x} g k = k x (g.holds x refl)
-
-pub both : {a b : Bool} → a ≡ true → b ≡ true → (a && b) ≡ true
-both p q = λ i. p i && q i
 
 -- the same, from what it is of
 abbrev OfWhat : {A : Type 0} → Option A → (A → Type 0) → Type 0

@@ -13,7 +13,7 @@ use Rattle.tx_records.specs.declared.limits.TheConstants.{LEAST_MAJOR, LIST_LIMI
 use Rattle.tx_records.specs.declared.record.Record.{Record}
 use Rattle.tx_records.specs.declared.tx.ProposalRecord.{ProposalRecord}
 use Rattle.tx_records.specs.GenesisLimits as genesis_limits
-use Rattle.tx_records.specs.Limits.{is_u32, is_u64, is_network, is_output, is_action, is_at_most, is_slot, are_params, genesis_members}
+use Rattle.tx_records.specs.Limits.{are_assets, is_mint, is_u32, is_u64, is_network, is_output, is_action, is_at_most, is_slot, are_params, genesis_members}
 use Rattle.tx_records.specs.RecordLimits.{is_within_limits}
 use Rattle.tx_records.specs.RewardsLimits as rewards_limits
 use Rattle.tx_records.specs.TxLimits as tx_limits
@@ -30,15 +30,16 @@ use Rattle.record_read.specs.declared.records.Payment.{Payment}
 use Rattle.record_read.specs.declared.records.Terms.{Terms}
 use Rattle.record_read.specs.declared.records.Transfers.{Transfers}
 use Rattle.record_read.specs.declared.records.Acts.{Acts}
-use Rattle.record_read.specs.Entries.{genesis_output_in, genesis_account_in, genesis_pool_in, proposal_in, vote_record_in}
+use Rattle.record_read.specs.Entries.{genesis_account_in, genesis_pool_in, proposal_in, vote_record_in}
 use Rattle.record_read.specs.Certs.{cert_in}
 use Rattle.record_read.specs.Fields.{needed, optional}
 use Rattle.record_read.specs.LineFaults.{BadJson}
 use Rattle.record_read.specs.Lines.{json_of, record_of_line}
 use Rattle.record_read.specs.Reads.{ReadsRecord}
 use Rattle.record_read.specs.Records.{times_in, funds_in, founding_in, registered_in, genesis_in, block_in, rewards_in, payment_in, form_in, terms_in, transfers_in, acts_in, tx_in, what_in, print_in, record_of_kind, record_by}
-use Rattle.record_read.proofs.Gives.{Gives, Within, IsListOf, IsDistinctListOf, given, next, skip, or_else, anything, needed_in-within, both_in-within, list_in-within, distinct_list_in-within, none_fit, none_twice, needed-within, optional-within, defaulted-within, needed_list-within, optional_list-within}
-use Rattle.record_read.proofs.KindsGive.{u64_in-within, u32_in-within, slot_in-within, network_in-within, epoch_length_in-within, genesis_version_in-within, is_committee, committee_in-within, genesis_drep_in-within, output_in-within, params_in-within, is_target, is_target-within, action_in-within, both}
+use Rattle.record_read.proofs.Gives.{both, Gives, Within, IsListOf, IsDistinctListOf, given, next, skip, or_else, anything, needed_in-within, both_in-within, list_in-within, distinct_list_in-within, none_fit, none_twice, needed-within, optional-within, defaulted-within, needed_list-within, optional_list-within}
+use Rattle.record_read.proofs.KindsGive.{u64_in-within, u32_in-within, slot_in-within, network_in-within, epoch_length_in-within, genesis_version_in-within, is_committee, committee_in-within, genesis_drep_in-within, genesis_output_in-within, output_in-within, params_in-within, is_target, is_target-within, action_in-within}
+use Rattle.record_read.proofs.AssetsGive.{mint_in-within}
 
 abbrev IsWithin : Record → Type 0
 IsWithin r = is_within_limits r ≡ true
@@ -76,6 +77,7 @@ record TermsWithin (t : Terms) : Type 0 where
   until : none_or is_slot t.until ≡ true
   collateral : IsListOf TX_LIST_LIMIT (λ _. true) t.collateral
   collateral_return : none_or is_output t.collateral_return ≡ true
+  mint : is_mint t.mint ≡ true
 
 terms_in-within : Within TermsWithin terms_in
 unfolding terms_in
@@ -84,7 +86,8 @@ terms_in-within d =
     next (optional-within slot_in-within fields.Until d) (λ until u.
     next (optional_list-within (list_in-within (anything ref_in) TX_LIST_LIMIT) (none_fit TX_LIST_LIMIT) fields.Collateral d) (λ collateral c.
     next (optional-within output_in-within fields.CollateralReturn d) (λ collateral_return r.
-    given (record { from = s; until = u; collateral = c; collateral_return = r })))))
+    next (mint_in-within d) (λ mint m.
+    given (record { from = s; until = u; collateral = c; collateral_return = r; mint = m }))))))
 
 record TransfersWithin (t : Transfers) : Type 0 where
   donation : is_u64 t.donation ≡ true
@@ -127,7 +130,7 @@ tx_in-within d =
     next (transfers_in-within d) (λ transfers w.
     next (acts_in-within d) (λ acts a.
     let short = short_lists payment terms transfers acts p t w a in
-    given (both (both (both (both (both (both (both (both short (ap not w.withdrawals.once)) a.proposals.each) p.outputs.each) t.collateral_return) t.from) t.until) p.fee) w.donation))))))
+    given (both (both (both (both (both (both (both (both (both short (ap not w.withdrawals.once)) a.proposals.each) p.outputs.each) t.collateral_return) t.mint) t.from) t.until) p.fee) w.donation))))))
 
 members_within : (o : Option GenesisCommittee) → none_or is_committee o ≡ true → (is_at_most LIST_LIMIT (genesis_members o) && list_all (λ m. is_slot m.1) (genesis_members o)) ≡ true
 members_within None h = refl
@@ -162,7 +165,7 @@ funds_in-within d =
 
 record FoundingWithin (f : Founding) : Type 0 where
   committee : none_or is_committee f.committee ≡ true
-  outputs : IsListOf LIST_LIMIT (λ _. true) f.outputs
+  outputs : IsListOf LIST_LIMIT (λ o. are_assets o.3) f.outputs
 
 founding_in-within : Within FoundingWithin founding_in
 unfolding founding_in
@@ -170,7 +173,7 @@ founding_in-within d =
     skip (needed fields.Document hash32_in d) (λ document.
     skip (optional fields.Script hash28_in d) (λ script.
     next (optional-within committee_in-within fields.Committee d) (λ committee c.
-    next (needed_list-within (list_in-within (anything genesis_output_in) LIST_LIMIT) fields.Outputs d) (λ outputs o.
+    next (needed_list-within (list_in-within genesis_output_in-within LIST_LIMIT) fields.Outputs d) (λ outputs o.
     given (record { committee = c; outputs = o })))))
 
 record RegisteredWithin (r : Registered) : Type 0 where
@@ -197,7 +200,7 @@ genesis_in-within d =
     let members = and_parts (is_at_most LIST_LIMIT (genesis_members founding.committee)) (list_all (λ m. is_slot m.1) (genesis_members founding.committee)) (members_within founding.committee f.committee) in
     let counted = both (both (both (both (both t.network t.slot) length.0) length.1) t.version) f.outputs.few in
     let few = both (both (both (both counted r.accounts.few) r.pools.few) r.dreps.few) members.0 in
-    given (both (both (both (both few members.1) r.dreps.each) p.params) p.supply)))))
+    given (both (both (both (both (both few members.1) r.dreps.each) p.params) p.supply) f.outputs.each)))))
 
 record_of_kind-within : (kind : List ℕ) → Within IsWithin (record_of_kind kind)
 unfolding block_in print_in

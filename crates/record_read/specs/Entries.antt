@@ -1,6 +1,11 @@
 -- What the entries of lists and the other parts of a record read as. (Own)
-use Rattle.std.specs.Prelude.{ℕ, List, Option, Some, None, Result, Ok, Err, bytes_eq, codes, nat_le, if◌then◌else◌}
+use Rattle.std.specs.Prelude.{ℕ, ℤ, List, [], Option, Some, None, Result, Ok, Err, bytes_eq, codes, nat_le, if◌then◌else◌}
 use Rattle.serde_json.specs.Data.{Data, null, boolean, number, string, array, object}
+use Rattle.serde_json.specs.Find.{as_i64, as_number}
+use Rattle.assets.specs.Quantities.{is_held, is_moved}
+use Rattle.maps.specs.Maps.{with_values}
+use Rattle.gov_ids.specs.Orders.{asset_cmp}
+use Rattle.gov_ids.specs.declared.assets.AssetId.{AssetId}
 use Rattle.gov_ids.specs.declared.Address.{Address}
 use Rattle.gov_ids.specs.declared.Credential.{Credential}
 use Rattle.gov_ids.specs.declared.Drep.{Drep}
@@ -17,11 +22,11 @@ use Rattle.tx_records.specs.declared.tx.Scripts.TheVariants.{Absent, Passed, Fai
 use Rattle.tx_records.specs.declared.tx.TxOutput.{TxOutput}
 use Rattle.tx_records.specs.declared.tx.VoteRecord.{VoteRecord}
 use Rattle.json_fields.specs.declared.fault.FieldFault.{FieldFault}
-use Rattle.json_fields.specs.declared.fault.FieldFault.TheVariants.{OutOfRange}
+use Rattle.json_fields.specs.declared.fault.FieldFault.TheVariants.{OutOfRange, WrongKind}
 use Rattle.json_fields.specs.Entries.{needed_in, maybe_by, both_in, without_place}
-use Rattle.json_fields.specs.Kinds.{text_in, u64_in, u32_in, number_below, hash32_in, credential_in, account_in, address_in, ref_in, action_id_in, drep_in, voter_in, pool_id_in, unit_in, three_in, five_in, six_or_seven_in}
-use Rattle.json_fields.specs.Lists.{list_in}
-use Rattle.json_fields.specs.Steps.{◌>>=◌}
+use Rattle.json_fields.specs.Kinds.{text_in, u64_in, u32_in, number_below, hash28_in, hash32_in, credential_in, account_in, address_in, asset_name_in, ref_in, action_id_in, drep_in, voter_in, pool_id_in, unit_in, three_in, three_or_four_in, five_in, six_or_seven_in}
+use Rattle.json_fields.specs.Lists.{list_in, distinct_list_in}
+use Rattle.json_fields.specs.Steps.{◌>>=◌, or_fault}
 use Rattle.action_read.specs.Actions.{action_in}
 
 -- ---- numbers and words
@@ -75,6 +80,37 @@ nullable_in reading (string s) = reading (string s) >>= λ x. Ok (Some x)
 nullable_in reading (array ds) = reading (array ds) >>= λ x. Ok (Some x)
 nullable_in reading (object ms) = reading (object ms) >>= λ x. Ok (Some x)
 
+-- ---- assets
+
+-- how much an output holds of an asset
+abbrev pub held_in : Data → Result ℕ FieldFault
+held_in d = u64_in d >>= λ n. if is_held n then Ok n else Err OutOfRange
+
+-- how much of one a transaction mints, or burns where it is below 0
+abbrev pub moved_in : Data → Result ℤ FieldFault
+moved_in d =
+    or_fault WrongKind (as_number d) >>= λ n. or_fault OutOfRange (as_i64 n) >>= λ z. if is_moved z then Ok z else Err OutOfRange
+
+-- an asset with its quantity: its policy, its name, the quantity
+unfoldable pub asset_in : {Q : Type 0} → (Data → Result Q FieldFault) → Data → Result (AssetId × Q) FieldFault
+asset_in quantity d = do
+  parts ← three_in d
+  policy ← hash28_in parts.0
+  name ← asset_name_in parts.1
+  held ← quantity parts.2
+  Ok (record { policy = policy; name = name }, held)
+
+-- the assets of an output, each once; they stand in order, whatever their order in the record
+abbrev pub assets_in : Data → Result (List (AssetId × ℕ)) FieldFault
+assets_in d =
+    without_place (distinct_list_in asset_cmp (λ (e : AssetId × ℕ). e.0) LIST_LIMIT (asset_in held_in) d)
+    >>= λ entries. Ok (with_values asset_cmp entries [])
+
+-- those of an output that may leave them out
+abbrev pub assets_by : Option Data → Result (List (AssetId × ℕ)) FieldFault
+assets_by None = Ok []
+assets_by (Some d) = assets_in d
+
 -- ---- a genesis
 
 -- a member: its cold key, its term, its hot key
@@ -93,14 +129,15 @@ committee_in d = do
   members ← needed_in (codes "members") (λ v. without_place (list_in LIST_LIMIT member_in v)) d
   Ok (record { threshold = threshold; members = members })
 
--- an output: its reference, its address, its lovelace
-unfoldable pub genesis_output_in : Data → Result (OutRef × Address × ℕ) FieldFault
+-- an output: its reference, its address, its lovelace, and its assets, if it has some
+unfoldable pub genesis_output_in : Data → Result (OutRef × Address × ℕ × List (AssetId × ℕ)) FieldFault
 genesis_output_in d = do
-  parts ← three_in d
+  parts ← three_or_four_in d
   at ← ref_in parts.0
   address ← address_in parts.1
   lovelace ← u64_in parts.2
-  Ok (at, address, lovelace)
+  assets ← assets_by parts.3
+  Ok (at, address, lovelace, assets)
 
 -- an account: its credential, its deposit, its balance, its pool, its DRep
 unfoldable pub genesis_account_in : Data → Result (Credential × ℕ × ℕ × Option PoolId × Option Drep) FieldFault
@@ -137,14 +174,15 @@ genesis_drep_in d = do
 
 -- ---- a transaction
 
--- an output: its address, its lovelace, its size in bytes
+-- an output: its address, its lovelace, its size in bytes, and its assets, if it has some
 unfoldable pub output_in : Data → Result TxOutput FieldFault
 output_in d = do
-  parts ← three_in d
+  parts ← three_or_four_in d
   address ← address_in parts.0
   lovelace ← u64_in parts.1
   bytes ← u32_in parts.2
-  Ok (record { address = address; lovelace = lovelace; bytes = bytes })
+  assets ← assets_by parts.3
+  Ok (record { address = address; lovelace = lovelace; bytes = bytes; assets = assets })
 
 -- a proposal
 unfoldable pub proposal_in : Data → Result ProposalRecord FieldFault

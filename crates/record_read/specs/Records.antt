@@ -1,7 +1,9 @@
 -- What a JSON value reads as, where it is a record; fields are read in this order, and the first that does not read is named. (Own)
-use Rattle.std.specs.Prelude.{ℕ, true, List, Result, Ok, Err, bytes_eq, codes, if◌then◌else◌}
+use Rattle.std.specs.Prelude.{ℕ, ℤ, true, List, [], Result, Ok, Err, bytes_eq, codes, if◌then◌else◌}
 use Rattle.serde_json.specs.Data.{Data}
-use Rattle.gov_ids.specs.Orders.{account_cmp, credential_cmp}
+use Rattle.maps.specs.Maps.{with_values}
+use Rattle.gov_ids.specs.declared.assets.AssetId.{AssetId}
+use Rattle.gov_ids.specs.Orders.{account_cmp, asset_cmp, credential_cmp}
 use Rattle.tx_records.specs.declared.field.FieldName.TheVariants as fields
 use Rattle.tx_records.specs.declared.genesis.Genesis.{Genesis}
 use Rattle.tx_records.specs.declared.limits.TheConstants.{LIST_LIMIT, OUTPUT_LIMIT, TX_LIST_LIMIT}
@@ -9,7 +11,7 @@ use Rattle.tx_records.specs.declared.record.Record.{Record}
 use Rattle.tx_records.specs.declared.record.Record.TheVariants as records
 use Rattle.tx_records.specs.declared.record.Rewards.{Rewards}
 use Rattle.tx_records.specs.declared.record.What.{What}
-use Rattle.tx_records.specs.declared.record.What.TheVariants.{Pots, State}
+use Rattle.tx_records.specs.declared.record.What.TheVariants.{Pots, State, Assets}
 use Rattle.tx_records.specs.declared.tx.Scripts.TheVariants.{Absent}
 use Rattle.tx_records.specs.declared.tx.Tx.{Tx}
 use Rattle.json_fields.specs.declared.fault.FieldFault.{FieldFault}
@@ -28,7 +30,7 @@ use Rattle.record_read.specs.declared.records.Terms.{Terms}
 use Rattle.record_read.specs.declared.records.Transfers.{Transfers}
 use Rattle.record_read.specs.declared.records.Acts.{Acts}
 use Rattle.record_read.specs.Certs.{cert_in}
-use Rattle.record_read.specs.Entries.{slot_in, network_in, epoch_length_in, genesis_version_in, scripts_in, committee_in, genesis_output_in, genesis_account_in, genesis_pool_in, genesis_drep_in, output_in, proposal_in, vote_record_in}
+use Rattle.record_read.specs.Entries.{asset_in, moved_in, slot_in, network_in, epoch_length_in, genesis_version_in, scripts_in, committee_in, genesis_output_in, genesis_account_in, genesis_pool_in, genesis_drep_in, output_in, proposal_in, vote_record_in}
 use Rattle.record_read.specs.Fields.{needed, optional, defaulted, needed_list, needed_distinct_list, optional_list, optional_distinct_list}
 use Rattle.record_read.specs.LineFaults.{LineFault, UnknownKind}
 
@@ -127,14 +129,21 @@ form_in d = do
   scripts ← defaulted Absent fields.Scripts scripts_in d
   Ok (record { size = size; script_fee = script_fee; witnessed = witnessed; scripts = scripts })
 
--- when it may stand, and what it loses where its scripts fail
+-- what is minted and burned, each asset once; the assets stand in order, whatever their order in the record
+abbrev pub mint_in : Data → Result (List (AssetId × ℤ)) LineFault
+mint_in d =
+    optional_distinct_list fields.Mint asset_cmp (λ (e : AssetId × ℤ). e.0) LIST_LIMIT (asset_in moved_in) d
+    >>= λ entries. Ok (with_values asset_cmp entries [])
+
+-- when it may stand, what it loses where its scripts fail, and what it mints
 unfoldable pub terms_in : Data → Result Terms LineFault
 terms_in d = do
   from ← optional fields.From slot_in d
   until ← optional fields.Until slot_in d
   collateral ← optional_list fields.Collateral TX_LIST_LIMIT ref_in d
   collateral_return ← optional fields.CollateralReturn output_in d
-  Ok (record { from = from; until = until; collateral = collateral; collateral_return = collateral_return })
+  mint ← mint_in d
+  Ok (record { from = from; until = until; collateral = collateral; collateral_return = collateral_return; mint = mint })
 
 -- what it says of the treasury, and takes from accounts
 unfoldable pub transfers_in : Data → Result Transfers LineFault
@@ -173,6 +182,7 @@ tx_in d = do
     until = terms.until;
     collateral = terms.collateral;
     collateral_return = terms.collateral_return;
+    mint = terms.mint;
     treasury = transfers.treasury;
     donation = transfers.donation;
     withdrawals = transfers.withdrawals;
@@ -183,7 +193,11 @@ tx_in d = do
 
 -- what a print asks for
 abbrev pub what_of : List ℕ → Result What FieldFault
-what_of word = if bytes_eq word (codes "pots") then Ok Pots else if bytes_eq word (codes "state") then Ok State else Err OutOfRange
+what_of word =
+    if bytes_eq word (codes "pots") then Ok Pots else
+    if bytes_eq word (codes "state") then Ok State else
+    if bytes_eq word (codes "assets") then Ok Assets else
+    Err OutOfRange
 
 -- the word of a print
 abbrev pub what_in : Data → Result What FieldFault

@@ -5,13 +5,15 @@ ghost use Rattle.json_fields.specs.Kinds.{hash32_in};
 ghost use Rattle.json_fields.specs.Reads.{Reads};
 ghost use Rattle.record_read.specs.Entries.{nullable_in};
 
+use crate::quantities::optional_assets;
 use action_read::ActionField;
+use assets::Assets;
 use gov_actions::Vote;
 use gov_ids::{Account, ActionId, Address, Credential, Drep, OutRef, PoolId, Voter};
 use json_fields::{
     FieldFault, Kind, needed, read_account, read_address, read_credential, read_five, read_hash32,
     read_list, read_number_below, read_pool_id, read_ref, read_six_or_seven, read_text, read_three,
-    read_u32, read_u64, read_unit,
+    read_three_or_four, read_u32, read_u64, read_unit,
 };
 use json_tree::Value;
 use listed::Listed;
@@ -207,23 +209,27 @@ impl Kind for Committee {
     }
 }
 
-/// An output of a genesis: its reference, its address, its lovelace.
+/// An output of a genesis: its reference, its address, its lovelace, and its assets, if it has some.
 pub struct GenesisOutput;
 
 impl Kind for GenesisOutput {
-    type Entry = (OutRef, Address, u64);
+    type Entry = (OutRef, Address, u64, Assets);
 
     ghost use Rattle.record_read.specs.Entries.{genesis_output_in};
 
     ghost reading = { genesis_output_in };
 
     #[tactic(auto, unfolding(crate::specs::Entries::genesis_output_in))]
-    fn read(_alloc: Global, value: &Value<'_>) -> Result<(OutRef, Address, u64), FieldFault> {
-        let (at, address, lovelace) = read_three(value)?;
+    fn read(
+        alloc: Global,
+        value: &Value<'_>,
+    ) -> Result<(OutRef, Address, u64, Assets), FieldFault> {
+        let (at, address, lovelace, assets) = read_three_or_four(value)?;
         let at = read_ref(at)?;
         let address = read_address(address)?;
         let lovelace = read_u64(lovelace)?;
-        Ok((at, address, lovelace))
+        let assets = optional_assets(alloc, assets)?;
+        Ok((at, address, lovelace, assets))
     }
 }
 
@@ -314,7 +320,7 @@ impl Kind for GenesisDrep {
     }
 }
 
-/// An output of a transaction: its address, its lovelace, its size in bytes.
+/// An output of a transaction: its address, its lovelace, its size in bytes, and its assets, if it has some.
 pub struct Output;
 
 impl Kind for Output {
@@ -325,15 +331,17 @@ impl Kind for Output {
     ghost reading = { output_in };
 
     #[tactic(auto, unfolding(crate::specs::Entries::output_in))]
-    fn read(_alloc: Global, value: &Value<'_>) -> Result<TxOutput, FieldFault> {
-        let (address, lovelace, bytes) = read_three(value)?;
+    fn read(alloc: Global, value: &Value<'_>) -> Result<TxOutput, FieldFault> {
+        let (address, lovelace, bytes, assets) = read_three_or_four(value)?;
         let address = read_address(address)?;
         let lovelace = read_u64(lovelace)?;
         let bytes = read_u32(bytes)?;
+        let assets = optional_assets(alloc, assets)?;
         Ok(TxOutput {
             address,
             lovelace,
             bytes,
+            assets,
         })
     }
 }

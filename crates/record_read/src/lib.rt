@@ -7,6 +7,7 @@ mod fault;
 mod fields;
 mod laws;
 mod lines;
+mod quantities;
 mod records;
 
 pub use action_read::read_action;

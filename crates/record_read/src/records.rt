@@ -5,7 +5,7 @@ ghost use Rattle.json_fields.specs.Entries.{needed_in};
 ghost use Rattle.json_fields.specs.Kinds.{ref_in, text_in};
 ghost use Rattle.record_read.specs.Reads.{ReadsRecord};
 ghost use Rattle.record_read.specs.Fields as fields;
-ghost use Rattle.record_read.specs.Records.{times_in, funds_in, founding_in, registered_in, genesis_in, block_in, rewards_in, payment_in, form_in, terms_in, transfers_in, acts_in, tx_in, print_in, record_of_kind, record_in};
+ghost use Rattle.record_read.specs.Records.{times_in, funds_in, founding_in, registered_in, genesis_in, block_in, rewards_in, payment_in, form_in, mint_in, terms_in, transfers_in, acts_in, tx_in, print_in, record_of_kind, record_in};
 
 use crate::certs::CertEntry;
 use crate::entries::{
@@ -17,7 +17,9 @@ use crate::fields::{
     defaulted_field, needed_distinct_list, needed_field, needed_list, optional_distinct_list,
     optional_field, optional_list,
 };
+use crate::quantities::MovedAsset;
 use action_read::ParamsField;
+use assets::{AssetList, Assets, Mint};
 use gov_ids::{Account, Address, Credential, Drep, OutRef, PoolId, TxId};
 use json_fields::{FieldFault, Kind, read_text};
 use json_tree::Value;
@@ -53,7 +55,7 @@ struct Founding {
     document: [u8; 32],
     script: Option<[u8; 28]>,
     committee: Option<GenesisCommittee>,
-    outputs: Listed<(OutRef, Address, u64)>,
+    outputs: Listed<(OutRef, Address, u64, Assets)>,
 }
 
 /// Those who are registered.
@@ -226,12 +228,13 @@ struct Form {
     scripts: Scripts,
 }
 
-/// When it may stand, and what it loses where its scripts fail.
+/// When it may stand, what it loses where its scripts fail, and what it mints.
 struct Terms {
     from: Option<u64>,
     until: Option<u64>,
     collateral: OutRefs,
     collateral_return: Option<TxOutput>,
+    mint: Mint,
 }
 
 /// What it says of the treasury, and takes from accounts.
@@ -311,7 +314,15 @@ fn read_form(alloc: Global, object: &Members<'_, '_>) -> Result<Form, RecordFaul
     })
 }
 
-/// When it may stand, and what it loses where its scripts fail.
+/// What is minted and burned.
+fn read_mint(alloc: Global, object: &Members<'_, '_>) -> Result<Mint, RecordFault>
+    ensures { ReadsRecord result (mint_in (view object.now)) }
+{
+    let entries = optional_distinct_list::<MovedAsset>(alloc, object, FieldName::Mint, LIST_LIMIT)?;
+    Ok(AssetList::from_entries(alloc, entries.as_slice())?)
+}
+
+/// When it may stand, what it loses where its scripts fail, and what it mints.
 #[tactic(auto, unfolding(crate::specs::Records::terms_in))]
 fn read_terms(alloc: Global, object: &Members<'_, '_>) -> Result<Terms, RecordFault>
     ensures { ReadsRecord result (terms_in (view object.now)) }
@@ -320,11 +331,13 @@ fn read_terms(alloc: Global, object: &Members<'_, '_>) -> Result<Terms, RecordFa
     let until = optional_field::<Slot>(alloc, object, FieldName::Until)?;
     let collateral = optional_refs(alloc, object, FieldName::Collateral)?;
     let collateral_return = optional_field::<Output>(alloc, object, FieldName::CollateralReturn)?;
+    let mint = read_mint(alloc, object)?;
     Ok(Terms {
         from,
         until,
         collateral,
         collateral_return,
+        mint,
     })
 }
 
@@ -390,6 +403,7 @@ fn tx(alloc: Global, object: &Members<'_, '_>) -> Result<Tx, RecordFault>
         until,
         collateral,
         collateral_return,
+        mint,
     } = read_terms(alloc, object)?;
     let Transfers {
         treasury,
@@ -414,6 +428,7 @@ fn tx(alloc: Global, object: &Members<'_, '_>) -> Result<Tx, RecordFault>
         until,
         collateral,
         collateral_return,
+        mint,
         treasury,
         donation,
         withdrawals,
@@ -437,6 +452,7 @@ impl Kind for WhatField {
         match read_text(value) {
             Ok("pots") => Ok(What::Pots),
             Ok("state") => Ok(What::State),
+            Ok("assets") => Ok(What::Assets),
             Ok(_) => Err(FieldFault::OutOfRange),
             Err(fault) => Err(fault),
         }

@@ -13,7 +13,7 @@ loop-at-preserved c =
     let i : ℕ = c.loop-at.at in
     let e : Entry = c.index-members-at.result in
     let found = c.loop-at.found in
-    let many : length found ≡ 19 = c.loop-at.invariant.places in
+    let many : length found ≡ 20 = c.loop-at.invariant.places in
     let front : take (i + 1) xs ≡ take i xs ++ e ∷ [] = take_more xs i e (omega arith) ∙ ap (λ (y : Entry). take i xs ++ y ∷ []) (sym c.index-members-at.is) in
     elim c.match-place_of.branch [
       | in-Some w ↦
