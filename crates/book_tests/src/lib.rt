@@ -7,6 +7,8 @@ mod chains;
 #[cfg(test)]
 mod committee;
 #[cfg(test)]
+mod outputs;
+#[cfg(test)]
 mod pools;
 #[cfg(test)]
 mod proposals;

@@ -1,4 +1,5 @@
 //! The book of stake: what each call leaves of the stakes of pools, the balances and the outputs.
+use assets::Assets;
 use book_records::{Output, Registered};
 use coin_frac::NoMemory;
 use gov_ids::{Address, CredKind, Credential, Drep, OutRef, PoolId, TxId};
@@ -27,7 +28,12 @@ fn held_by(stake: Option<Credential>, lovelace: u64) -> Output {
         payment: key(9),
         stake,
     };
-    Output { address, lovelace }
+    let assets = Assets::none();
+    Output {
+        address,
+        lovelace,
+        assets,
+    }
 }
 
 fn pool(byte: u8) -> PoolId {

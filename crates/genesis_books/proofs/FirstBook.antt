@@ -9,6 +9,7 @@ use Rattle.std.proofs.lemmas.Bool.{ltb-false}
 use Rattle.std.proofs.lemmas.List.{at_drop_more, drop_more}
 use Rattle.std.proofs.lemmas.List.Sums.{sum_by-cons, sum_by-drop_more}
 use Rattle.gov_ids.specs.declared.Address.{Address}
+use Rattle.gov_ids.specs.declared.assets.AssetId.{AssetId}
 use Rattle.gov_ids.specs.declared.Credential.{Credential}
 use Rattle.gov_ids.specs.declared.Drep.{Drep}
 use Rattle.gov_ids.specs.declared.OutRef.{OutRef}
@@ -102,61 +103,82 @@ none_in_empty : (ks : List OutRef) → AllByRecursion (λ q. value_at {X = Outpu
 none_in_empty [] = tt
 none_in_empty (k ∷ ks) = (refl, none_in_empty ks)
 
+abbrev pub Output4 : Type 0
+Output4 = OutRef × Address × ℕ × List (AssetId × ℕ)
+
 -- what the book has of an output of a genesis
-abbrev pub first_entry : OutRef × Address × ℕ → OutRef × Output
-first_entry o = (o.0, record { address = o.1; lovelace = o.2 })
+abbrev pub first_entry : Output4 → OutRef × Output
+first_entry o = (o.0, record { address = o.1; lovelace = o.2; assets = o.3 })
 
 -- the lovelace of an output of a genesis
-abbrev pub listed_lovelace : OutRef × Address × ℕ → ℕ
+abbrev pub listed_lovelace : Output4 → ℕ
 listed_lovelace o = o.2
 
 -- the book when these are put in, with their ids
-abbrev pub with_first : List (OutRef × Address × ℕ) → Utxos → Utxos
+abbrev pub with_first : List Output4 → Utxos → Utxos
 with_first new u = record {
   outputs = with_values outref_cmp (map first_entry new) u.outputs;
-  used = fold (λ (s : List TxId) (k : TxId). with_key txid_cmp k s) u.used (map (λ (o : OutRef × Address × ℕ). o.0.tx) new);
+  used = fold (λ (s : List TxId) (k : TxId). with_key txid_cmp k s) u.used (map (λ (o : Output4). o.0.tx) new);
 }
 
-first_keys : (new : List (OutRef × Address × ℕ)) → keys_of (map first_entry new) ≡ map (λ (o : OutRef × Address × ℕ). o.0) new
+first_keys : (new : List Output4) → keys_of (map first_entry new) ≡ map (λ (o : Output4). o.0) new
 first_keys [] = refl
 first_keys (x ∷ xs) = ap (λ (ks : List OutRef). x.0 ∷ ks) (first_keys xs)
 
 -- outputs that do not repeat are new to the empty book
-pub first_new : (new : List (OutRef × Address × ℕ)) → repeats outref_cmp (map (λ (o : OutRef × Address × ℕ). o.0) new) ≡ false → AreFresh outref_cmp (map first_entry new) []
+pub first_new : (new : List Output4) → repeats outref_cmp (map (λ (o : Output4). o.0) new) ≡ false → AreFresh outref_cmp (map first_entry new) []
 first_new new h =
     fresh_from_absent outref_total (map first_entry new) [] (distinct_from_repeats outref_cmp (keys_of (map first_entry new)) (ap (λ (ks : List OutRef). repeats outref_cmp ks) (first_keys new) ∙ h))
     (none_in_empty (keys_of (map first_entry new)))
 
 -- there is room for the first of what is left beside the balances
-pub output_room : (new : List (OutRef × Address × ℕ)) (i : ℕ) (d : OutRef × Address × ℕ) (es : List (OutRef × Output)) (balances all rewards : ℕ) → i < length new
-    → lovelace_in es + sum_by listed_lovelace (drop i new) ≡ all → balances ≡ rewards → all + rewards ≤ SUPPLY_LIMIT → lovelace_in es + balances + listed_lovelace (get_or new i d) ≤ SUPPLY_LIMIT
-output_room new i d es balances all rewards l sum same room = omega (arith, sum, same, room, sum_by-drop_more listed_lovelace new i d l)
+pub output_room : (new : List Output4) (i : ℕ) (d o : Output4) (es : List (OutRef × Output)) (balances all rewards : ℕ) → i < length new → o ≡ get_or new i d
+    → lovelace_in es + sum_by listed_lovelace (drop i new) ≡ all → balances ≡ rewards → all + rewards ≤ SUPPLY_LIMIT → lovelace_in es + balances + listed_lovelace o ≤ SUPPLY_LIMIT
+output_room new i d o es balances all rewards l here sum same room = omega (arith, sum, same, room, sum_by-drop_more listed_lovelace new i d l, ap listed_lovelace here)
 
-module _ (new : List (OutRef × Address × ℕ)) (u v w : Utxos) (i : ℕ) (d : OutRef × Address × ℕ) (l : i < length new) where
-  abbrev item : OutRef × Address × ℕ
+-- an output of what is left is put in, with a copy of its assets
+module _ (new : List Output4) (u v w : Utxos) (i : ℕ) (d o : Output4) (assets : List (AssetId × ℕ)) (l : i < length new) (here : o ≡ get_or new i d) (is : assets ≡ o.3) where
+  abbrev item : Output4
   item = get_or new i d
 
-  fresh_next : AreFresh outref_cmp (map first_entry (drop i new)) u.outputs → AreFresh outref_cmp (map first_entry (item ∷ drop (i + 1) new)) u.outputs
-  fresh_next h = subst (λ (left : List (OutRef × Address × ℕ)). AreFresh outref_cmp (map first_entry left) u.outputs) (drop_more new i d l) h
+  abbrev made : Output
+  made = record { address = o.1; lovelace = o.2; assets = assets }
 
-  -- the first of what is left comes to a key with no value
-  pub first_absent : AreFresh outref_cmp (map first_entry (drop i new)) u.outputs → value_at outref_cmp u.outputs item.0 ≡ None
-  first_absent h = (fresh_next h).0
+  fresh_next : AreFresh outref_cmp (map first_entry (drop i new)) u.outputs → AreFresh outref_cmp (map first_entry (item ∷ drop (i + 1) new)) u.outputs
+  fresh_next h = subst (λ (left : List Output4). AreFresh outref_cmp (map first_entry left) u.outputs) (drop_more new i d l) h
+
+  same_put : (es : List (OutRef × Output)) → with_value outref_cmp o.0 made es ≡ with_value outref_cmp item.0 (first_entry item).1 es
+  same_put es =
+      ap (λ (q : List (AssetId × ℕ)). with_value outref_cmp o.0 (record { address = o.1; lovelace = o.2; assets = q }) es) is
+      ∙ ap (λ (p : Output4). with_value outref_cmp p.0 (first_entry p).1 es) here
+
+  -- it comes to a key with no value
+  pub first_absent : AreFresh outref_cmp (map first_entry (drop i new)) u.outputs → value_at outref_cmp u.outputs o.0 ≡ None
+  first_absent h = ap (λ (p : Output4). value_at outref_cmp u.outputs p.0) here ∙ (fresh_next h).0
 
   -- after it the others are new
-  pub first_fresh : AreFresh outref_cmp (map first_entry (drop i new)) u.outputs
-      → w.outputs ≡ with_value outref_cmp item.0 (first_entry item).1 u.outputs → AreFresh outref_cmp (map first_entry (drop (i + 1) new)) w.outputs
-  first_fresh h e = subst (λ (us : List (OutRef × Output)). AreFresh outref_cmp (map first_entry (drop (i + 1) new)) us) (sym e) (fresh_next h).1
+  pub first_fresh : AreFresh outref_cmp (map first_entry (drop i new)) u.outputs → w.outputs ≡ with_value outref_cmp o.0 made u.outputs
+      → AreFresh outref_cmp (map first_entry (drop (i + 1) new)) w.outputs
+  first_fresh h e = subst (λ (us : List (OutRef × Output)). AreFresh outref_cmp (map first_entry (drop (i + 1) new)) us) (sym (e ∙ same_put u.outputs)) (fresh_next h).1
 
   -- and the sum with the others stays
   pub first_sum : (s : ℕ) → AreFresh outref_cmp (map first_entry (drop i new)) u.outputs → lovelace_in u.outputs + sum_by listed_lovelace (drop i new) ≡ s
-      → w.outputs ≡ with_value outref_cmp item.0 (first_entry item).1 u.outputs → lovelace_in w.outputs + sum_by listed_lovelace (drop (i + 1) new) ≡ s
-  first_sum s h e p = omega (arith, ap (λ (us : List (OutRef × Output)). lovelace_in us) p, sum_values-with_value_absent (λ o. o.lovelace) outref_cmp item.0 (first_entry item).1 u.outputs (first_absent h), sum_by-drop_more listed_lovelace new i d l)
+      → w.outputs ≡ with_value outref_cmp o.0 made u.outputs → lovelace_in w.outputs + sum_by listed_lovelace (drop (i + 1) new) ≡ s
+  first_sum s h e p =
+      omega (
+        arith,
+        ap (λ (us : List (OutRef × Output)). lovelace_in us) (p ∙ same_put u.outputs),
+        sum_values-with_value_absent (λ o. o.lovelace) outref_cmp item.0 (first_entry item).1 u.outputs (fresh_next h).0,
+        sum_by-drop_more listed_lovelace new i d l,
+      )
 
   -- and the book with the others
-  pub first_rest : v ≡ record u { outputs = with_value outref_cmp item.0 (first_entry item).1 u.outputs } → w ≡ record v { used = with_key txid_cmp item.0.tx v.used }
+  pub first_rest : v ≡ record u { outputs = with_value outref_cmp o.0 made u.outputs } → w ≡ record v { used = with_key txid_cmp o.0.tx v.used }
       → with_first (drop (i + 1) new) w ≡ with_first (drop i new) u
-  first_rest p q = sym (at_drop_more (λ (left : List (OutRef × Address × ℕ)). with_first left u) new i d l ∙ rw (q, p))
+  first_rest p q =
+      let put = p ∙ ap (λ (es : List (OutRef × Output)). record u { outputs = es }) (same_put u.outputs) in
+      let marked = q ∙ ap (λ (x : Output4). record v { used = with_key txid_cmp x.0.tx v.used }) here in
+      sym (at_drop_more (λ (left : List Output4). with_first left u) new i d l ∙ rw (marked, put))
 
 -- ---- the pools
 

@@ -1,6 +1,7 @@
 ghost use Rattle.std.specs.Prelude.{◌≡◌, ◌≤◌, ◌<◌, ◌^◌, IfOk, length, map, sum_by};
 ghost use Rattle.maps.specs.Maps.{in_order};
 
+use assets::Assets;
 use coin_frac::NoMemory;
 use gov_ids::{Address, Credential, Drep, Named, OutRef, PoolId};
 use std::alloc::Global;
@@ -29,7 +30,7 @@ pub trait Holding {
         ensures fits { result < 2 ^ 65 };
 }
 
-impl Holding for (OutRef, Address, u64) {
+impl Holding for (OutRef, Address, u64, Assets) {
     ghost lovelace_of = { λ o. o.2 };
 
     fn lovelace(&self) -> u128 {

@@ -51,7 +51,7 @@ fn first_stake(alloc: Global, genesis: &Genesis) -> Result<StakeBook, NoMemory>
         entries_of (ledger_of_genesis genesis.now)) }
 {
     let stake = first_accounts(alloc, genesis)?;
-    let mut stake = with_first_outputs(stake, genesis)?;
+    let mut stake = with_first_outputs(alloc, stake, genesis)?;
     stake.freeze();
     Ok(stake)
 }
@@ -76,7 +76,11 @@ fn first_accounts(alloc: Global, genesis: &Genesis) -> Result<StakeBook, NoMemor
 }
 
 /// With the outputs of a genesis, whose transaction ids count as used, beside its accounts.
-fn with_first_outputs(stake: StakeBook, genesis: &Genesis) -> Result<StakeBook, NoMemory>
+fn with_first_outputs(
+    alloc: Global,
+    stake: StakeBook,
+    genesis: &Genesis,
+) -> Result<StakeBook, NoMemory>
     requires unbroken { genesis_fault genesis.now ≡ None }
     requires outputs { stake.outputs ≡ record { outputs = []; used = [] } }
     requires accounts { accounts_of stake ≡ (ledger_of_genesis genesis.now).accounts }
@@ -85,10 +89,11 @@ fn with_first_outputs(stake: StakeBook, genesis: &Genesis) -> Result<StakeBook, 
     ensures accounts { IfOk result (λ after. accounts_of after ≡ accounts_of stake) }
 {
     let mut stake = stake;
-    for (at, address, lovelace) in genesis.outputs.as_slice() {
+    for (at, address, lovelace, assets) in genesis.outputs.as_slice() {
         let output = Output {
             address: *address,
             lovelace: *lovelace,
+            assets: assets.copied(alloc)?,
         };
         stake.add(*at, output)?;
         stake.mark_used(at.tx)?;

@@ -9,6 +9,7 @@ ghost use Rattle.tx_records.specs.GenesisLimits.{is_within_limits};
 
 use crate::committee::members_of;
 use crate::entries::{lovelace_in, names_of};
+use assets::Assets;
 use coin_frac::NoMemory;
 use gov_ids::{Address, Credential, Drep, OutRef, PoolId, repeats_a_name};
 use std::alloc::Global;
@@ -96,12 +97,12 @@ fn names_another_network(genesis: &Genesis) -> bool
 }
 
 /// Whether an output is of another network than this one.
-fn are_elsewhere(outputs: &[(OutRef, Address, u64)], network: u8) -> bool
+fn are_elsewhere(outputs: &[(OutRef, Address, u64, Assets)], network: u8) -> bool
     ensures { result ≡ list_any (λ o. not (o.1.network == network)) outputs.now }
 {
     outputs
         .iter()
-        .any(|(_, address, _)| address.network != network)
+        .any(|(_, address, _, _)| address.network != network)
 }
 
 /// Whether a pool's account is of another network than this one.

@@ -1,7 +1,8 @@
 //! The ledger of a genesis, or the first rule that it breaks.
+use assets::Assets;
 use coin_frac::{FracFault, NoMemory, Ratio, Unit};
 use gov_actions::HotState;
-use gov_ids::{Address, CredKind, Credential, OutRef, TxId};
+use gov_ids::{Address, AssetId, AssetName, CredKind, Credential, OutRef, TxId};
 use listed::Listed;
 use live_ledger::{GenesisFault, LiveLedger};
 use pparams::Params;
@@ -12,6 +13,9 @@ use tx_records::{Genesis, GenesisCommittee, GenesisRule};
 
 /// A member at the start: cold key, last epoch of the term, hot key.
 type Member = (Credential, u64, Option<Credential>);
+
+/// An output at the start: reference, address, lovelace, native assets.
+type FirstOutput = (OutRef, Address, u64, Assets);
 
 fn key(byte: u8) -> Credential {
     Credential {
@@ -32,6 +36,13 @@ fn address(network: u8) -> Address {
         network,
         payment: key(1),
         stake: None,
+    }
+}
+
+fn asset() -> AssetId {
+    AssetId {
+        policy: [4; 28],
+        name: AssetName::new(&[6]),
     }
 }
 
@@ -80,15 +91,12 @@ fn members(alloc: Global, member: u8) -> Result<Listed<Member>, NoMemory> {
     Ok(members)
 }
 
-/// Two outputs, of 60 and 30 lovelace.
-fn outputs(
-    alloc: Global,
-    output: u16,
-    network: u8,
-) -> Result<Listed<(OutRef, Address, u64)>, NoMemory> {
+/// Two outputs, of 60 lovelace, and of 30 with 5 of an asset.
+fn outputs(alloc: Global, output: u16, network: u8) -> Result<Listed<FirstOutput>, NoMemory> {
     let mut outputs = Listed::new(alloc);
-    outputs.push((at(8, 0), address(0), 60))?;
-    outputs.push((at(8, output), address(network), 30))?;
+    outputs.push((at(8, 0), address(0), 60, Assets::none()))?;
+    let assets = Assets::from_entries(alloc, &[(asset(), 5)])?;
+    outputs.push((at(8, output), address(network), 30, assets))?;
     Ok(outputs)
 }
 
@@ -98,7 +106,7 @@ fn genesis(
     params: Params,
     supply: u64,
     members: Listed<Member>,
-    outputs: Listed<(OutRef, Address, u64)>,
+    outputs: Listed<FirstOutput>,
 ) -> Genesis {
     Genesis {
         network: 0,
@@ -184,9 +192,10 @@ fn members_in(ledger: &LiveLedger) -> &[(Credential, u64)] {
     }
 }
 
-/// What stands at a reference, in lovelace.
-fn lovelace_at(ledger: &LiveLedger, at: &OutRef) -> Option<u64> {
-    Some(ledger.outputs().get(at)?.lovelace)
+/// What stands at a reference, in lovelace and in assets.
+fn value_at<'a>(ledger: &'a LiveLedger, at: &OutRef) -> Option<(u64, &'a [(AssetId, u64)])> {
+    let output = ledger.outputs().get(at)?;
+    Some((output.lovelace, output.assets.as_slice()))
 }
 
 #[test]
@@ -202,7 +211,7 @@ fn starts_from_a_genesis_that_breaks_no_rule(rt: HostRuntime) -> Result<(), Fail
     for (cold, want) in hot {
         assert!(rt; ledger.hot().get(&cold) == want);
     }
-    assert!(rt; lovelace_at(&ledger, &at(8, 1)) == Some(30));
+    assert!(rt; value_at(&ledger, &at(8, 1)) == Some((30, [(asset(), 5)].as_slice())));
     assert!(rt; ledger.outputs().used(&TxId([8; 32])));
     Ok(())
 }

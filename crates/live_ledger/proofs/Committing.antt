@@ -71,18 +71,18 @@ left_of b c h = (and_parts b c h).0
 
 -- no account twice
 own_withdrawals : (tx : Tx) → is_within_limits tx ≡ true → HasOwnWithdrawals tx
-own_withdrawals tx h = not_true _ (and_parts _ _ (left_of _ _ (left_of _ _ (left_of _ _ (left_of _ _ (left_of _ _ (left_of _ _ (left_of _ _ h)))))))).1
+own_withdrawals tx h = not_true _ (and_parts _ _ (left_of _ _ (left_of _ _ (left_of _ _ (left_of _ _ (left_of _ _ (left_of _ _ (left_of _ _ (left_of _ _ h))))))))).1
 
 -- so many outputs at most
 pub few_outputs : (tx : Tx) → is_within_limits tx ≡ true → length tx.outputs ≤ OUTPUT_LIMIT
 few_outputs tx h =
-    let lists = left_of _ _ (left_of _ _ (left_of _ _ (left_of _ _ (left_of _ _ (left_of _ _ (left_of _ _ (left_of _ _ h))))))) in
+    let lists = left_of _ _ (left_of _ _ (left_of _ _ (left_of _ _ (left_of _ _ (left_of _ _ (left_of _ _ (left_of _ _ (left_of _ _ h)))))))) in
     leb-true (length tx.outputs) OUTPUT_LIMIT (and_parts _ _ (left_of _ _ (left_of _ _ (left_of _ _ (left_of _ _ (left_of _ _ lists)))))).1
 
 -- so many proposals at most
 pub few_proposals : (tx : Tx) → is_within_limits tx ≡ true → length tx.proposals ≤ TX_LIST_LIMIT
 few_proposals tx h =
-    let lists = left_of _ _ (left_of _ _ (left_of _ _ (left_of _ _ (left_of _ _ (left_of _ _ (left_of _ _ (left_of _ _ h))))))) in
+    let lists = left_of _ _ (left_of _ _ (left_of _ _ (left_of _ _ (left_of _ _ (left_of _ _ (left_of _ _ (left_of _ _ (left_of _ _ h)))))))) in
     leb-true (length tx.proposals) TX_LIST_LIMIT (and_parts _ _ (left_of _ _ lists)).1
 
 -- the ledger after a transaction whose scripts did not fail, with these changes

@@ -50,7 +50,7 @@ left_of b c h = (and_parts b c h).0
 -- its slot is within the limit
 slot_early : (g : Genesis) → is_within_limits g ≡ true → g.slot < SLOT_LIMIT
 slot_early g h =
-    let numbers = left_of _ _ (left_of _ _ (left_of _ _ (left_of _ _ (left_of _ _ (left_of _ _ (left_of _ _ (left_of _ _ (left_of _ _ h)))))))) in
+    let numbers = left_of _ _ (left_of _ _ (left_of _ _ (left_of _ _ (left_of _ _ (left_of _ _ (left_of _ _ (left_of _ _ (left_of _ _ (left_of _ _ h))))))))) in
     let first = left_of _ _ (left_of _ _ (left_of _ _ numbers)) in
     ltb-true g.slot SLOT_LIMIT (and_parts _ _ first).1
 

@@ -13,11 +13,12 @@ ghost use Rattle.tx_records.specs.declared.limits.TheConstants.{SUPPLY_LIMIT};
 use coin_frac::NoMemory;
 use gov_ids::OutRef;
 use stake_book::StakeBook;
+use std::alloc::Global;
 use tx_records::{Tx, TxOutput};
 use utxo_set::Output;
 
 /// Puts the outputs of a transaction in place of its inputs, and its id among the used ones. After want of memory the caller drops the book.
-pub fn move_outputs(stake: &mut StakeBook, tx: &Tx) -> Result<(), NoMemory>
+pub fn move_outputs(alloc: Global, stake: &mut StakeBook, tx: &Tx) -> Result<(), NoMemory>
     requires in_order { IsMap outref_cmp stake.old.outputs.outputs }
     requires few { length tx.now.outputs ≤ 65535 }
     requires absent { AllByRecursion
@@ -28,13 +29,13 @@ pub fn move_outputs(stake: &mut StakeBook, tx: &Tx) -> Result<(), NoMemory>
     ensures { OnOk result (IsMade stake.old stake.new tx.now.inputs (made_outputs tx.now) tx.now.id) }
 {
     take_outputs(stake, tx.inputs.as_slice())?;
-    put_outputs(stake, tx)?;
+    put_outputs(alloc, stake, tx)?;
     stake.mark_used(tx.id)?;
     Ok(())
 }
 
 /// Puts the collateral return of a transaction, if it has one, in place of its collateral, and its id among the used ones; it gives what the collateral held, in lovelace. After want of memory the caller drops the book.
-pub fn move_collateral(stake: &mut StakeBook, tx: &Tx) -> Result<u64, NoMemory>
+pub fn move_collateral(alloc: Global, stake: &mut StakeBook, tx: &Tx) -> Result<u64, NoMemory>
     requires in_order { IsMap outref_cmp stake.old.outputs.outputs }
     requires few { length tx.now.outputs ≤ 65535 }
     requires absent { AllByRecursion
@@ -52,7 +53,7 @@ pub fn move_collateral(stake: &mut StakeBook, tx: &Tx) -> Result<u64, NoMemory>
     let held = stake.outputs().total();
     take_outputs(stake, tx.collateral.as_slice())?;
     let collateral = held - stake.outputs().total();
-    put_return(stake, tx)?;
+    put_return(alloc, stake, tx)?;
     stake.mark_used(tx.id)?;
     Ok(collateral)
 }
@@ -72,7 +73,7 @@ fn take_outputs(stake: &mut StakeBook, taken: &[OutRef]) -> Result<(), NoMemory>
 }
 
 /// Puts the outputs of a transaction, as id#0, id#1 and so on, none of which is there.
-fn put_outputs(stake: &mut StakeBook, tx: &Tx) -> Result<(), NoMemory>
+fn put_outputs(alloc: Global, stake: &mut StakeBook, tx: &Tx) -> Result<(), NoMemory>
     requires few { length tx.now.outputs ≤ 65535 }
     requires absent { AllByRecursion
         (λ r. value_at outref_cmp stake.old.outputs.outputs r ≡ None) (keys_of (made_outputs tx.now)) }
@@ -84,14 +85,15 @@ fn put_outputs(stake: &mut StakeBook, tx: &Tx) -> Result<(), NoMemory>
 {
     let mut index = 0u16;
     for output in tx.outputs.as_slice() {
-        stake.add(OutRef { tx: tx.id, index }, kept(output))?;
+        let output = kept(alloc, output)?;
+        stake.add(OutRef { tx: tx.id, index }, output)?;
         index += 1;
     }
     Ok(())
 }
 
 /// Puts the collateral return of a transaction, if it has one, at the place after its last output.
-fn put_return(stake: &mut StakeBook, tx: &Tx) -> Result<(), NoMemory>
+fn put_return(alloc: Global, stake: &mut StakeBook, tx: &Tx) -> Result<(), NoMemory>
     requires few { length tx.now.outputs ≤ 65535 }
     requires absent { AllByRecursion
         (λ r. value_at outref_cmp stake.old.outputs.outputs r ≡ None) (keys_of (made_return tx.now)) }
@@ -102,18 +104,20 @@ fn put_return(stake: &mut StakeBook, tx: &Tx) -> Result<(), NoMemory>
     ensures rest { OnOk result (KeepsAccounts stake.old stake.new) }
 {
     if let Some(output) = &tx.collateral_return {
+        let output = kept(alloc, output)?;
         let index = tx.outputs.len() as u16;
-        stake.add(OutRef { tx: tx.id, index }, kept(output))?;
+        stake.add(OutRef { tx: tx.id, index }, output)?;
     }
     Ok(())
 }
 
 /// What the book keeps of an output that a transaction makes.
-fn kept(output: &TxOutput) -> Output
-    ensures { result ≡ kept_output output.now }
+fn kept(alloc: Global, output: &TxOutput) -> Result<Output, NoMemory>
+    ensures { IfOk result (λ o. o ≡ kept_output output.now) }
 {
-    Output {
+    Ok(Output {
         address: output.address,
         lovelace: output.lovelace,
-    }
+        assets: output.assets.copied(alloc)?,
+    })
 }

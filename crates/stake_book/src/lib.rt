@@ -31,7 +31,6 @@ use summed::SummedAccounts;
 use utxo_set::UtxoSet;
 
 /// The outputs and the accounts. The stake of each account and of each pool, and the reward balances, are kept as running numbers. (UTxOState and DState of the formal specification; the running numbers are own)
-#[derive(Debug)]
 pub struct StakeBook {
     alloc: Global,
     outputs: UtxoSet,
@@ -173,7 +172,9 @@ impl StakeBook {
         let Some(output) = self.outputs.get(r) else {
             return Ok(None);
         };
-        lower_stake(&mut self.accounts, output.address.stake, output.lovelace)?;
+        let part = output.address.stake;
+        let lovelace = output.lovelace;
+        lower_stake(&mut self.accounts, part, lovelace)?;
         Ok(self.outputs.take(r))
     }
 
@@ -186,8 +187,10 @@ impl StakeBook {
         ensures frozen { frozen_of credential_cmp self.new.accounts ≡ frozen_of credential_cmp self.old.accounts }
         ensures err { OnErr result (self.new ≡ self.old) }
     {
+        let part = o.address.stake;
+        let lovelace = o.lovelace;
         self.outputs.put(r, o)?;
-        if let Err(error) = raise_stake(&mut self.accounts, o.address.stake, o.lovelace) {
+        if let Err(error) = raise_stake(&mut self.accounts, part, lovelace) {
             self.outputs.take(&r);
             return Err(error);
         }

@@ -209,13 +209,71 @@ const UPDATES: [Row; 11] = [
     ),
 ];
 
-const CASES: [Case; 5] = [
+/// An asset is minted; a transaction that gives less of it than it takes is refused, and one that burns the rest is not.
+const MINTED: [Row; 3] = [
+    (
+        Tx(
+            "2",
+            r#","mint":[["_05","",7]],"outputs":[["1k_01",0,0,[["_05","",7]]]]"#,
+        ),
+        (0, 0),
+        (0, 0, Part([0, 0]), false),
+    ),
+    (
+        Tx(
+            "3",
+            r#","inputs":["^02#0","^01#3"],"outputs":[["1k_01",0,0,[["_05","",5]]]]"#,
+        ),
+        (111, 7),
+        (0, 0, Part([0, 0]), false),
+    ),
+    (
+        Tx(
+            "4",
+            r#","inputs":["^02#0","^01#4"],"mint":[["_05","",-2]],"outputs":[["1k_01",0,0,[["_05","",5]]]]"#,
+        ),
+        (0, 0),
+        (0, 0, Part([0, 0]), false),
+    ),
+];
+
+/// Collateral holds an asset, which its return gives back, or the transaction is refused.
+const RETURNED: [Row; 3] = [
+    (
+        Tx(
+            "2",
+            r#","fee":0,"mint":[["_05","",7]],"outputs":[["1k_01",20,0,[["_05","",7]]]]"#,
+        ),
+        (0, 0),
+        (0, 0, Part([0, 0]), false),
+    ),
+    (
+        Tx(
+            "3",
+            r#","scripts":"failed","fee":4,"collateral":["^02#0"],"collateralReturn":["1k_01",14,0]"#,
+        ),
+        (46, 0),
+        (0, 0, Part([0, 0]), false),
+    ),
+    (
+        Tx(
+            "3",
+            r#","scripts":"failed","fee":4,"collateral":["^02#0"],"collateralReturn":["1k_01",14,0,[["_05","",7]]]"#,
+        ),
+        (0, 0),
+        (0, 0, Part([0, 0]), false),
+    ),
+];
+
+const CASES: [Case; 7] = [
     (WORKED, &COUNTED, [193, 23, 67, 38, 100, 579]),
     (WORKED, &LEFT, [224, 19, 0, 78, 100, 579]),
     (WORKED, &BLOCKS, [200, 21, 100, 0, 100, 579]),
     (LATE, &LATE_BLOCKS, [0, 0, 0, 0, 0, 1000]),
     // what an update takes and gives waits for the boundary
     (WORKED, &UPDATES, [200, 21, 100, 0, 100, 579]),
+    (WORKED, &MINTED, [160, 21, 100, 40, 100, 579]),
+    (WORKED, &RETURNED, [194, 21, 100, 6, 100, 579]),
 ];
 
 /// The rule that refused a record and the first number that it keeps, or zeros.

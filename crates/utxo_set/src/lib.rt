@@ -2,30 +2,34 @@
 #![tactic(auto)]
 
 ghost use Rattle.std.specs.Prelude.{◌≡◌, ◌+◌, ◌^◌, ◌<◌, [], None, option_map, OnOk, OnErr};
-ghost use Rattle.gov_ids.specs.Orders.{outref_cmp, txid_cmp};
+ghost use Rattle.gov_ids.specs.Orders.{asset_cmp, outref_cmp, txid_cmp};
 ghost use Rattle.maps.specs.Maps.{value_at, with_value, without_key, entry_after, has_member, with_key, without_member, key_after};
-ghost use Rattle.book_records.specs.Outputs.{lovelace_in};
+ghost use Rattle.book_records.specs.Outputs.{asset_totals, assets_in, lovelace_in};
 ghost use Rattle.utxo_set.specs.Utxos.{IsInOrder};
 
+use assets::AssetTotals;
 pub use book_records::Output;
 use coin_frac::NoMemory;
-use gov_ids::{OutRef, TxId};
+use gov_ids::{AssetId, OutRef, TxId};
 use maps::keys_past;
 use std::alloc::Global;
 use std::collections::{BTreeMap, BTreeSet};
 use std::marker::Model;
 
-/// The unspent outputs and the used ids, with a running total. (UTxO of the formal specification; that used ids are kept is own)
-#[derive(Debug, Drop)]
+/// The unspent outputs and the used ids, with what the outputs hold of lovelace and of each asset. (UTxO of the formal specification; that used ids and totals are kept is own)
+#[derive(Drop)]
 pub struct UtxoSet {
     outputs: BTreeMap<OutRef, Output>,
     used: BTreeSet<TxId>,
     total: u64,
+    assets: AssetTotals,
 }
 
 impl Model for UtxoSet {
     ghost use Rattle.std.specs.Prelude.{◌≡◌};
-    ghost use Rattle.book_records.specs.Outputs.{lovelace_in};
+    ghost use Rattle.assets.specs.Totals.{AreTotals, total_at};
+    ghost use Rattle.book_records.specs.Outputs.{assets_in, lovelace_in};
+    ghost use Rattle.gov_ids.specs.declared.assets.AssetId.{AssetId};
     ghost use Rattle.utxo_set.specs.Utxos.{Utxos, IsInOrder};
 
     ghost Value = { Utxos };
@@ -33,7 +37,9 @@ impl Model for UtxoSet {
     ghost view = { λ a. record { outputs = a.outputs.entries; used = a.used.keys } };
 
     ghost invariant = { λ a. (a.total ≡ lovelace_in a.outputs.entries)
-        × IsInOrder (record { outputs = a.outputs.entries; used = a.used.keys }) };
+        × IsInOrder (record { outputs = a.outputs.entries; used = a.used.keys })
+        × AreTotals a.assets
+        × ((k : AssetId) → total_at a.assets k ≡ assets_in a.outputs.entries k) };
 }
 
 impl UtxoSet {
@@ -45,15 +51,16 @@ impl UtxoSet {
             outputs: BTreeMap::new(alloc),
             used: BTreeSet::new(alloc),
             total: 0,
+            assets: AssetTotals::new(alloc),
         }
     }
 
     /// The output at a reference, none where there is none. (UTxO of the formal specification)
-    pub fn get(&self, r: &OutRef) -> Option<Output>
-        ensures value { result ≡ value_at outref_cmp self.now.outputs r.now }
+    pub fn get(&self, r: &OutRef) -> Option<&Output>
+        ensures value { option_map (λ o. o.now) result ≡ value_at outref_cmp self.now.outputs r.now }
         ensures in_order { IsInOrder self.now }
     {
-        self.outputs.get(r).copied()
+        self.outputs.get(r)
     }
 
     /// Adds an output at a new reference. Want of memory changes nothing. (UTxO of the formal specification)
@@ -63,8 +70,13 @@ impl UtxoSet {
         ensures ok { OnOk result (self.new ≡ record self.old { outputs = with_value outref_cmp r o self.old.outputs }) }
         ensures err { OnErr result (self.new ≡ self.old) }
     {
-        self.outputs.insert(r, o)?;
-        self.total += o.lovelace;
+        self.assets.add(&o.assets)?;
+        let lovelace = o.lovelace;
+        if let Err(refused) = self.outputs.insert(r, o) {
+            self.assets.subtract(&refused.value.1.assets);
+            return Err(NoMemory);
+        }
+        self.total += lovelace;
         Ok(())
     }
 
@@ -75,6 +87,7 @@ impl UtxoSet {
     {
         let output = self.outputs.remove(r)?;
         self.total -= output.lovelace;
+        self.assets.subtract(&output.assets);
         Some(output)
     }
 
@@ -84,6 +97,21 @@ impl UtxoSet {
         ensures in_order { IsInOrder self.now }
     {
         self.total
+    }
+
+    /// What all outputs hold of an asset. (Own)
+    pub fn asset_total(&self, a: &AssetId) -> u128
+        ensures sum { result ≡ assets_in self.now.outputs a.now }
+        ensures in_order { IsInOrder self.now }
+    {
+        self.assets.total(a)
+    }
+
+    /// The first asset past an asset that outputs hold, or the first of all, in order, with how much they hold of it; none at the end. (Own)
+    pub fn next_asset(&self, after: Option<&AssetId>) -> Option<(AssetId, u128)>
+        ensures { result ≡ entry_after asset_cmp (option_map (λ a. a.now) after.entry) (asset_totals self.now.outputs) }
+    {
+        self.assets.next(after)
     }
 
     /// Whether an id is a used one: of a transaction that was applied, or of one that made an output of the genesis. (Own)
@@ -111,11 +139,12 @@ impl UtxoSet {
     }
 
     /// The first output past a reference, or the first of all, in the order of references; none at the end. (UTxO of the formal specification)
-    pub fn next(&self, after: Option<&OutRef>) -> Option<(OutRef, Output)>
-        ensures { result ≡ entry_after outref_cmp (option_map (λ r. r.now) after.entry) self.now.outputs }
+    pub fn next(&self, after: Option<&OutRef>) -> Option<(OutRef, &Output)>
+        ensures { option_map (λ e. (e.0, e.1.now)) result ≡
+            entry_after outref_cmp (option_map (λ r. r.now) after.entry) self.now.outputs }
     {
         let (r, o) = self.outputs.range(keys_past(after)).next()?;
-        Some((*r, *o))
+        Some((*r, o))
     }
 
     /// The first used id past an id, or the first of all, in the order of ids; none at the end. (Own)

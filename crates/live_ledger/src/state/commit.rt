@@ -96,7 +96,7 @@ impl LiveLedger {
         ensures { IfOk result (λ s. s ≡ on_ledger (λ l. ledger_after_tx l tx.now) self) }
     {
         let mut stake = self.stake;
-        match move_collateral(&mut stake, tx) {
+        match move_collateral(self.alloc, &mut stake, tx) {
             Ok(collateral) => Ok(LiveLedger {
                 fees: self.fees + (collateral - returned(tx)),
                 stake,
@@ -141,7 +141,7 @@ fn apply(
     ensures proposed { OnOk result
         (proposals.new ≡ map (with_votes tx.now) proposals.old ++ made_proposals last tx.now) }
 {
-    move_outputs(stake, tx)?;
+    move_outputs(alloc, stake, tx)?;
     add_tx_proposals(alloc, proposals, last, tx)?;
     Ok(())
 }

@@ -8,6 +8,7 @@ use Rattle.maps.proofs.Fresh.{fresh_from_absent}
 use Rattle.maps.specs.Maps.{value_at}
 use Rattle.std.proofs.lemmas.List.Sums.{sum_by-drop_more}
 use Rattle.stake_book.specs.Stakes.{Stakes, accounts_of, balances_in}
+use Rattle.tx_records.specs.declared.tx.TxOutput.{TxOutput}
 use Rattle.tx_balance.proofs.Outputs.{made_once}
 use Rattle.live_ledger.proofs.Puts.{made_absent, made_at, made_fresh, made_lovelace, made_rest, made_sum}
 use Rattle.live_ledger.proofs.books.put_outputs.Goals as goal
@@ -43,15 +44,15 @@ loop-output-preserved c =
     let h = c.loop-output.invariant in
     let u = c.loop-output.stake.outputs in
     let v = c.add.new.self.outputs in
-    let k = c.kept.ensures in
+    let k = c.in_ok-output.ensures ∙ ap (λ (x : TxOutput). kept_output x) c.output-item.is in
     let e = c.in_ok-add.ensures in
     let p = ap (λ (s : Stakes). s.outputs) e.ok in
     let absent : value_at outref_cmp c.loop-output.stake.outputs.outputs (record { tx = c.args.tx.now.id; index = c.loop-output.index }) ≡ None =
     made_absent id n (drop i outputs) c.loop-output.stake.outputs.outputs (omega (arith, length-drop i outputs)) h.fresh in
     record {
       place = omega arith;
-      fresh = made_fresh id outputs u v n i _ c.kept.result l k p h.fresh;
-      sum = made_sum id outputs u v n i _ c.kept.result l k p _ absent h.sum;
-      rest = made_rest id outputs u v n i _ c.kept.result l k p ∙ h.rest;
+      fresh = made_fresh id outputs u v n i _ c.in_ok-output.output l k p h.fresh;
+      sum = made_sum id outputs u v n i _ c.in_ok-output.output l k p _ absent h.sum;
+      rest = made_rest id outputs u v n i _ c.in_ok-output.output l k p ∙ h.rest;
       kept = record { accounts = e.registered ∙ h.kept.accounts; frozen = e.frozen ∙ h.kept.frozen };
     }

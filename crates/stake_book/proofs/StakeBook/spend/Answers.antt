@@ -16,9 +16,9 @@ pub lower_stake-requires : goal.lower_stake-requires
 lower_stake-requires c =
     let s : Stakes = record { outputs = c.self.inside.outputs; accounts = c.self.inside.accounts } in
     record {
-      enough = λ q p. spend_enough s c.args.r.now c.in-Some.output c.self.invariant (sym c.in-Some.ensures.value) q p;
-      room = subst (λ (a : Accounts). weight_in a.live ≤ SUPPLY_LIMIT) (sym (spend_lowers s c.args.r.now c.in-Some.output c.self.invariant c.in-Some.ensures.value))
-          (weight_within _ (spend_keeps s c.args.r.now c.in-Some.output c.self.invariant c.in-Some.ensures.value));
+      enough = λ q p. spend_enough s c.args.r.now c.in-Some.output.now c.self.invariant (sym c.in-Some.ensures.value) q p;
+      room = subst (λ (a : Accounts). weight_in a.live ≤ SUPPLY_LIMIT) (sym (spend_lowers s c.args.r.now c.in-Some.output.now c.self.invariant c.in-Some.ensures.value))
+          (weight_within _ (spend_keeps s c.args.r.now c.in-Some.output.now c.self.invariant c.in-Some.ensures.value));
     }
 
 pub returns-in_default-clause-ok : goal.returns-in_default-clause-ok
@@ -28,13 +28,13 @@ returns-in_default-clause-ok c =
 pub invariant_of-self-2 : goal.invariant_of-self-2
 invariant_of-self-2 c =
     let s : Stakes = record { outputs = c.self.inside.outputs; accounts = c.self.inside.accounts } in
-    let lowered = c.in_ok-lower_stake.ensures.ok ∙ spend_lowers s c.args.r.now c.in-Some.output c.self.invariant c.in-Some.ensures.value in
-    subst (λ (s : Stakes). AreKept s) (λ i. record { outputs = sym c.take.ensures.rest i; accounts = sym lowered i }) (spend_keeps s c.args.r.now c.in-Some.output c.self.invariant c.in-Some.ensures.value)
+    let lowered = c.in_ok-lower_stake.ensures.ok ∙ spend_lowers s c.args.r.now c.in-Some.output.now c.self.invariant c.in-Some.ensures.value in
+    subst (λ (s : Stakes). AreKept s) (λ i. record { outputs = sym c.take.ensures.rest i; accounts = sym lowered i }) (spend_keeps s c.args.r.now c.in-Some.output.now c.self.invariant c.in-Some.ensures.value)
 
 pub returns-clause-ok : goal.returns-clause-ok
 returns-clause-ok c =
     let s : Stakes = record { outputs = c.self.inside.outputs; accounts = c.self.inside.accounts } in
-    let lowered = c.in_ok-lower_stake.ensures.ok ∙ spend_lowers s c.args.r.now c.in-Some.output c.self.invariant c.in-Some.ensures.value
+    let lowered = c.in_ok-lower_stake.ensures.ok ∙ spend_lowers s c.args.r.now c.in-Some.output.now c.self.invariant c.in-Some.ensures.value
     ∙ ap (λ (x : Option Output). with_stake (option_and_then (λ (o : Output). o.address.stake) x) (stake_held (without_key outref_cmp c.args.r.now s.outputs.outputs)) s.accounts) c.in-Some.ensures.value in
     (λ i. record { outputs = c.take.ensures.rest i; accounts = lowered i }) ∙ ap (λ (s : Stakes). spent c.args.r.now s) c.self.view_is
 
@@ -42,5 +42,5 @@ pub returns-clause-registered : goal.returns-clause-registered
 returns-clause-registered c =
     let a : Accounts = c.self.inside.accounts in
     ap (λ (a : Accounts). registrations a.live) c.in_ok-lower_stake.ensures.ok
-    ∙ registrations_kept c.in-Some.output.address.stake (λ q. stake_at a.live q - c.in-Some.output.lovelace) a c.self.invariant.live
+    ∙ registrations_kept c.in-Some.output.now.address.stake (λ q. stake_at a.live q - c.in-Some.output.now.lovelace) a c.self.invariant.live
     ∙ ap (λ (s : Stakes). accounts_of s) c.self.view_is
