@@ -1,5 +1,5 @@
 -- Certificates one after the other: what each breaks, changes and moves.
-use Rattle.std.proofs.Common.{◌≡◌, ℕ, ◌+◌, ◌<◌, ◌≤◌, List, [], ◌∷◌, false, ◌||◌, cond, Option, Some, None, Err, map, drop, length, get_or, refl, ap, sym, ◌∙◌, add-one}
+use Rattle.std.proofs.Common.{◌≡◌, ℕ, ◌+◌, ◌<◌, ◌≤◌, List, [], ◌∷◌, false, ◌||◌, cond, Option, Some, None, map, drop, length, get_or, refl, ap, sym, ◌∙◌, add-one}
 use Rattle.std.proofs.Math.ListN.{drop_of_length-le}
 use Rattle.std.proofs.Math.Seq.{drop-cons}
 use Rattle.std.proofs.lemmas.List.Sums.{fold_more}
@@ -9,8 +9,6 @@ use Rattle.std.specs.Prelude.{flat_map}
 use Rattle.maps.specs.Words.{or_else}
 use Rattle.tx_records.specs.declared.cert.Cert.{Cert}
 use Rattle.tx_records.specs.declared.reply.Rule.{Rule}
-use Rattle.tx_records.specs.declared.reply.TxFault.{TxFault}
-use Rattle.tx_records.specs.declared.reply.TxFault.TheVariants as faults
 use Rattle.tx_records.specs.declared.tx.Tx.{Tx}
 use Rattle.tx_records.specs.Rules.{placed}
 use Rattle.ledger_model.specs.CertRules.{cert_checks}
@@ -22,7 +20,6 @@ use Rattle.ledger_model.specs.Ledger.{Ledger}
 use Rattle.ledger_model.proofs.CheckLaws.{first_among-append, first_among-at_place}
 use Rattle.ledger_model.proofs.FlowSums.{sum-append}
 use Rattle.ledger_model.proofs.Unbroken.{IsUnbroken, unbroken-cons}
-use Rattle.rule_checks.specs.Answered.{IsAnswered}
 
 -- a list of checks of which none is broken
 unbroken_any : (cs : List Check) → IsUnbroken cs → list_any (λ (k : Check). k.broken) cs ≡ false
@@ -34,11 +31,6 @@ unbroken_any (c ∷ cs) h =
 unplaced : (n : ℕ) (o : Option Rule) → option_map (placed n) o ≡ None → o ≡ None
 unplaced n None h = refl
 unplaced n (Some r) h = cc
-
--- the answer where a fault comes with the first rules
-pub faulted : (a b whole : Option Rule) (e : TxFault) → or_else a b ≡ whole → IsAnswered a (Err e) → IsAnswered whole (Err e)
-faulted a b whole (faults.Refused rule) is h = sym is ∙ ap (λ (o : Option Rule). or_else o b) h
-faulted a b whole faults.NoMemory is h = tt
 
 module _ (l : Ledger) (tx : Tx) where
   abbrev pub checks_at : ℕ → Cert → List Check

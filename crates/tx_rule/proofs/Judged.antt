@@ -1,39 +1,21 @@
 -- The first broken rule of a transaction, group after group, and what its step makes of the ledger.
-use Rattle.std.proofs.Common.{◌≡◌, List, ◌++◌, Result, Ok, Option, Some, None, true, is_none, subst, refl, ap, sym, ◌∙◌, append_assoc}
-use Rattle.std.specs.Prelude.{⊤}
+use Rattle.std.proofs.Common.{◌≡◌, List, ◌++◌, Option, Some, None, true, is_none, ap, sym, ◌∙◌, append_assoc}
 use Rattle.maps.specs.Words.{or_else}
 use Rattle.tx_records.specs.declared.reply.Reply.TheVariants.{Refused}
 use Rattle.tx_records.specs.declared.reply.Rule.{Rule}
-use Rattle.tx_records.specs.declared.reply.TxFault.{TxFault}
 use Rattle.tx_records.specs.declared.tx.Tx.{Tx}
 use Rattle.ledger_model.specs.Broken.{balance_checks, body_checks, first_broken, is_allowed}
 use Rattle.ledger_model.specs.CertRules.{withdrawal_checks}
-use Rattle.ledger_model.specs.Checks.{Check, answer_by, answer_of, first_among, per_place}
+use Rattle.ledger_model.specs.Checks.{Check, first_among, per_place}
 use Rattle.ledger_model.specs.Draft.{last_draft}
 use Rattle.ledger_model.specs.Ledger.{Ledger}
 use Rattle.ledger_model.specs.ProposalRules.{proposal_checks, vote_checks}
 use Rattle.ledger_model.specs.Transaction.{accepted_as, ledger_after_tx, tx_step, tx_step_by}
 use Rattle.ledger_model.specs.UtxoRules.{unless_failed, utxo_checks}
-use Rattle.ledger_model.proofs.CheckLaws.{answer-append, first_among-append}
+use Rattle.ledger_model.proofs.CheckLaws.{first_among-append}
 use Rattle.live_ledger.specs.Standing.{Standing, on_ledger}
-use Rattle.rule_checks.specs.Answered.{IsAnswered, as_fault}
-use Rattle.rule_checks.proofs.Groups.{before}
 use Rattle.tx_rule.specs.Drafted.{drafted_checks}
 use Rattle.tx_rule.proofs.Certified.{checks_from}
-
--- ---- answers
-
-pub answered : (o : Option Rule) → IsAnswered o (as_fault (answer_by o))
-answered None = refl
-answered (Some r) = refl
-
-pub passed : (o : Option Rule) → Ok tt ≡ as_fault (answer_by o) → o ≡ None
-passed None e = refl
-passed (Some r) e = cc
-
--- a first group of which none is broken leaves the answer to the others
-pub answered_later : (a b whole : Option Rule) (r : Result ⊤ TxFault) → or_else a b ≡ whole → a ≡ None → IsAnswered b r → IsAnswered whole r
-answered_later a b whole r is none h = subst (λ (o : Option Rule). IsAnswered o r) (ap (λ (x : Option Rule). or_else x b) (sym none) ∙ is) h
 
 -- ---- the groups
 
@@ -44,11 +26,12 @@ five a b c d e =
     ∙ sym (first_among-append a (b ++ (c ++ d ++ e)))
     ∙ ap first_among (sym all)
 
-three : (a b c : List Check) → before a (before b (answer_of c)) ≡ answer_of (a ++ b ++ c)
-unfolding before
+three : (a b c : List Check) → or_else (first_among a) (or_else (first_among b) (first_among c)) ≡ first_among (a ++ b ++ c)
 three a b c =
-    let right : a ++ b ++ c ≡ a ++ (b ++ c) = simp append_assoc in
-    sym (ap answer_of right ∙ answer-append a (b ++ c) ∙ ap (before a) (answer-append b c))
+    let all : a ++ b ++ c ≡ a ++ (b ++ c) = simp append_assoc in
+    ap (or_else (first_among a)) (sym (first_among-append b c))
+    ∙ sym (first_among-append a (b ++ c))
+    ∙ ap first_among (sym all)
 
 module _ (l : Ledger) (tx : Tx) where
   -- the rules on withdrawals, on certificates and after them
@@ -58,11 +41,10 @@ module _ (l : Ledger) (tx : Tx) where
       (balance_checks l tx)
 
   -- the rules after the certificates
-  pub drafted_answer : (answer : Result ⊤ Rule)
-      → answer ≡ before (per_place (proposal_checks l (last_draft l tx)) tx.proposals) (before (per_place (vote_checks l (last_draft l tx)) tx.votes) (answer_of (balance_checks l tx)))
-      → answer ≡ answer_of (drafted_checks l tx)
-  drafted_answer answer e =
-      e ∙ three (per_place (proposal_checks l (last_draft l tx)) tx.proposals) (per_place (vote_checks l (last_draft l tx)) tx.votes) (balance_checks l tx)
+  pub drafted_groups : or_else (first_among (per_place (proposal_checks l (last_draft l tx)) tx.proposals))
+      (or_else (first_among (per_place (vote_checks l (last_draft l tx)) tx.votes)) (first_among (balance_checks l tx))) ≡ first_among (drafted_checks l tx)
+  drafted_groups =
+      three (per_place (proposal_checks l (last_draft l tx)) tx.proposals) (per_place (vote_checks l (last_draft l tx)) tx.votes) (balance_checks l tx)
 
   -- the first rules, and those of the body
   pub two_groups : or_else (first_among (utxo_checks l tx)) (first_among (unless_failed tx.scripts (body_checks l tx))) ≡ first_broken l tx

@@ -26,10 +26,9 @@ use draft_changes::Changes;
 use govcert::refresh;
 use ledger_state::LedgerState;
 use live_ledger::{Draft, LiveLedger};
-use rule_checks::as_fault;
 use std::alloc::Global;
 use tx_records::{Reply, Rule, Scripts, Tx, TxFault};
-use utxo_rules::check_spent;
+use utxo_rules::{Spent, check_spent};
 
 /// Judges a transaction, and applies it where it breaks no rule; the state of a refused one is the one that was given, and all that epochs add stays. After want of memory there is no state. (LEDGER of the formal specification)
 pub fn apply_tx(alloc: Global, s: LedgerState, tx: &Tx) -> Result<(LedgerState, Reply), NoMemory>
@@ -62,21 +61,24 @@ fn changes_of(alloc: Global, s: &LiveLedger, tx: &Tx) -> Result<Changes, TxFault
     requires within { is_within_limits tx.now ≡ true }
     ensures { IsJudged result s.now.ledger tx.now }
 {
-    match check_spent(s, tx) {
-        Ok(spent) => changes_of_spent(alloc, s, tx, spent),
-        Err(rule) => Err(TxFault::Refused(rule)),
-    }
+    let spent = check_spent(alloc, s, tx)?;
+    changes_of_spent(alloc, s, tx, spent)
 }
 
-/// The same of one that breaks none of the first rules, and whose inputs hold so much, in lovelace.
-fn changes_of_spent(alloc: Global, s: &LiveLedger, tx: &Tx, spent: u128) -> Result<Changes, TxFault>
+/// The same of one that breaks none of the first rules, and whose inputs hold so much.
+fn changes_of_spent(
+    alloc: Global,
+    s: &LiveLedger,
+    tx: &Tx,
+    spent: Spent,
+) -> Result<Changes, TxFault>
     requires within { is_within_limits tx.now ≡ true }
     requires checked { first_among (utxo_checks s.now.ledger tx.now) ≡ None }
     requires spent { IsSpent s.now.ledger tx.now.inputs spent }
     ensures { IsJudged result s.now.ledger tx.now }
 {
     let mut draft = Draft::new(alloc, s);
-    match judge_body(&mut draft, tx, spent) {
+    match judge_body(alloc, &mut draft, tx, spent) {
         Ok(()) => Ok(draft.into_changes()),
         Err(fault) => {
             drop(draft);
@@ -86,7 +88,7 @@ fn changes_of_spent(alloc: Global, s: &LiveLedger, tx: &Tx, spent: u128) -> Resu
 }
 
 /// Makes the draft of the transaction, or tells the first rule of its body that it breaks. One whose scripts failed need not keep them, and changes nothing in the draft.
-fn judge_body(draft: &mut Draft, tx: &Tx, spent: u128) -> Result<(), TxFault>
+fn judge_body(alloc: Global, draft: &mut Draft, tx: &Tx, spent: Spent) -> Result<(), TxFault>
     requires within { is_within_limits tx.now ≡ true }
     requires fresh { draft.old ≡ draft_at draft.old.start }
     requires spent { IsSpent draft.old.start tx.now.inputs spent }
@@ -96,12 +98,12 @@ fn judge_body(draft: &mut Draft, tx: &Tx, spent: u128) -> Result<(), TxFault>
 {
     match tx.scripts {
         Scripts::Failed => Ok(()),
-        Scripts::Absent | Scripts::Passed => judge_passed(draft, tx, spent),
+        Scripts::Absent | Scripts::Passed => judge_passed(alloc, draft, tx, spent),
     }
 }
 
 /// The same of one whose scripts did not fail: its withdrawals, what its proposals and votes refresh, its certificates, and what is asked after them.
-fn judge_passed(draft: &mut Draft, tx: &Tx, spent: u128) -> Result<(), TxFault>
+fn judge_passed(alloc: Global, draft: &mut Draft, tx: &Tx, spent: Spent) -> Result<(), TxFault>
     requires within { is_within_limits tx.now ≡ true }
     requires fresh { draft.old ≡ draft_at draft.old.start }
     requires spent { IsSpent draft.old.start tx.now.inputs spent }
@@ -112,7 +114,7 @@ fn judge_passed(draft: &mut Draft, tx: &Tx, spent: u128) -> Result<(), TxFault>
     withdraw(draft, tx)?;
     refresh(draft, tx)?;
     certify(draft, tx)?;
-    as_fault(check_drafted(draft, tx, spent))
+    check_drafted(alloc, draft, tx, spent)
 }
 
 /// The state after a transaction that breaks no rule, whose changes these are, and the reply to it.

@@ -1,16 +1,27 @@
 -- What the inputs of a transaction hold, beside the rules that are tried on the way. (Own)
-use Rattle.std.specs.Prelude.{◌≡◌, ℕ, ◌-◌, ◌*◌, ◌^◌, ◌≤◌, List, Result, Ok, Err, ⊤, length, sum_by}
+use Rattle.std.specs.Prelude.{◌≡◌, ◌+◌, ◌-◌, ◌*◌, ◌^◌, ◌≤◌, Bool, not, ◌||◌, List, Result, Ok, Err, ⊤, length, sum_by}
+use Rattle.std.specs.List.{list_any}
 use Rattle.gov_ids.specs.declared.OutRef.{OutRef}
 use Rattle.ledger_model.specs.Ledger.{Ledger}
-use Rattle.ledger_model.specs.UtxoRules.{lovelace_at}
-use Rattle.tx_records.specs.declared.reply.Rule.{Rule}
+use Rattle.ledger_model.specs.UtxoRules.{assets_at, lovelace_at}
+use Rattle.maps.specs.Words.{is_empty}
+use Rattle.utxo_rules.specs.declared.holdings.Spent.{Spent}
 
--- an answer that comes with a number, as that of a call that checks alone
-abbrev pub without_number : Result ℕ Rule → Result ⊤ Rule
-without_number (Ok n) = Ok tt
-without_number (Err r) = Err r
+-- an answer that comes with a value, as that of a call that checks alone
+abbrev pub without_value : {X E : Type 0} → Result X E → Result ⊤ E
+without_value (Ok x) = Ok tt
+without_value (Err e) = Err e
 
--- so many lovelace are what the unspent outputs at these references hold, each a number of 64 bits
-pub record IsSpent (l : Ledger) (refs : List OutRef) (spent : ℕ) : Type 0 where
-  pub sum : spent ≡ sum_by (lovelace_at l) refs
-  pub fits : spent ≤ length refs * (2 ^ 64 - 1)
+-- whether an unspent output holds an asset
+abbrev pub has_assets_at : Ledger → OutRef → Bool
+has_assets_at l r = not (is_empty (assets_at l r))
+
+-- what both hold
+abbrev pub both : Spent → Spent → Spent
+both some others = record { lovelace = some.lovelace + others.lovelace; has_assets = some.has_assets || others.has_assets }
+
+-- this is what the unspent outputs at these references hold, the lovelace of each being a number of 64 bits
+pub record IsSpent (l : Ledger) (refs : List OutRef) (spent : Spent) : Type 0 where
+  pub sum : spent.lovelace ≡ sum_by (lovelace_at l) refs
+  pub fits : spent.lovelace ≤ length refs * (2 ^ 64 - 1)
+  pub assets : spent.has_assets ≡ list_any (has_assets_at l) refs

@@ -1,23 +1,30 @@
-ghost use Rattle.std.specs.Prelude.{◌≡◌, ◌≤◌, ◌*◌, length, sum_by};
-ghost use Rattle.ledger_model.specs.UtxoRules.{lovelace_at};
+ghost use Rattle.std.specs.Prelude.{◌≡◌, ◌≤◌, ◌*◌, [], ◌∷◌, length, sum_by};
+ghost use Rattle.utxo_rules.specs.Spent.{IsSpent};
 
+use crate::holdings::{NOTHING, Spent, both, held_in};
 use gov_ids::{Account, OutRef};
 use live_ledger::LiveLedger;
 use tx_records::{ProposalRecord, TxOutput};
 
-/// What the unspent outputs at these references hold, in lovelace; a reference that has none counts as 0.
-pub fn lovelace_spent(s: &LiveLedger, refs: &[OutRef]) -> u128
-    ensures sum { result ≡ sum_by (lovelace_at s.now.ledger) refs.now }
-    ensures fits { result ≤ length refs.now * u64.MAX }
+/// What the unspent outputs at these references hold; a reference that has none counts as nothing.
+pub fn spent_by(s: &LiveLedger, refs: &[OutRef]) -> Spent
+    ensures { IsSpent s.now.ledger refs.now result }
 {
-    let outputs = s.outputs();
-    let mut sum = 0;
+    let mut spent = NOTHING;
     for at in refs {
-        sum += outputs
-            .get(at)
-            .map_or(0, |output| u128::from(output.lovelace));
+        spent = both(spent, spent_at(s, at));
     }
-    sum
+    spent
+}
+
+/// The same of one reference.
+fn spent_at(s: &LiveLedger, at: &OutRef) -> Spent
+    ensures { IsSpent s.now.ledger (at.now ∷ []) result }
+{
+    match s.outputs().get(at) {
+        Some(output) => held_in(output),
+        None => NOTHING,
+    }
 }
 
 /// What these outputs hold, in lovelace.

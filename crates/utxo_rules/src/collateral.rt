@@ -1,17 +1,25 @@
-ghost use Rattle.std.specs.Prelude.{◌≡◌, true};
-ghost use Rattle.ledger_model.specs.Checks.{answer_of, per_place};
-ghost use Rattle.ledger_model.specs.UtxoRules.{collateral_checks, collateral_list_checks, collateral_sum_checks, has_scripts};
+ghost use Rattle.std.specs.Prelude.{◌≡◌, ◌&&◌, true, IfOk, not};
+ghost use Rattle.std.specs.List.{list_any};
+ghost use Rattle.ledger_model.specs.Checks.{answer_of, first_among, per_place};
+ghost use Rattle.ledger_model.specs.UtxoRules.{collateral_assets_checks, collateral_checks, collateral_list_checks};
+ghost use Rattle.ledger_model.specs.UtxoRules.{collateral_sum_checks, has_scripts, is_collateral_uneven, returned_assets};
+ghost use Rattle.maps.specs.Words.{is_empty};
+ghost use Rattle.rule_checks.specs.Answered.{IsAnswered};
 ghost use Rattle.tx_records.specs.TxLimits.{is_within_limits};
+ghost use Rattle.utxo_rules.specs.Spent.{has_assets_at};
 
-use crate::amounts::lovelace_spent;
-use gov_ids::{CredKind, OutRef};
+use crate::amounts::spent_by;
+use crate::asset_sums::taken_by;
+use coin_frac::NoMemory;
+use gov_ids::{AssetId, CredKind, OutRef};
 use live_ledger::LiveLedger;
 use rule_checks::{ItemRules, check_each};
+use std::alloc::Global;
 use tx_records::rules::{
-    COLLATERAL_MISSING, COLLATERAL_NOT_KEY, COLLATERAL_TOO_SMALL, NO_COLLATERAL,
-    TOO_MANY_COLLATERAL,
+    COLLATERAL_ASSETS_WRONG, COLLATERAL_MISSING, COLLATERAL_NOT_KEY, COLLATERAL_TOO_SMALL,
+    NO_COLLATERAL, TOO_MANY_COLLATERAL,
 };
-use tx_records::{Rule, Scripts, Tx};
+use tx_records::{Rule, Scripts, Tx, TxFault};
 
 /// Whether a transaction has scripts.
 fn has_scripts(tx: &Tx) -> bool
@@ -77,9 +85,10 @@ pub fn check_collateral_sum(s: &LiveLedger, tx: &Tx) -> Result<(), Rule>
     requires { is_within_limits tx.now ≡ true }
     ensures { result ≡ answer_of (collateral_sum_checks s.now.ledger tx.now) }
 {
-    let sum = lovelace_spent(s, tx.collateral.as_slice());
+    let sum = spent_by(s, tx.collateral.as_slice()).lovelace;
     let returned = tx
         .collateral_return
+        .as_ref()
         .map_or(0, |output| u128::from(output.lovelace));
     let left = sum.saturating_sub(returned);
     let wanted = u128::from(tx.fee) * u128::from(s.params().collateral_percentage);
@@ -87,4 +96,48 @@ pub fn check_collateral_sum(s: &LiveLedger, tx: &Tx) -> Result<(), Rule>
         return Err(Rule::keeping(COLLATERAL_TOO_SMALL, left));
     }
     Ok(())
+}
+
+/// The rule on the assets of the collateral, all of which come back with its return.
+pub fn check_collateral_assets(alloc: Global, s: &LiveLedger, tx: &Tx) -> Result<(), TxFault>
+    ensures { IsAnswered (first_among (collateral_assets_checks s.now.ledger tx.now)) result }
+{
+    if !has_scripts(tx) {
+        return Ok(());
+    }
+    if is_collateral_uneven(alloc, s, tx)? {
+        return Err(TxFault::Refused(Rule::new(COLLATERAL_ASSETS_WRONG)));
+    }
+    Ok(())
+}
+
+/// Whether the collateral holds more or less of an asset than its return gives back. It takes no memory where neither has assets.
+fn is_collateral_uneven(alloc: Global, s: &LiveLedger, tx: &Tx) -> Result<bool, NoMemory>
+    ensures { IfOk result (λ uneven. uneven ≡ is_collateral_uneven s.now.ledger tx.now) }
+{
+    let refs = tx.collateral.as_slice();
+    let returned = returned_assets(tx);
+    if have_no_assets(s, refs, returned) {
+        return Ok(false);
+    }
+    let mut balance = taken_by(alloc, s, refs)?;
+    balance.give(returned)?;
+    Ok(balance.first_uneven().is_some())
+}
+
+/// The assets that the collateral return gives back, none where there is none.
+fn returned_assets(tx: &Tx) -> &[(AssetId, u64)]
+    ensures { result.now ≡ returned_assets tx.now }
+{
+    match &tx.collateral_return {
+        Some(output) => output.assets.as_slice(),
+        None => &[],
+    }
+}
+
+/// Whether neither the unspent outputs at these references nor a return have assets.
+fn have_no_assets(s: &LiveLedger, refs: &[OutRef], returned: &[(AssetId, u64)]) -> bool
+    ensures { result ≡ (is_empty returned.now && not (list_any (has_assets_at s.now.ledger) refs.now)) }
+{
+    returned.is_empty() && !spent_by(s, refs).has_assets
 }

@@ -1,11 +1,12 @@
-ghost use Rattle.std.specs.Prelude.{◌≡◌, ◌<◌, ◌≤◌, ◌^◌, true, IfOk, length};
+ghost use Rattle.std.specs.Prelude.{◌≡◌, ◌<◌, ◌≤◌, ◌^◌, true, [], ◌∷◌, IfOk, length};
 ghost use Rattle.ledger_model.specs.Checks.{answer_of, per_place};
-ghost use Rattle.ledger_model.specs.UtxoRules.{id_checks, input_checks, lovelace_at};
+ghost use Rattle.ledger_model.specs.UtxoRules.{id_checks, input_checks};
 ghost use Rattle.rule_checks.specs.Places.{answer_at};
 ghost use Rattle.tx_records.specs.TxLimits.{is_within_limits};
 ghost use Rattle.utxo_rules.specs.Repeated.{input_checks_by, is_at};
-ghost use Rattle.utxo_rules.specs.Spent.{IsSpent, without_number};
+ghost use Rattle.utxo_rules.specs.Spent.{IsSpent, without_value};
 
+use crate::holdings::{NOTHING, Spent, both, held_in};
 use gov_ids::OutRef;
 use live_ledger::LiveLedger;
 use tx_records::rules::{INPUT_MISSING, INPUT_REPEATED, NO_INPUTS, NOT_WITNESSED, TX_ID_USED};
@@ -27,12 +28,17 @@ pub fn check_id(s: &LiveLedger, tx: &Tx) -> Result<(), Rule>
     Ok(())
 }
 
-/// What an input at a place holds, in lovelace, or the first rule that it breaks, with its place.
-fn held_at(s: &LiveLedger, repeated: Option<usize>, place: usize, at: &OutRef) -> Result<u64, Rule>
+/// What an input at a place holds, or the first rule that it breaks, with its place.
+fn held_at(
+    s: &LiveLedger,
+    repeated: Option<usize>,
+    place: usize,
+    at: &OutRef,
+) -> Result<Spent, Rule>
     requires { place < 2 ^ 32 }
-    ensures rule { without_number result ≡
+    ensures rule { without_value result ≡
         answer_at place (answer_of (input_checks_by s.now.ledger (is_at repeated place) at.now)) }
-    ensures held { IfOk result (λ held. held ≡ lovelace_at s.now.ledger at.now) }
+    ensures held { IfOk result (IsSpent s.now.ledger (at.now ∷ [])) }
 {
     let Some(output) = s.outputs().get(at) else {
         return Err(Rule::new(INPUT_MISSING).at(place as u32));
@@ -40,27 +46,27 @@ fn held_at(s: &LiveLedger, repeated: Option<usize>, place: usize, at: &OutRef) -
     if repeated == Some(place) {
         return Err(Rule::new(INPUT_REPEATED).at(place as u32));
     }
-    Ok(output.lovelace)
+    Ok(held_in(output))
 }
 
-/// What these inputs hold, in lovelace, or the first rule that one of them breaks. The rules are tried up to the first repeated one, which breaks one of them.
-fn held_by(s: &LiveLedger, repeated: Option<usize>, refs: &[OutRef]) -> Result<u128, Rule>
+/// What these inputs hold, or the first rule that one of them breaks. The rules are tried up to the first repeated one, which breaks one of them.
+fn held_by(s: &LiveLedger, repeated: Option<usize>, refs: &[OutRef]) -> Result<Spent, Rule>
     requires { length refs.now ≤ 2 ^ 32 }
-    ensures rule { without_number result ≡
+    ensures rule { without_value result ≡
         answer_of (per_place (λ i at. input_checks_by s.now.ledger (is_at repeated i) at) refs.now) }
     ensures held { IfOk result (IsSpent s.now.ledger refs.now) }
 {
-    let mut held = 0;
+    let mut held = NOTHING;
     for (place, at) in refs.iter().enumerate() {
-        held += u128::from(held_at(s, repeated, place, at)?);
+        held = both(held, held_at(s, repeated, place, at)?);
     }
     Ok(held)
 }
 
-/// What the inputs hold, in lovelace, or the first of the rules on each input that is broken. Each is looked up once.
-pub fn check_inputs(s: &LiveLedger, tx: &Tx) -> Result<u128, Rule>
+/// What the inputs hold, or the first of the rules on each input that is broken. Each is looked up once.
+pub fn check_inputs(s: &LiveLedger, tx: &Tx) -> Result<Spent, Rule>
     requires { is_within_limits tx.now ≡ true }
-    ensures rule { without_number result ≡
+    ensures rule { without_value result ≡
         answer_of (per_place (input_checks s.now.ledger tx.now) tx.now.inputs) }
     ensures held { IfOk result (IsSpent s.now.ledger tx.now.inputs) }
 {

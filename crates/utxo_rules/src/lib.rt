@@ -1,44 +1,67 @@
 //! The rules on what a transaction spends and makes, and the rule on its balance.
 #![tactic(auto)]
 
-ghost use Rattle.std.specs.Prelude.{◌≡◌, true, IfOk};
-ghost use Rattle.ledger_model.specs.Checks.{answer_of};
-ghost use Rattle.ledger_model.specs.UtxoRules.{utxo_checks};
+ghost use Rattle.std.specs.Prelude.{◌≡◌, ◌≤◌, ◌*◌, true, IfOk, length, sum_by};
+ghost use Rattle.ledger_model.specs.Checks.{answer_of, first_among};
+ghost use Rattle.ledger_model.specs.UtxoRules.{lovelace_at, utxo_checks};
 ghost use Rattle.ledger_model.specs.Broken.{balance_checks};
 ghost use Rattle.ledger_model.specs.Flows.{flows_of_certs, hand, sink, source, sum_at};
+ghost use Rattle.rule_checks.specs.Answered.{IsAnswered};
 ghost use Rattle.tx_records.specs.TxLimits.{is_within_limits};
-ghost use Rattle.utxo_rules.specs.Spent.{IsSpent, without_number};
+ghost use Rattle.utxo_rules.specs.Plain.{lovelace_checks, plain_checks};
+ghost use Rattle.utxo_rules.specs.Spent.{IsSpent, without_value};
 
 mod amounts;
+mod asset_sums;
 mod collateral;
+mod holdings;
 mod inputs;
 mod limits;
 mod outputs;
 
-use crate::amounts::{lovelace_made, lovelace_proposed, lovelace_spent, lovelace_withdrawn};
-use crate::collateral::{check_collateral, check_collateral_list, check_collateral_sum};
+use crate::amounts::{lovelace_made, lovelace_proposed, lovelace_withdrawn, spent_by};
+use crate::asset_sums::{check_assets, moves_assets};
+use crate::collateral::{
+    check_collateral, check_collateral_assets, check_collateral_list, check_collateral_sum,
+};
 use crate::inputs::{check_id, check_inputs};
 use crate::limits::{check_fee, check_treasury};
 use crate::outputs::check_outputs;
+pub use holdings::Spent;
 use live_ledger::{Draft, LiveLedger};
+use rule_checks::as_fault;
+use std::alloc::Global;
 use tx_records::rules::NOT_BALANCED;
-use tx_records::{Rule, Tx};
+use tx_records::{Rule, Tx, TxFault};
 
-/// The first of the rules on id, inputs, size, time, fee, outputs, collateral and treasury value that the transaction breaks, if there is one. (UTXO and UTXOW of the formal specification)
-pub fn check(s: &LiveLedger, tx: &Tx) -> Result<(), Rule>
+/// The first of the rules on id, inputs, size, time, fee, outputs, collateral with its assets, and treasury value that the transaction breaks, if there is one. It takes memory where collateral or its return has assets. (UTXO and UTXOW of the formal specification)
+pub fn check(alloc: Global, s: &LiveLedger, tx: &Tx) -> Result<(), TxFault>
     requires { is_within_limits tx.now ≡ true }
-    ensures { result ≡ answer_of (utxo_checks s.now.ledger tx.now) }
+    ensures { IsAnswered (first_among (utxo_checks s.now.ledger tx.now)) result }
 {
-    match check_spent(s, tx) {
-        Ok(_) => Ok(()),
-        Err(rule) => Err(rule),
+    check_spent(alloc, s, tx)?;
+    Ok(())
+}
+
+/// What the inputs of a transaction hold, or the first of the rules of `check` that it breaks: `balance_of_spent` asks for it. Each input is looked up once. (Own)
+pub fn check_spent(alloc: Global, s: &LiveLedger, tx: &Tx) -> Result<Spent, TxFault>
+    requires { is_within_limits tx.now ≡ true }
+    ensures rule { IsAnswered (first_among (utxo_checks s.now.ledger tx.now)) (without_value result) }
+    ensures spent { IfOk result (IsSpent s.now.ledger tx.now.inputs) }
+{
+    match check_plain(s, tx) {
+        Ok(spent) => {
+            check_collateral_assets(alloc, s, tx)?;
+            Ok(spent)
+        }
+        Err(rule) => Err(TxFault::Refused(rule)),
     }
 }
 
-/// What the inputs of a transaction hold, in lovelace, or the first of the rules of `check` that it breaks: `balance_of_spent` asks for it. Each input is looked up once. (Own)
-pub fn check_spent(s: &LiveLedger, tx: &Tx) -> Result<u128, Rule>
+/// The same by all rules of `check` but the one on the assets of the collateral.
+fn check_plain(s: &LiveLedger, tx: &Tx) -> Result<Spent, Rule>
     requires { is_within_limits tx.now ≡ true }
-    ensures rule { without_number result ≡ answer_of (utxo_checks s.now.ledger tx.now) }
+    ensures rule { without_value result ≡ answer_of (plain_checks s.now.ledger tx.now) }
     ensures spent { IfOk result (IsSpent s.now.ledger tx.now.inputs) }
 {
     check_id(s, tx)?;
@@ -52,24 +75,41 @@ pub fn check_spent(s: &LiveLedger, tx: &Tx) -> Result<u128, Rule>
     Ok(spent)
 }
 
-/// Whether what a transaction takes is what it gives, in lovelace, with what its certificates gave back and paid in the draft; else NotBalanced with both sums. A transaction whose scripts failed need not keep it. (UTXO of the formal specification, the preservation of value)
-pub fn balance(d: &Draft, tx: &Tx) -> Result<(), Rule>
+/// Whether what a transaction takes is what it gives, in lovelace, with what its certificates gave back and paid in the draft, and then of each asset; else NotBalanced or AssetNotBalanced with both sums. It takes memory where inputs, outputs or mint have assets. A transaction whose scripts failed need not keep it. (UTXO of the formal specification, the preservation of value)
+pub fn balance(alloc: Global, d: &Draft, tx: &Tx) -> Result<(), TxFault>
     requires within { is_within_limits tx.now ≡ true }
     requires refunds { d.now.refunds ≡ sum_at sink hand (flows_of_certs d.now.start tx.now) }
     requires deposits { d.now.deposits ≡ sum_at source hand (flows_of_certs d.now.start tx.now) }
-    ensures { result ≡ answer_of (balance_checks d.now.start tx.now) }
+    ensures { IsAnswered (first_among (balance_checks d.now.start tx.now)) result }
 {
-    let spent = lovelace_spent(d.start(), tx.inputs.as_slice());
-    balance_of_spent(d, tx, spent)
+    let spent = spent_by(d.start(), tx.inputs.as_slice());
+    balance_of_spent(alloc, d, tx, spent)
 }
 
-/// The same, by what the inputs of the transaction hold, in lovelace, as `check_spent` told it. It looks up no input. (UTXO of the formal specification, the preservation of value)
-pub fn balance_of_spent(d: &Draft, tx: &Tx, spent: u128) -> Result<(), Rule>
+/// The same, by what the inputs of the transaction hold, as `check_spent` told it. It looks up no input, but where there are assets. (UTXO of the formal specification, the preservation of value)
+pub fn balance_of_spent(alloc: Global, d: &Draft, tx: &Tx, spent: Spent) -> Result<(), TxFault>
     requires within { is_within_limits tx.now ≡ true }
     requires refunds { d.now.refunds ≡ sum_at sink hand (flows_of_certs d.now.start tx.now) }
     requires deposits { d.now.deposits ≡ sum_at source hand (flows_of_certs d.now.start tx.now) }
     requires spent { IsSpent d.now.start tx.now.inputs spent }
-    ensures { result ≡ answer_of (balance_checks d.now.start tx.now) }
+    ensures { IsAnswered (first_among (balance_checks d.now.start tx.now)) result }
+{
+    as_fault(balance_of_lovelace(d, tx, spent.lovelace))?;
+    if moves_assets(tx, spent) {
+        check_assets(alloc, d.start(), tx)
+    } else {
+        Ok(())
+    }
+}
+
+/// Whether as much lovelace is taken as is given, where the inputs hold so much.
+fn balance_of_lovelace(d: &Draft, tx: &Tx, spent: u128) -> Result<(), Rule>
+    requires within { is_within_limits tx.now ≡ true }
+    requires refunds { d.now.refunds ≡ sum_at sink hand (flows_of_certs d.now.start tx.now) }
+    requires deposits { d.now.deposits ≡ sum_at source hand (flows_of_certs d.now.start tx.now) }
+    requires sum { spent ≡ sum_by (lovelace_at d.now.start) tx.now.inputs }
+    requires fits { spent ≤ length tx.now.inputs * u64.MAX }
+    ensures { result ≡ answer_of (lovelace_checks d.now.start tx.now) }
 {
     let (refunds, deposits) = d.moved();
     let consumed = spent + lovelace_withdrawn(tx.withdrawals.as_slice()) + refunds;

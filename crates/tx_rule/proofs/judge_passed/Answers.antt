@@ -3,14 +3,15 @@ use Rattle.std.specs.Prelude.{⊤}
 use Rattle.tx_records.specs.declared.reply.TxFault.{TxFault}
 use Rattle.ledger_model.specs.Broken.{body_checks}
 use Rattle.ledger_model.specs.Changes.{refreshed, withdrawn}
-use Rattle.ledger_model.specs.Checks.{answer_of, first_among}
+use Rattle.ledger_model.specs.Checks.{first_among}
 use Rattle.ledger_model.specs.Draft.{draft_after}
 use Rattle.ledger_model.specs.Ledger.{Ledger}
 use Rattle.live_ledger.specs.Drafts.{Drafted}
-use Rattle.rule_checks.specs.Answered.{IsAnswered, as_fault}
+use Rattle.rule_checks.specs.Answered.{IsAnswered}
 use Rattle.tx_rule.specs.Drafted.{drafted_checks}
-use Rattle.tx_rule.proofs.Certified.{checks_from, faulted}
-use Rattle.tx_rule.proofs.Judged.{answered, answered_later, body_groups}
+use Rattle.rule_checks.proofs.Faults.{answered_later, faulted}
+use Rattle.tx_rule.proofs.Certified.{checks_from}
+use Rattle.tx_rule.proofs.Judged.{body_groups}
 use Rattle.tx_rule.proofs.judge_passed.Goals as goal
 
 pub returns-in_err-withdraw-clause-rule : goal.returns-in_err-withdraw-clause-rule
@@ -42,8 +43,7 @@ returns-clause-rule c =
     let tx = c.args.tx.now in
     let begun = c.in_ok-refresh.ensures.start ∙ c.in_ok-withdraw.ensures.start in
     let start = c.in_ok-certify.ensures.start ∙ begun in
-    let drafted = c.as_fault.ensures ∙ ap as_fault (c.check_drafted.ensures ∙ ap (λ (x : Ledger). answer_of (drafted_checks x tx)) start) in
+    let drafted = subst (λ (x : Ledger). IsAnswered (first_among (drafted_checks x tx)) c.check_drafted.result) start c.check_drafted.ensures in
     let certs = subst (λ (x : Ledger). first_among (checks_from x tx 0) ≡ None) begun c.in_ok-certify.ensures.rule in
     answered_later _ _ _ _ (body_groups l tx) c.in_ok-withdraw.ensures.rule
-    (answered_later _ _ _ _ refl certs
-    (subst (λ (r : Result ⊤ TxFault). IsAnswered (first_among (drafted_checks l tx)) r) (sym drafted) (answered (first_among (drafted_checks l tx)))))
+    (answered_later _ _ _ _ refl certs drafted)

@@ -1,49 +1,32 @@
-use Rattle.std.proofs.Common.{◌≡◌, ℕ, Result, Err, ap, ◌∙◌, rules}
-use Rattle.rule_checks.proofs.Groups.{now, later}
-use Rattle.tx_records.specs.declared.reply.Rule.{Rule}
-use Rattle.utxo_rules.specs.Spent.{without_number}
-use Rattle.utxo_rules.proofs.Groups.{utxo_answer}
+use Rattle.std.proofs.Common.{◌≡◌, Result, Ok, Err, refl, sym, subst, rules}
+use Rattle.tx_records.specs.declared.reply.TxFault.{TxFault}
+use Rattle.tx_records.specs.declared.reply.TxFault.TheVariants.{Refused}
+use Rattle.ledger_model.specs.Checks.{first_among}
+use Rattle.ledger_model.specs.UtxoRules.{collateral_assets_checks, utxo_checks}
+use Rattle.rule_checks.proofs.Faults.{answered_later, faulted, told}
+use Rattle.rule_checks.specs.Answered.{IsAnswered}
+use Rattle.utxo_rules.specs.declared.holdings.Spent.{Spent}
+use Rattle.utxo_rules.specs.Plain.{plain_checks}
+use Rattle.utxo_rules.specs.Spent.{without_value}
+use Rattle.utxo_rules.proofs.Groups.{all_groups}
 use Rattle.utxo_rules.proofs.check_spent.Goals as goal
 
-pub returns-in_err-check_id-clause-rule : goal.returns-in_err-check_id-clause-rule
-returns-in_err-check_id-clause-rule c =
-    let is : c.from_residual.result ≡ Err c.in_err-check_id.field-0.0 = search rules in
-    ap (λ (r : Result ℕ Rule). without_number r) is ∙ utxo_answer c.args.s.now.ledger c.args.tx.now _ (now _ _ _ c.in_err-check_id.ensures)
+pub returns-in_err-check_collateral_assets-in-Ok-clause-rule : goal.returns-in_err-check_collateral_assets-in-Ok-clause-rule
+returns-in_err-check_collateral_assets-in-Ok-clause-rule c =
+    let l = c.args.s.now.ledger in
+    let tx = c.args.tx.now in
+    let is : c.from_residual.result ≡ Err c.in_err-check_collateral_assets-in-Ok.field-0.0 = search rules in
+    subst (λ (r : Result Spent TxFault). IsAnswered (first_among (utxo_checks l tx)) (without_value r)) (sym is)
+    (answered_later (first_among (plain_checks l tx)) (first_among (collateral_assets_checks l tx)) (first_among (utxo_checks l tx)) (Err c.in_err-check_collateral_assets-in-Ok.field-0.0) (all_groups l tx) (told (plain_checks l tx) (Ok tt) (Ok tt) c.in-Ok.ensures.rule refl) c.in_err-check_collateral_assets-in-Ok.ensures)
 
-pub returns-in_err-spent-clause-rule : goal.returns-in_err-spent-clause-rule
-returns-in_err-spent-clause-rule c =
-    let is : c.from_residual-in_err-spent.result ≡ Err c.in_err-spent.field-0.0 = search rules in
-    ap (λ (r : Result ℕ Rule). without_number r) is ∙ utxo_answer c.args.s.now.ledger c.args.tx.now _ (later _ _ _ c.in_ok-check_id.ensures (now _ _ _ c.in_err-spent.ensures.rule))
+pub returns-in_ok-check_collateral_assets-in-Ok-clause-rule : goal.returns-in_ok-check_collateral_assets-in-Ok-clause-rule
+returns-in_ok-check_collateral_assets-in-Ok-clause-rule c =
+    let l = c.args.s.now.ledger in
+    let tx = c.args.tx.now in
+    answered_later (first_among (plain_checks l tx)) (first_among (collateral_assets_checks l tx)) (first_among (utxo_checks l tx)) (Ok tt) (all_groups l tx) (told (plain_checks l tx) (Ok tt) (Ok tt) c.in-Ok.ensures.rule refl) c.in_ok-check_collateral_assets-in-Ok.ensures
 
-pub returns-in_err-check_fee-clause-rule : goal.returns-in_err-check_fee-clause-rule
-returns-in_err-check_fee-clause-rule c =
-    let is : c.from_residual-in_err-check_fee.result ≡ Err c.in_err-check_fee.field-0.0 = search rules in
-    ap (λ (r : Result ℕ Rule). without_number r) is ∙ utxo_answer c.args.s.now.ledger c.args.tx.now _ (later _ _ _ c.in_ok-check_id.ensures (later _ _ _ c.in_ok-spent.ensures.rule (now _ _ _ c.in_err-check_fee.ensures)))
-
-pub returns-in_err-check_outputs-clause-rule : goal.returns-in_err-check_outputs-clause-rule
-returns-in_err-check_outputs-clause-rule c =
-    let is : c.from_residual-in_err-check_outputs.result ≡ Err c.in_err-check_outputs.field-0.0 = search rules in
-    ap (λ (r : Result ℕ Rule). without_number r) is ∙ utxo_answer c.args.s.now.ledger c.args.tx.now _ (later _ _ _ c.in_ok-check_id.ensures (later _ _ _ c.in_ok-spent.ensures.rule (later _ _ _ c.in_ok-check_fee.ensures (now _ _ _ c.in_err-check_outputs.ensures))))
-
-pub returns-in_err-check_collateral_list-clause-rule : goal.returns-in_err-check_collateral_list-clause-rule
-returns-in_err-check_collateral_list-clause-rule c =
-    let is : c.from_residual-in_err-check_collateral_list.result ≡ Err c.in_err-check_collateral_list.field-0.0 = search rules in
-    ap (λ (r : Result ℕ Rule). without_number r) is ∙ utxo_answer c.args.s.now.ledger c.args.tx.now _ (later _ _ _ c.in_ok-check_id.ensures (later _ _ _ c.in_ok-spent.ensures.rule (later _ _ _ c.in_ok-check_fee.ensures (later _ _ _ c.in_ok-check_outputs.ensures (now _ _ _ c.in_err-check_collateral_list.ensures)))))
-
-pub returns-in_err-check_collateral-clause-rule : goal.returns-in_err-check_collateral-clause-rule
-returns-in_err-check_collateral-clause-rule c =
-    let is : c.from_residual-in_err-check_collateral.result ≡ Err c.in_err-check_collateral.field-0.0 = search rules in
-    ap (λ (r : Result ℕ Rule). without_number r) is ∙ utxo_answer c.args.s.now.ledger c.args.tx.now _ (later _ _ _ c.in_ok-check_id.ensures (later _ _ _ c.in_ok-spent.ensures.rule (later _ _ _ c.in_ok-check_fee.ensures (later _ _ _ c.in_ok-check_outputs.ensures (later _ _ _ c.in_ok-check_collateral_list.ensures (now _ _ _ c.in_err-check_collateral.ensures))))))
-
-pub returns-in_err-check_collateral_sum-clause-rule : goal.returns-in_err-check_collateral_sum-clause-rule
-returns-in_err-check_collateral_sum-clause-rule c =
-    let is : c.from_residual-in_err-check_collateral_sum.result ≡ Err c.in_err-check_collateral_sum.field-0.0 = search rules in
-    ap (λ (r : Result ℕ Rule). without_number r) is ∙ utxo_answer c.args.s.now.ledger c.args.tx.now _ (later _ _ _ c.in_ok-check_id.ensures (later _ _ _ c.in_ok-spent.ensures.rule (later _ _ _ c.in_ok-check_fee.ensures (later _ _ _ c.in_ok-check_outputs.ensures (later _ _ _ c.in_ok-check_collateral_list.ensures (later _ _ _ c.in_ok-check_collateral.ensures (now _ _ _ c.in_err-check_collateral_sum.ensures)))))))
-
-pub returns-in_err-check_treasury-clause-rule : goal.returns-in_err-check_treasury-clause-rule
-returns-in_err-check_treasury-clause-rule c =
-    let is : c.from_residual-in_err-check_treasury.result ≡ Err c.in_err-check_treasury.field-0.0 = search rules in
-    ap (λ (r : Result ℕ Rule). without_number r) is ∙ utxo_answer c.args.s.now.ledger c.args.tx.now _ (later _ _ _ c.in_ok-check_id.ensures (later _ _ _ c.in_ok-spent.ensures.rule (later _ _ _ c.in_ok-check_fee.ensures (later _ _ _ c.in_ok-check_outputs.ensures (later _ _ _ c.in_ok-check_collateral_list.ensures (later _ _ _ c.in_ok-check_collateral.ensures (later _ _ _ c.in_ok-check_collateral_sum.ensures c.in_err-check_treasury.ensures)))))))
-
-pub returns-clause-rule : goal.returns-clause-rule
-returns-clause-rule c = utxo_answer c.args.s.now.ledger c.args.tx.now _ (later _ _ _ c.in_ok-check_id.ensures (later _ _ _ c.in_ok-spent.ensures.rule (later _ _ _ c.in_ok-check_fee.ensures (later _ _ _ c.in_ok-check_outputs.ensures (later _ _ _ c.in_ok-check_collateral_list.ensures (later _ _ _ c.in_ok-check_collateral.ensures (later _ _ _ c.in_ok-check_collateral_sum.ensures c.in_ok-check_treasury.ensures)))))))
+pub returns-in-Err-clause-rule : goal.returns-in-Err-clause-rule
+returns-in-Err-clause-rule c =
+    let l = c.args.s.now.ledger in
+    let tx = c.args.tx.now in
+    faulted (first_among (plain_checks l tx)) (first_among (collateral_assets_checks l tx)) (first_among (utxo_checks l tx)) (Refused c.in-Err.rule) (all_groups l tx) (told (plain_checks l tx) (Err c.in-Err.rule) (Err (Refused c.in-Err.rule)) c.in-Err.ensures.rule refl)

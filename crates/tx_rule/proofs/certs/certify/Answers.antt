@@ -9,7 +9,8 @@ use Rattle.ledger_model.specs.Checks.{at_place, first_among}
 use Rattle.ledger_model.specs.Draft.{draft_after}
 use Rattle.ledger_model.specs.Flows.{End, flows_of_cert, hand, sink, source, sum_at}
 use Rattle.rule_checks.specs.Answered.{IsAnswered}
-use Rattle.tx_rule.proofs.Certified.{checks_from, faulted, next_checks, next_draft, next_flows, next_passed}
+use Rattle.rule_checks.proofs.Faults.{faulted}
+use Rattle.tx_rule.proofs.Certified.{checks_from, next_checks, next_draft, next_flows, next_passed}
 use Rattle.tx_rule.proofs.certs.certify.Goals as goal
 
 pub loop-place-preserved : goal.loop-place-preserved
