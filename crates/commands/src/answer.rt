@@ -131,6 +131,7 @@ fn judge_print(ledger: Boxed<LedgerState>, what: What) -> (Boxed<LedgerState>, O
             (ledger, Outcome::Pots(PotsWord::Pots, pots))
         }
         What::State => (ledger, Outcome::State),
+        What::Assets => (ledger, Outcome::Assets),
     }
 }
 

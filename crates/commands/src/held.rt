@@ -4,7 +4,7 @@ use ledger_state::LedgerState;
 use listed::Boxed;
 use replay_loop::RunState;
 use report::{LineTaker, put_one};
-use state_print::put_state;
+use state_print::{put_assets, put_state};
 use tx_records::Pots;
 
 /// The ledger that a run holds between two records, in memory of its own: to move it moves a pointer.
@@ -39,5 +39,14 @@ impl RunState for Held {
         line: u64,
     ) -> Result<(), SinkFault> {
         put_state(to, text, line, &view_of(self.ledger.get()))
+    }
+
+    fn put_assets<T: LineTaker>(
+        &self,
+        to: &mut T,
+        text: &mut Vec<u8>,
+        line: u64,
+    ) -> Result<(), SinkFault> {
+        put_assets(to, text, line, self.ledger.get().stake().outputs())
     }
 }

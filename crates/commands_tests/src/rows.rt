@@ -12,8 +12,9 @@ use std::thread::Threads;
 use tx_records::{FieldName, GenesisRule};
 
 /// Shapes of streams, how each ends, and what was written: that of the worked row; line ends, blank lines, a float that
-/// nobody names, two equal names, of which the later counts, a block, and prints; streams that make no ledger, each with its cause.
-fn rows() -> [(&'static str, Status, &'static str); 13] {
+/// nobody names, two equal names, of which the later counts, a block, assets that are minted and burned, and prints; streams
+/// that make no ledger, each with its cause.
+fn rows() -> [(&'static str, Status, &'static str); 14] {
     [
         (ROW, Status::Done, ROW_TEXT),
         (
@@ -35,6 +36,11 @@ fn rows() -> [(&'static str, Status, &'static str); 13] {
             "G\n5\np\n",
             Status::Done,
             "1 genesis outputs 200 deposits 0 rewards 0 fees 0 donations 0 treasury 100 reserves 700 supply 1000\n2 accepted\n3 pots outputs 180 deposits 0 rewards 0 fees 15 donations 5 treasury 100 reserves 700 supply 1000\n",
+        ),
+        (
+            "G\nn\nl\nk\na\n",
+            Status::Done,
+            "1 genesis outputs 200 deposits 0 rewards 0 fees 0 donations 0 treasury 100 reserves 700 supply 1000\n2 accepted\n3 refused 111 AssetNotBalanced at 0 consumed 7 produced 5\n4 accepted\n5 asset-total 00000000000000000000000000000000000000000000000000000005 - 5\n",
         ),
         (
             "g\nb\n",

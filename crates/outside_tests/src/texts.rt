@@ -71,6 +71,15 @@ fn lines_of_replies(rt: HostRuntime) -> Result<(), Fail> {
             "2 refused 110 NotBalanced consumed 20 produced 21\n",
         ),
         (
+            3,
+            rules::ASSET_NOT_BALANCED,
+            None,
+            Some(0),
+            7,
+            5,
+            "3 refused 111 AssetNotBalanced at 0 consumed 7 produced 5\n",
+        ),
+        (
             u64::MAX,
             rules::NOT_BALANCED,
             None,
@@ -94,7 +103,7 @@ fn lines_of_replies(rt: HostRuntime) -> Result<(), Fail> {
 }
 
 /// What follows the number of each rule, where it is broken at place 3 and keeps 7, or 7 and 8.
-static TEXTS: [(u16, &'static str); 62] = [
+static TEXTS: [(u16, &'static str); 64] = [
     (2, " TooLong at 3"),
     (3, " GenesisAgain at 3"),
     (10, " SlotNotLater at 3 last 7"),
@@ -121,6 +130,7 @@ static TEXTS: [(u16, &'static str); 62] = [
     (43, " CollateralNotKey at 3"),
     (44, " CollateralTooSmall at 3 have 7"),
     (45, " TreasuryValueWrong at 3 is 7"),
+    (46, " CollateralAssetsWrong at 3"),
     (50, " WithdrawalWrongNetwork at 3"),
     (51, " WithdrawalNoAccount at 3"),
     (52, " WithdrawalNotDelegated at 3"),
@@ -157,6 +167,7 @@ static TEXTS: [(u16, &'static str); 62] = [
     (103, " VotingExpired at 3"),
     (104, " VoterNotSeated at 3"),
     (110, " NotBalanced at 3 consumed 7 produced 8"),
+    (111, " AssetNotBalanced at 3 consumed 7 produced 8"),
 ];
 
 /// Each rule, and each number below 200 that is none, which prints alone.

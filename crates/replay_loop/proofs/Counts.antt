@@ -43,6 +43,7 @@ record_by c w (records.Rewards u) = rewards_by (step w (records.Rewards u)).1 c 
 record_by c w (records.Tx tx) = tx_by (step w (records.Tx tx)).1 c tx w
 record_by c w (records.Print prints.Pots) = refl
 record_by c w (records.Print prints.State) = refl
+record_by c w (records.Print prints.Assets) = refl
 
 -- what was read
 pub counted_is : (c : LoadCounts) (w : World) (r : Reading) → outcome_counted c (outcome_of w r) ≡ reading_counted c w r

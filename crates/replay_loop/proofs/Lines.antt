@@ -44,6 +44,7 @@ record_by w (records.Rewards u) = rewards_by (step w (records.Rewards u)).1 u w 
 record_by w (records.Tx tx) = tx_by (step w (records.Tx tx)).1 tx w (step w (records.Tx tx)).0
 record_by w (records.Print prints.Pots) = refl
 record_by w (records.Print prints.State) = refl
+record_by w (records.Print prints.Assets) = refl
 
 -- ---- what was read
 

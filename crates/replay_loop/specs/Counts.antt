@@ -4,7 +4,7 @@ use Rattle.load_summary.specs.Counting.{block_counted, crossing_counted, other_c
 use Rattle.load_summary.specs.declared.counts.LoadCounts.{LoadCounts}
 use Rattle.run_model.specs.World.{World}
 use Rattle.replay_loop.specs.declared.outcome.Outcome.{Outcome}
-use Rattle.replay_loop.specs.declared.outcome.Outcome.TheVariants.{Answered, Pots, Block, Crossed, State}
+use Rattle.replay_loop.specs.declared.outcome.Outcome.TheVariants.{Answered, Pots, Block, Crossed, State, Assets}
 
 -- the counts with it
 abbrev pub outcome_counted : LoadCounts → Outcome → LoadCounts
@@ -13,6 +13,7 @@ outcome_counted c (Pots word pots) = other_counted c
 outcome_counted c Block = block_counted c
 outcome_counted c (Crossed report pots) = crossing_counted c report.tallies
 outcome_counted c State = other_counted c
+outcome_counted c Assets = other_counted c
 
 -- the same of who hears the answers of a run, whatever the line and the World after the record
 abbrev pub with_count : LoadCounts → ℕ → World → Outcome → LoadCounts

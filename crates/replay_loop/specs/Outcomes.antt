@@ -11,7 +11,7 @@ use Rattle.run_model.specs.World.{World}
 use Rattle.text_model.specs.EpochLines.{epoch_lines}
 use Rattle.text_model.specs.Replies.{block_words, pots_words, reply_words}
 use Rattle.text_model.specs.Runs.{line_rule, text_of_lines}
-use Rattle.text_model.specs.StateLines.{state_lines}
+use Rattle.text_model.specs.StateLines.{asset_lines, state_lines}
 use Rattle.text_model.specs.Words.{Text}
 use Rattle.tx_records.specs.declared.genesis.Genesis.{Genesis}
 use Rattle.tx_records.specs.declared.record.Reading.{Reading}
@@ -24,7 +24,7 @@ use Rattle.tx_records.specs.declared.reply.Reply.{Reply}
 use Rattle.tx_records.specs.declared.reply.Reply.TheVariants.{Refused}
 use Rattle.tx_records.specs.declared.rules.TheConstants.{MALFORMED, TOO_LONG}
 use Rattle.replay_loop.specs.declared.outcome.Outcome.{Outcome}
-use Rattle.replay_loop.specs.declared.outcome.Outcome.TheVariants.{Answered, Pots, Block, Crossed, State}
+use Rattle.replay_loop.specs.declared.outcome.Outcome.TheVariants.{Answered, Pots, Block, Crossed, State, Assets}
 
 -- ---- what is answered
 
@@ -41,6 +41,7 @@ block_outcome false w = Block
 abbrev pub print_outcome : What → World → Outcome
 print_outcome prints.Pots w = Pots pots_words_of.Pots (pots_of w.ledger)
 print_outcome prints.State w = State
+print_outcome prints.Assets w = Assets
 
 -- an accepted record, over the World before it
 abbrev pub accepted_outcome : Record → Reply → World → Outcome
@@ -68,6 +69,7 @@ outcome_lines w (Pots word pots) = pots_words (pots_word_text word) pots ∷ []
 outcome_lines w Block = block_words w ∷ []
 outcome_lines w (Crossed report pots) = epoch_lines report pots ++ block_words w ∷ []
 outcome_lines w State = state_lines w
+outcome_lines w Assets = asset_lines w
 
 -- their bytes, each line with the number of the record's line
 abbrev pub outcome_text : ℕ → World → Outcome → Text

@@ -1,17 +1,20 @@
+ghost use Rattle.run_model.specs.Laws.{AssetsChangeByMint};
 ghost use Rattle.replay_loop.specs.Laws.{LinesAreWithin, LinesReach, RefusedChangesNothing, SummariesAreOne, SupplyStays, TextsAreOne};
 
 use record_read::lines_read_within_limits;
-use run_laws::supply_stays;
+use run_laws::{assets_change_by_mint, supply_stays};
 
 /// What holds of every run. It does nothing.
 pub fn laws()
     ensures within { LinesAreWithin }
     ensures reached { LinesReach }
     ensures supply { SupplyStays }
+    ensures assets { AssetsChangeByMint }
     ensures refused { RefusedChangesNothing }
     ensures one_text { TextsAreOne }
     ensures one_summary { SummariesAreOne }
 {
     lines_read_within_limits();
     supply_stays();
+    assets_change_by_mint();
 }

@@ -28,6 +28,8 @@ pub enum Outcome {
     Crossed(EpochReport, Pots),
     /// A print of the state: all its lines.
     State,
+    /// A print of the native assets: a line an asset.
+    Assets,
 }
 
 /// Hands over the line of a reply.
@@ -78,6 +80,7 @@ impl Outcome {
             Outcome::Block => state.put_block(to, text, line),
             Outcome::Crossed(report, pots) => put_crossing(to, text, line, state, report, pots),
             Outcome::State => state.put_state(to, text, line),
+            Outcome::Assets => state.put_assets(to, text, line),
         }
     }
 
@@ -103,7 +106,7 @@ impl Outcome {
     {
         match self {
             Outcome::Answered(reply) => counts.count_reply(reply),
-            Outcome::Pots(_, _) | Outcome::State => counts.count_other(),
+            Outcome::Pots(_, _) | Outcome::State | Outcome::Assets => counts.count_other(),
             Outcome::Block => counts.count_block(),
             Outcome::Crossed(report, _) => counts.count_crossing(report),
         }

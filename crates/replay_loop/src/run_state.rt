@@ -9,7 +9,7 @@ pub trait RunState: Sized {
     ghost use Rattle.report.specs.Taking.{HasPut};
     ghost use Rattle.run_model.specs.World.{World};
     ghost use Rattle.text_model.specs.Replies.{block_words};
-    ghost use Rattle.text_model.specs.StateLines.{state_lines};
+    ghost use Rattle.text_model.specs.StateLines.{asset_lines, state_lines};
 
     // the whole state of the ledger
     ghost world: { Self → World };
@@ -36,5 +36,15 @@ pub trait RunState: Sized {
         line: u64,
     ) -> Result<(), SinkFault>
         ensures { HasPut T.with_line T.IsPart line (T.taken to.old) (state_lines (world self.now)) (T.taken to.new)
+            (T.faults to.old) (T.faults to.new) result };
+
+    /// Hands over the lines of a print of the native assets that its unspent outputs hold. (Own)
+    fn put_assets<T: LineTaker>(
+        &self,
+        to: &mut T,
+        text: &mut Vec<u8>,
+        line: u64,
+    ) -> Result<(), SinkFault>
+        ensures { HasPut T.with_line T.IsPart line (T.taken to.old) (asset_lines (world self.now)) (T.taken to.new)
             (T.faults to.old) (T.faults to.new) result };
 }

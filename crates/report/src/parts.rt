@@ -5,9 +5,9 @@ ghost use Rattle.report.specs.WordTexts.{word_text};
 use crate::words::{end_line, push_digits};
 use coin_frac::NoMemory;
 use gov_ids::{
-    Account, ActionId, Address, Credential, Drep, OutRef, PoolId, Voter, push_account,
-    push_action_id, push_address, push_credential, push_drep, push_hash, push_pool, push_ref,
-    push_voter,
+    Account, ActionId, Address, AssetName, Credential, Drep, OutRef, PoolId, Voter, push_account,
+    push_action_id, push_address, push_asset_name, push_credential, push_drep, push_hash,
+    push_pool, push_ref, push_voter,
 };
 
 /// A word of a line, as what it is printed from. (Own)
@@ -17,6 +17,8 @@ pub enum Word<'a> {
     Text(&'a str),
     /// In decimal digits.
     Number(u64),
+    /// A sum of numbers, in decimal digits.
+    Sum(u128),
     /// A count of a total, or a fraction as it was written.
     Fraction(u64, u64),
     /// Major, then minor.
@@ -34,6 +36,7 @@ pub enum Word<'a> {
     Pool(&'a PoolId),
     Drep(&'a Drep),
     Voter(&'a Voter),
+    AssetName(&'a AssetName),
 }
 
 /// Adds bytes.
@@ -69,6 +72,7 @@ fn push_text(out: &mut Vec<u8>, word: &Word<'_>) -> Result<(), NoMemory>
     match word {
         Word::Text(text) => push_bytes(out, text.as_bytes()),
         Word::Number(n) => push_digits(out, *n),
+        Word::Sum(n) => push_digits(out, *n),
         Word::Fraction(num, den) => push_fraction(out, *num, *den),
         Word::Version(major, minor) => push_version(out, *major, *minor),
         Word::Hash(hash) => push_hash(out, *hash),
@@ -81,6 +85,7 @@ fn push_text(out: &mut Vec<u8>, word: &Word<'_>) -> Result<(), NoMemory>
         Word::Pool(pool) => push_pool(out, pool),
         Word::Drep(drep) => push_drep(out, drep),
         Word::Voter(voter) => push_voter(out, voter),
+        Word::AssetName(name) => push_asset_name(out, name),
     }
 }
 

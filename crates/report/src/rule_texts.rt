@@ -20,7 +20,7 @@ macro_rules! rule {
 }
 
 /// One line a rule.
-static RULE_TEXTS: [RuleText; 63] = [
+static RULE_TEXTS: [RuleText; 65] = [
     rule!(MALFORMED, "Malformed"),
     rule!(TOO_LONG, "TooLong"),
     rule!(GENESIS_AGAIN, "GenesisAgain"),
@@ -48,6 +48,7 @@ static RULE_TEXTS: [RuleText; 63] = [
     rule!(COLLATERAL_NOT_KEY, "CollateralNotKey"),
     rule!(COLLATERAL_TOO_SMALL, "CollateralTooSmall", "have"),
     rule!(TREASURY_VALUE_WRONG, "TreasuryValueWrong", "is"),
+    rule!(COLLATERAL_ASSETS_WRONG, "CollateralAssetsWrong"),
     rule!(WITHDRAWAL_WRONG_NETWORK, "WithdrawalWrongNetwork"),
     rule!(WITHDRAWAL_NO_ACCOUNT, "WithdrawalNoAccount"),
     rule!(WITHDRAWAL_NOT_DELEGATED, "WithdrawalNotDelegated"),
@@ -84,6 +85,12 @@ static RULE_TEXTS: [RuleText; 63] = [
     rule!(VOTING_EXPIRED, "VotingExpired"),
     rule!(VOTER_NOT_SEATED, "VoterNotSeated"),
     rule!(NOT_BALANCED, "NotBalanced", "consumed", "produced"),
+    rule!(
+        ASSET_NOT_BALANCED,
+        "AssetNotBalanced",
+        "consumed",
+        "produced"
+    ),
 ];
 
 /// The table, which is that of the definitions.

@@ -1,13 +1,13 @@
-//! The lines of the books of a state: DReps, pools, accounts and outputs.
+//! The lines of the books of a state: DReps, pools, accounts, and outputs with their assets.
 ghost use Rattle.std.specs.Prelude.{◌≡◌, ◌++◌, Some, OnOk};
 ghost use Rattle.gov_ids.specs.Spelling.{drep_text, pool_text};
-ghost use Rattle.text_model.specs.StateLines.{account_words, drep_words, key_words, next_words, output_words, pool_words, registration_words, retires_text, terms_words};
+ghost use Rattle.text_model.specs.StateLines.{account_words, asset_words, drep_words, key_words, next_words, output_words, pool_words, registration_words, retires_text, terms_words};
 ghost use Rattle.text_model.specs.Words.{line_of, or_none, spaced};
 ghost use Rattle.report.specs.WordTexts.{word_text};
 
 use book_records::{DrepState, Entry, Output, Pool, PoolTerms, Registered};
 use coin_frac::NoMemory;
-use gov_ids::{Credential, Drep, OutRef, PoolId};
+use gov_ids::{AssetId, Credential, Drep, OutRef, PoolId};
 use report::{Word, end_line, push_digits, push_line, push_parts};
 
 /// A pool, or none.
@@ -223,6 +223,22 @@ pub fn push_output_line<'a>(
             Word::Output(reference),
             Word::Address(&output.address),
             Word::Number(output.lovelace),
+        ],
+    )
+}
+
+/// Appends the line of an asset of an output. After want of memory the buffer may hold anything. (Own)
+pub fn push_asset_line(out: &mut Vec<u8>, line: u64, held: &(AssetId, u64)) -> Result<(), NoMemory>
+    ensures { OnOk result (out.new.items ≡ out.old.items ++ line_of line (asset_words held.now)) }
+{
+    push_line(
+        out,
+        line,
+        &[
+            Word::Text("asset"),
+            Word::Script(&held.0.policy),
+            Word::AssetName(&held.0.name),
+            Word::Number(held.1),
         ],
     )
 }

@@ -8,7 +8,8 @@ use crate::actions::{
     push_pending_reward_line, push_proposal_line, push_snapshot_line, push_vote_line,
 };
 use crate::books::{
-    push_account_line, push_drep_line, push_next_line, push_output_line, push_pool_line,
+    push_account_line, push_asset_line, push_drep_line, push_next_line, push_output_line,
+    push_pool_line,
 };
 use crate::states::{
     push_committee_line, push_constitution_line, push_enacted_line, push_hot_line,
@@ -17,7 +18,7 @@ use crate::states::{
 use book_records::{DrepState, Entry, Output, Pool, PoolTerms};
 use coin_frac::NoMemory;
 use gov_actions::{Committee, HotState, LastIds, Vote};
-use gov_ids::{ActionId, Credential, OutRef, PoolId, Voter};
+use gov_ids::{ActionId, AssetId, Credential, OutRef, PoolId, Voter};
 use report::Printed;
 use tx_records::Rewards;
 
@@ -44,8 +45,10 @@ pub enum StateLine<'a> {
     NextTerms(&'a PoolId, &'a PoolTerms),
     /// A credential that holds stake or is registered.
     Account(&'a Credential, &'a Entry),
-    /// An unspent output.
+    /// An unspent output, but for its assets.
     Output(&'a OutRef, &'a Output),
+    /// An asset of an output.
+    Asset(&'a (AssetId, u64)),
     /// A proposal, but for its votes.
     Proposal(Proposed<'a>),
     /// A vote on the action of an id.
@@ -82,6 +85,7 @@ fn push_state_line(out: &mut Vec<u8>, line: u64, shown: &StateLine<'_>) -> Resul
         StateLine::NextTerms(id, terms) => push_next_line(out, line, id, terms),
         StateLine::Account(credential, entry) => push_account_line(out, line, credential, entry),
         StateLine::Output(reference, output) => push_output_line(out, line, reference, output),
+        StateLine::Asset(held) => push_asset_line(out, line, held),
         StateLine::Proposal(proposed) => push_proposal_line(out, line, proposed),
         StateLine::Vote(id, cast) => push_vote_line(out, line, id, cast),
         StateLine::Snapshot(name, stake) => push_snapshot_line(out, line, *name, stake),

@@ -2,16 +2,17 @@
 ghost use Rattle.std.specs.Prelude.{◌++◌, flat_map, map, option_to_list};
 ghost use Rattle.report.specs.Taking.{HasPut};
 ghost use Rattle.state_print.specs.Views.{shown_of_view};
-ghost use Rattle.text_model.specs.StateLines.{account_words, book_lines, drep_words, next_words, output_words, pool_lines};
+ghost use Rattle.text_model.specs.StateLines.{account_words, book_lines, drep_words, next_words, pool_lines};
 
+use crate::outputs::put_outputs;
 use crate::proposals::put_proposals;
 use crate::view::StateView;
 use crate::walk::{Walked, put_walk};
-use book_records::{DrepState, Entry, Output, Pool, PoolTerms};
+use book_records::{DrepState, Entry, Pool, PoolTerms};
 use byte_lines::SinkFault;
 use cert_pool::PoolBook;
 use drep_book::DrepBook;
-use gov_ids::{Credential, OutRef, PoolId};
+use gov_ids::{Credential, PoolId};
 use report::{LineTaker, put_one};
 use stake_book::StakeBook;
 use state_lines::StateLine;
@@ -126,44 +127,6 @@ impl<'a> Walked for Entries<'a> {
     }
 }
 
-/// The unspent outputs.
-#[derive(Drop)]
-struct Outputs<'a> {
-    stake: &'a StakeBook,
-}
-
-impl<'a> Walked for Outputs<'a> {
-    ghost use Rattle.std.specs.Prelude.{[], ◌∷◌};
-    ghost use Rattle.gov_ids.specs.Orders.{outref_cmp};
-    ghost use Rattle.text_model.specs.StateLines.{output_words};
-    ghost use Rattle.view_map.specs.Walk.{entries_past};
-
-    type Key = OutRef;
-
-    type Held = Output;
-
-    ghost past = { λ p after. entries_past outref_cmp after p.stake.now.outputs.outputs };
-
-    ghost lines = { λ _ e. output_words e ∷ [] };
-
-    fn following(&self, after: Option<&OutRef>) -> Option<(OutRef, Output)> {
-        let outputs = self.stake.outputs();
-        // each reference stands once, in order
-        let _total = outputs.total();
-        outputs.next(after)
-    }
-
-    fn put_entry<T: LineTaker>(
-        &self,
-        to: &mut T,
-        text: &mut Vec<u8>,
-        line: u64,
-        entry: &(OutRef, Output),
-    ) -> Result<(), SinkFault> {
-        put_one(to, text, line, &StateLine::Output(&entry.0, &entry.1))
-    }
-}
-
 /// Hands over the lines of the DReps.
 fn put_dreps<T: LineTaker>(
     to: &mut T,
@@ -203,19 +166,6 @@ fn put_entries<T: LineTaker>(
     put_walk(to, text, line, &Entries { stake })
 }
 
-/// Hands over the lines of the unspent outputs.
-fn put_outputs<T: LineTaker>(
-    to: &mut T,
-    text: &mut Vec<u8>,
-    line: u64,
-    stake: &StakeBook,
-) -> Result<(), SinkFault>
-    ensures { HasPut T.with_line T.IsPart line (T.taken to.old) (map output_words stake.now.outputs.outputs)
-        (T.taken to.new) (T.faults to.old) (T.faults to.new) result }
-{
-    put_walk(to, text, line, &Outputs { stake })
-}
-
 /// Hands over the lines of what is registered.
 fn put_registered<T: LineTaker>(
     to: &mut T,
@@ -244,6 +194,6 @@ pub(crate) fn put_books<T: LineTaker>(
         (T.taken to.new) (T.faults to.old) (T.faults to.new) result }
 {
     put_registered(to, text, line, view)?;
-    put_outputs(to, text, line, view.stake)?;
+    put_outputs(to, text, line, view.stake.outputs())?;
     put_proposals(to, text, line, view.proposals)
 }

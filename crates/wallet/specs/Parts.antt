@@ -17,12 +17,13 @@ key hash = record { hash = hash; kind = Key }
 abbrev pub account : List ℕ → Account
 account hash = record { network = 1; cred = key hash }
 
--- an output of 65 bytes to a key on mainnet, without a stake part
+-- an output of 65 bytes to a key on mainnet, without a stake part and without native assets
 abbrev pub output : List ℕ → ℕ → TxOutput
 output to lovelace = record {
   address = record { network = 1; payment = key to; stake = None };
   lovelace = lovelace;
   bytes = 65;
+  assets = [];
 }
 
 -- a transaction of 330 bytes that spends one output and pays a fee, and does nothing else
@@ -40,6 +41,7 @@ spending id spent fee = record {
   until = None;
   collateral = [];
   collateral_return = None;
+  mint = [];
   treasury = None;
   donation = 0;
   withdrawals = [];

@@ -2,6 +2,7 @@
 ghost use Rattle.std.specs.Prelude.{◌≡◌, IfOk};
 ghost use Rattle.wallet.specs.Parts.{account, key, output, spending};
 
+use assets::{Assets, Mint};
 use coin_frac::NoMemory;
 use gov_ids::{Account, Address, CredKind, Credential, OutRef, TxId};
 use listed::Listed;
@@ -42,7 +43,7 @@ pub fn account(hash: [u8; 28]) -> Account
     }
 }
 
-/// An output of 65 bytes to a key on mainnet, without a stake part.
+/// An output of 65 bytes to a key on mainnet, without a stake part and without native assets.
 pub fn output(to: [u8; 28], lovelace: u64) -> TxOutput
     ensures { result ≡ output to lovelace }
 {
@@ -54,6 +55,7 @@ pub fn output(to: [u8; 28], lovelace: u64) -> TxOutput
         },
         lovelace,
         bytes: 65,
+        assets: Assets::none(),
     }
 }
 
@@ -77,6 +79,7 @@ pub fn spending(alloc: Global, id: TxId, spent: OutRef, fee: u64) -> Result<Tx, 
         until: None,
         collateral: OutRefs::new(alloc),
         collateral_return: None,
+        mint: Mint::none(),
         treasury: None,
         donation: 0,
         withdrawals: Listed::new(alloc),

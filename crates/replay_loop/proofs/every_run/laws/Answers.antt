@@ -19,3 +19,6 @@ returns-clause-one_text c = texts_are_one
 
 pub returns-clause-one_summary : goal.returns-clause-one_summary
 returns-clause-one_summary c = summaries_are_one
+
+pub returns-clause-assets : goal.returns-clause-assets
+returns-clause-assets c = c.assets_change_by_mint.ensures

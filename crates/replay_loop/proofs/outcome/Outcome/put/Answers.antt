@@ -18,3 +18,8 @@ pub returns-in-State : goal.returns-in-State
 returns-in-State g c =
     subst (λ (o : Outcome). HasPut g.T.LineTaker.with_line g.T.LineTaker.IsPart c.args.line (g.T.LineTaker.taken c.args.to.now) (outcome_lines (g.R.RunState.world c.args.state.now) o) (g.T.LineTaker.taken c.put_state.new.to) (g.T.LineTaker.faults c.args.to.now) (g.T.LineTaker.faults c.put_state.new.to) c.put_state.result)
     (sym c.in-State.is) c.put_state.ensures
+
+pub returns-in-Assets : goal.returns-in-Assets
+returns-in-Assets g c =
+    subst (λ (o : Outcome). HasPut g.T.LineTaker.with_line g.T.LineTaker.IsPart c.args.line (g.T.LineTaker.taken c.args.to.now) (outcome_lines (g.R.RunState.world c.args.state.now) o) (g.T.LineTaker.taken c.put_assets.new.to) (g.T.LineTaker.faults c.args.to.now) (g.T.LineTaker.faults c.put_assets.new.to) c.put_assets.result)
+    (sym c.in-Assets.is) c.put_assets.ensures
