@@ -6,6 +6,7 @@ certificate that does: its parts in the order of its lines."""
 
 import json
 import re
+from itertools import takewhile
 
 from made.written import (
     IMPORTS,
@@ -17,9 +18,11 @@ from made.written import (
     boolean,
     credential,
     drep,
+    entry_by,
     hash_of,
     imports,
     lines_of,
+    many,
     num,
     option,
     params,
@@ -266,9 +269,17 @@ class Checkpoint:
         epoch = behind(self.one("now"), "epoch")
         return f"(Some {record(('epoch', epoch), *numbers, ('rewards', listed([f'({credential(it[2])}, {it[3]})' for it in rewards])))})"
 
+    def outputs(self):
+        """Each with its assets, which stand behind it."""
+        for number, words in enumerate(self.lines):
+            if words[0] == "output":
+                _, at, to, amount = words
+                held = [*takewhile(lambda it: it[0] == "asset", self.lines[number + 1 :])]
+                entries = [[policy, "" if name == "-" else name, quantity] for _, policy, name, quantity in held]
+                yield f"({ref(at)}, {record(('address', address(to)), ('lovelace', amount), ('assets', many(entry_by(num))(entries)))})"
+
     def ledger(self):
         now, pots, first = self.one("now"), self.one("pots"), self.one("checkpoint")
-        outputs = [f"({ref(it[1])}, {record(('address', address(it[2])), ('lovelace', it[3]))})" for it in self.all_of("output")]
         accounts = [f"({credential(it[1])}, {registered(it)})" for it in self.all_of("account") if it[-1] != "unregistered"]
         dreps = [f"({credential(it[1])}, {record(('deposit', it[3]), ('expiry', it[5]))})" for it in self.all_of("drep")]
         return record(
@@ -278,7 +289,7 @@ class Checkpoint:
             *((name, behind(now, name)) for name in ("slot", "epoch", "dormant")),
             *((name, behind(pots, name)) for name in ("reserves", "fees", "donations")),
             ("state", f"{self.name}_state"),
-            ("outputs", listed(outputs)),
+            ("outputs", listed([*self.outputs()])),
             ("used", listed([tx_id(it[1]) for it in self.all_of("used")])),
             ("accounts", listed(accounts)),
             ("pools", self.pools()),

@@ -127,6 +127,38 @@ def voter(text):
     return f"(voter.{role.capitalize()} {(pool if role == 'pool' else credential)(name)})"
 
 
+# ---- assets
+
+
+def asset(policy, name):
+    return f"(asset {hash_of(policy.lower())} {f'({all_bytes(name.lower())})' if name else '[]'})"
+
+
+def moved(n):
+    return f"(pos {n})" if n > 0 else f"(negsuc {-n - 1})"
+
+
+def in_asset_order(entries):
+    """As a record has them after its reading, in order, whatever their order in the line."""
+    return sorted(entries, key=lambda it: (it[0].lower(), it[1].lower()))
+
+
+def entry_by(write):
+    def entry(e):
+        policy, name, quantity = e
+        return f"({asset(policy, name)}, {write(quantity)})"
+
+    return entry
+
+
+def assets(entries):
+    return many(entry_by(num))(in_asset_order(entries))
+
+
+def mint(entries):
+    return many(entry_by(moved))(in_asset_order(entries))
+
+
 # ---- parameters
 
 # how the parameters are written that are not one number
@@ -166,6 +198,10 @@ def genesis(g):
         known("committee", ("threshold", "members"), c)
         return record(("threshold", share(c["threshold"])), ("members", many(together(credential, num, option(credential)))(c["members"])))
 
+    def genesis_output(o):
+        """Its three entries, and its assets, which may be left out."""
+        return together(ref, address, num, assets)(o if len(o) == 4 else [*o, []])
+
     def genesis_pool(p):
         """Its six entries, and its key, which may be left out."""
         names = ("pool", "deposit", "cost", "pledge", "margin", "account", "key")
@@ -185,7 +221,7 @@ def genesis(g):
         "document": hash_of,
         "script": option(hash_of),
         "committee": option(committee),
-        "outputs": many(together(ref, address, num)),
+        "outputs": many(genesis_output),
         "accounts": many(together(credential, num, num, option(pool), option(drep))),
         "pools": many(genesis_pool),
         "dreps": many(together(credential, num, num)),
@@ -248,8 +284,10 @@ def vote(v):
 
 
 def output(o):
-    to, amount, size = o
-    return f"(paying {address(to)} {amount} {size})"
+    """Its three entries, and its assets, which may be left out."""
+    to, amount, size, *held = o
+    plain = f"{address(to)} {amount} {size}"
+    return f"(paying_with {plain} {assets(*held)})" if held and held[0] else f"(paying {plain})"
 
 
 # the fields of a transaction that `spend` of Base leaves empty, each with what stands there
@@ -263,6 +301,7 @@ TX_FIELDS = {
     "until": (option(num), None),
     "collateral": (many(ref), []),
     "collateralReturn": (option(output), None),
+    "mint": (mint, []),
     "treasury": (option(num), None),
     "donation": (num, 0),
     "withdrawals": (many(together(account, num)), []),
@@ -336,7 +375,7 @@ unfolding digits encode_with
 
 # what rows name, and the modules that have it; a module of variants is known by a word
 IMPORTS = {
-    "Rattle.std.specs.Prelude": "ℕ ◌≡◌ List [] ◌∷◌ Some None true false codes refl",
+    "Rattle.std.specs.Prelude": "ℕ ◌≡◌ List [] ◌∷◌ Some None true false pos negsuc codes refl",
     "Rattle.std.specs.Fmt": "digits",
     "Rattle.hex.specs.Hex": "encode_with",
     "Rattle.gov_actions.specs.declared.action.Action.TheVariants": "as actions",
@@ -352,8 +391,8 @@ IMPORTS = {
     "Rattle.tx_records.specs.declared.tx.Scripts.TheVariants": "as scripts",
     "Rattle.tx_records.specs.declared.record.Reading": "Reading",
     "Rattle.tx_records.specs.declared.record.Reading.TheVariants": "Read Malformed TooLong",
-    "Rattle.ledger_rows.proofs.Base": "h28 h31 h32 key script pool account_on address_with tx_id ref action share base_params "
-    "no_update spend paying proposing voting says_all rule_broken_by",
+    "Rattle.ledger_rows.proofs.Base": "h28 h31 h32 key script pool account_on address_with tx_id ref action asset share base_params "
+    "no_update spend paying paying_with proposing voting says_all rule_broken_by",
 }
 SIGNS = {"[]", "◌∷◌", "◌≡◌", "digits", "encode_with"}
 

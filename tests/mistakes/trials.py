@@ -7,6 +7,7 @@ be checked again, and what is refused is told by the names of the modules."""
 import re
 import shutil
 import subprocess
+from itertools import chain
 from pathlib import Path
 from typing import NamedTuple
 
@@ -205,7 +206,9 @@ class RowCopy:
         self.trial = folder / "crates/trial"
         crates = below(ROW_CRATES)
         inside = {*DEFINITIONS, *ROW_CRATES}.difference(WITH_TYPES)
-        needs = " ".join(it for it in crates["further_rows"] if it not in inside)
+        # what any of them names
+        named = chain(*(crates[it] for it in inside))
+        needs = " ".join(it for it in dict.fromkeys(named) if it not in inside)
         # a crate with types stands on others of the definitions, as they are
         low = {name: it for name, it in crates.items() if name not in ROW_CRATES}
         make_folder(folder, low, "out/rlib", f"trial: {needs}\n")

@@ -6,6 +6,7 @@ pot beside them), `frozen` (see counts.py) and `counted`."""
 
 from copy import deepcopy
 
+from oracle.assets import malformed_assets, total_lines
 from oracle.counts import drep_stakes, in_order, passed
 from oracle.transactions import PURPOSES, applied, ledger_of, pots
 from oracle.states import state_lines
@@ -33,10 +34,10 @@ def refused(rule, kept=""):
 def output_stakes(ledger):
     """What the outputs of each stake credential hold together."""
     stakes = {}
-    for address, amount in ledger["outputs"].values():
-        if "+" in address:
-            credential = address.split("+")[1]
-            stakes[credential] = stakes.get(credential, 0) + amount
+    for it in ledger["outputs"].values():
+        if "+" in it.address:
+            credential = it.address.split("+")[1]
+            stakes[credential] = stakes.get(credential, 0) + it.amount
     return stakes
 
 
@@ -203,11 +204,22 @@ def after_rewards(ledger, record):
     return {**ledger, "pending": record}, ["accepted"]
 
 
+def printed(ledger, what):
+    """The lines of a print."""
+    if what == "assets":
+        return total_lines(ledger)
+    return [f"pots {pots(ledger)}"] if what == "pots" else state_lines(ledger, output_stakes(ledger))
+
+
 def after_record(ledger, record):
-    """The ledger after a record past the genesis, and the lines that answer it. A kind that there is not is the one fault of a record that is told here."""
+    """The ledger after a record past the genesis, and the lines that answer it. A kind that there is not, and malformed assets, are the faults of a record that are told here."""
     kind = record["kind"]
     if kind not in ("genesis", "block", "rewards", "tx", "print"):
         return ledger, ["refused 1 Malformed kind"]
+    if kind in ("genesis", "tx"):
+        malformed = malformed_assets(record)
+        if malformed:
+            return ledger, [f"refused 1 Malformed {malformed}"]
     if kind == "genesis":
         return ledger, refused(3)
     if kind == "block":
@@ -217,7 +229,7 @@ def after_record(ledger, record):
     if kind == "tx":
         ledger, _, answer = applied(ledger, record)
         return ledger, [answer]
-    return ledger, [f"pots {pots(ledger)}"] if record["what"] == "pots" else state_lines(ledger, output_stakes(ledger))
+    return ledger, printed(ledger, record["what"])
 
 
 def text_of_run(records):

@@ -1,5 +1,6 @@
 """A plain program of the text of a state, written from docs/formats.md alone."""
 
+from oracle.assets import asset_lines
 from oracle.counts import GROUPS, in_order
 from oracle.transactions import pots
 
@@ -69,8 +70,9 @@ def output_lines(ledger):
         return tx, int(index)
 
     for ref in sorted(ledger["outputs"], key=place):
-        address, amount = ledger["outputs"][ref]
-        yield f"output {ref} {address} {amount}"
+        it = ledger["outputs"][ref]
+        yield f"output {ref} {it.address} {it.amount}"
+        yield from asset_lines("asset", it.assets)
 
 
 def voter_in_order(voter):

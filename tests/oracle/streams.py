@@ -1,11 +1,12 @@
 """Streams at random, each of a genesis and of records that know the ledger before them: transactions, blocks, reward updates and prints.
 
 A transaction is made of items at random out of few names, of which those are kept that the plain program takes; then its inputs
-and outputs are made to balance. After that none, one or two of the rules are broken: of the rules on one item an item is looked
-for that breaks it, and for the others something is changed."""
+and outputs are made to balance, in lovelace and in each asset. After that none, one or two of the rules are broken: of the rules
+on one item an item is looked for that breaks it, and for the others something is changed. Now and then a list of assets is malformed."""
 
 from typing import NamedTuple
 
+from oracle.assets import HELD, MOVED, added, assets_of, burned, minted
 from oracle.counts import P1, P2B, P4, Q4
 from oracle.epochs import after_record, begun
 from oracle.transactions import (
@@ -13,6 +14,7 @@ from oracle.transactions import (
     PURPOSES,
     Broken,
     act,
+    asset_sums,
     begun_draft,
     broken_by_cert,
     broken_by_proposal,
@@ -35,6 +37,11 @@ COLD = [credential(n, kind) for n, kind in ((70, "k"), (70, "s"), (71, "k"), (72
 HOT = [credential(n, kind) for n, kind in ((80, "k"), (80, "s"), (81, "k"), (30, "k"), (70, "k"))]
 POOLS = [hash28(n) for n in (50, 51, 52, 10)]
 KEYS = [tx_id(n) for n in (7, 8, 9)]
+# assets that meet: names under several policies, and names that begin others
+POLICIES = [hash28(5), hash28(6), "ab" * 28]
+ASSETS = [*((policy, name) for policy in POLICIES for name in ("", "0a", "0a00")), (hash28(5), "ff" * 32)]
+QUANTITIES = [1, 1, 2, 7, 1000, 2**63, GREATEST]
+MINTS = [1, 1, 2, 7, 1000, MOVED[-1]]
 # with the rules of version 11, and without them
 VERSIONS = [[10, 0], [10, 9], [11, 0], [11, 1], [12, 0]]
 PAYERS = [credential(1), credential(2), credential(10), credential(3, "s")]
@@ -67,6 +74,26 @@ def an_address(r, network):
 def threshold(r, lenient):
     """A fraction up to 1; where all is to pass easily, mostly 0."""
     return [0, 1] if lenient and r.random() < 0.8 else r.choice([[0, 1], [1, 100], [1, 3], [1, 2], [2, 4], [2, 3], [67, 100], [1, 1]])
+
+
+def spelled(r, asset):
+    """An asset in either case of its digits."""
+    return [r.choice([it, it, it.upper()]) for it in asset]
+
+
+def listed(r, held):
+    """A list of assets with their quantities, in an order of its own."""
+    return [[*spelled(r, asset), held[asset]] for asset in some(r, [*held], len(held))]
+
+
+def fourth_entry(r, held):
+    """What an output has behind its third entry: where it holds no asset, nothing or an empty list."""
+    return [listed(r, held)] if held or r.random() < 0.05 else []
+
+
+def some_assets(r):
+    """Those of an output of the genesis, which mostly has none."""
+    return {it: r.choice(QUANTITIES) for it in r.sample(ASSETS, r.choice([0, 0, 1, 2, 4]))}
 
 
 def params_of(r, long):
@@ -111,12 +138,15 @@ def a_genesis(r, shape):
     """A genesis that breaks no rule of one. What is deposited is not always what is asked for now. A long stream has all that it spends."""
     network, params, version = r.choice([0, 1, 1, 1]), params_of(r, shape.long), r.choice(VERSIONS)
     # of the streams that begin before version 11 some come to it
-    forks = version < [11, 0] and r.random() < 0.6
+    forks = version < [11, 0] and r.random() < 0.8
     if forks:
         let_fork(params)
     pools, dreps = some(r, POOLS, 1), some(r, DREPS, 1)
     often, much = (4, 10**9) if shape.long else (1, 1)
-    outputs = [[ref(r.choice([1, 9]), i), an_address(r, network), much * r.randrange(400, 6000)] for i in range(often * r.randrange(8, 20))]
+    outputs = [
+        [ref(r.choice([1, 9]), i), an_address(r, network), much * r.randrange(400, 6000), *fourth_entry(r, some_assets(r))]
+        for i in range(often * r.randrange(8, 20))
+    ]
     fields = {
         "slot": 0 if shape.long else r.choice([0, 5, 39, 50]),
         "epochLength": 10 * shape.records if shape.long else 10,
@@ -314,8 +344,8 @@ class Maker:
         vote = lambda: self.found(self.vote, lambda it: broken_by_vote(self.ledger, draft, it))
         return [it for _ in range(counts[0]) for it in propose()], [it for _ in range(counts[1]) for it in vote()]
 
-    def output(self, amount):
-        return [an_address(self.r, self.ledger["network"]), amount, self.r.choice(SIZES)]
+    def output(self, amount, held={}):
+        return [an_address(self.r, self.ledger["network"]), amount, self.r.choice(SIZES), *fourth_entry(self.r, held)]
 
     def balance(self, tx):
         """Gives it inputs, and outputs of all that is left. What no output may hold joins the fee."""
@@ -334,6 +364,35 @@ class Maker:
                 tx["outputs"].append(it)
                 left -= it[1]
         tx["fee"] += left
+        self.balance_assets(tx)
+
+    def mint(self, tx):
+        """Mints some assets, and burns some of what the inputs hold."""
+        held = asset_sums(self.ledger, tx)[0]
+        moved = {it: self.r.choice(MINTS) for it in self.r.sample(ASSETS, self.r.choice([0, 0, 0, 1, 2]))} if tx["outputs"] else {}
+        for asset, quantity in held.items():
+            if not tx["outputs"] or self.r.random() < 0.2:
+                moved[asset] = -min(self.r.choice([1, quantity, quantity] if tx["outputs"] else [quantity]), quantity, -MOVED[0])
+        tx["mint"] = listed(self.r, moved)
+
+    def balance_assets(self, tx):
+        """Mints, burns, and shares all assets that are left among the outputs."""
+        self.mint(tx)
+        consumed, produced = asset_sums(self.ledger, tx)
+        shares = [{} for _ in tx["outputs"]]
+        for asset, quantity in consumed.items():
+            left = quantity - produced.get(asset, 0)
+            for place in some(self.r, range(len(shares)), len(shares)):
+                part = min(left, GREATEST, self.r.choice([left, left, max(1, left // 2), 1]))
+                if part:
+                    shares[place][asset] = part
+                    left -= part
+            for it in shares:
+                more = min(left, GREATEST - it.get(asset, 0))
+                if more:
+                    it[asset] = it.get(asset, 0) + more
+                    left -= more
+        tx["outputs"] = [[*it[:3], *fourth_entry(self.r, held)] for it, held in zip(tx["outputs"], shares)]
 
     def least_collateral(self, tx):
         return -(-tx["fee"] * self.ledger["params"]["collateralPercentage"] // 100)
@@ -341,16 +400,22 @@ class Maker:
     def add_collateral(self, tx):
         """Enough of it for the fee, by outputs of keys, and often a return of what is too much."""
         tx["collateral"] = self.key_outputs(self.ledger["params"]["maxCollateralInputs"])
-        have = sum(self.ledger["outputs"][it][1] for it in tx["collateral"])
+        have, held = self.held_by(tx["collateral"])
         least = self.least_collateral(tx)
-        returned = self.output(max(0, have - least - self.r.choice([0, 0, 5])))
-        if tx["collateral"] and have >= least:
+        returned = self.output(max(0, have - least - self.r.choice([0, 0, 5])), held)
+        may_return = returned[1] >= least_output(self.ledger, returned[2]) and all(it in HELD for it in held.values())
+        if tx["collateral"] and have >= least and (may_return or not held):
             tx["scripts"] = self.r.choice(["ok", "failed"])
-            if self.r.random() < 0.7 and returned[1] >= least_output(self.ledger, returned[2]):
+            if may_return and (held or self.r.random() < 0.7):
                 tx["collateralReturn"] = returned
 
+    def held_by(self, refs):
+        """The lovelace and the assets of those outputs that there are."""
+        outputs = [self.ledger["outputs"][it] for it in refs if it in self.ledger["outputs"]]
+        return sum(it.amount for it in outputs), added(*(it.assets for it in outputs))
+
     def key_outputs(self, most):
-        keys = [it for it, (address, _) in self.ledger["outputs"].items() if address[1] == "k"]
+        keys = [name for name, it in self.ledger["outputs"].items() if it.address[1] == "k"]
         return self.r.sample(keys, min(len(keys), self.r.randrange(most + 1)))
 
     def good(self):
@@ -401,15 +466,67 @@ class Maker:
         """Returns more than is left of the collateral."""
         self.has_scripts(tx)
         tx["collateral"] = tx["collateral"] or self.key_outputs(self.ledger["params"]["maxCollateralInputs"])
-        have = sum(self.ledger["outputs"][it][1] for it in tx["collateral"] if it in self.ledger["outputs"])
+        have, held = self.held_by(tx["collateral"])
         least = self.least_collateral(tx)
-        tx["collateralReturn"] = self.output(self.r.choice([max(0, have - least + 1), have, have + 1, GREATEST]))
+        held = {asset: quantity for asset, quantity in held.items() if quantity in HELD}
+        tx["collateralReturn"] = self.output(self.r.choice([max(0, have - least + 1), have, have + 1, GREATEST]), held)
+
+    def other_assets(self, held):
+        """With one asset more, one less, or 1 more or 1 less of one."""
+        asset = self.r.choice([*held, self.r.choice(ASSETS)])
+        quantity = held.get(asset, 0) + self.r.choice([1, -1, 7, -held.get(asset, 0)])
+        others = {it: of_it for it, of_it in held.items() if it != asset}
+        return {**others, asset: quantity} if quantity in HELD else others
+
+    def break_collateral_assets(self, tx):
+        """Returns other assets than the collateral holds, or none of them."""
+        self.has_scripts(tx)
+        tx["collateral"] = tx["collateral"] or self.key_outputs(self.ledger["params"]["maxCollateralInputs"])
+        have, held = self.held_by(tx["collateral"])
+        returned = tx["collateralReturn"] or self.output(max(0, have - self.least_collateral(tx)))
+        tx["collateralReturn"] = [*returned[:3], *fourth_entry(self.r, self.other_assets(assets_of(returned) or held))]
+
+    def break_assets(self, tx):
+        """Mints or burns something else, or gives other assets in an output."""
+        if tx["outputs"] and self.r.random() < 0.7:
+            place = self.r.randrange(len(tx["outputs"]))
+            it = tx["outputs"][place]
+            tx["outputs"][place] = [*it[:3], *fourth_entry(self.r, self.other_assets(assets_of(it)))]
+        else:
+            moved = {**minted(tx), **{asset: -quantity for asset, quantity in burned(tx).items()}}
+            asset = self.r.choice([*moved, self.r.choice(ASSETS)])
+            moved[asset] = self.r.choice([1, -1, -moved.get(asset, 1), MOVED[0], MOVED[-1]])
+            tx["mint"] = listed(self.r, {it: quantity for it, quantity in moved.items() if quantity in MOVED})
+
+    def spoil(self, tx):
+        """Makes a list of assets malformed: of an output, of the return, or of the mint."""
+        asset, more = spelled(self.r, self.r.choice(ASSETS)), spelled(self.r, self.r.choice(ASSETS))
+        bad = self.r.choice([
+            [[*asset, 1], [*map(str.upper, asset), 2]],
+            [[*more, 0]],
+            [[*more, 2**64]],
+            [[*more, 1.0]],
+            [[*more, -(2**63) - 1]],
+            [[*more, 5], [more[0], more[1] + "0", 1]],
+            [[more[0], "00" * 33, 1]],
+            [[more[0][1:], "", 1]],
+            [[more[0], 5, 1]],
+            [[*more, 1, 1]],
+            [more],
+            {},
+        ])  # fmt: skip
+        holders = [*tx["outputs"], *([tx["collateralReturn"]] if tx["collateralReturn"] else []), None]
+        holder = self.r.choice(holders)
+        if holder is None:
+            tx["mint"] = bad
+        else:
+            holder[3:] = self.r.choice([[bad], [bad], [[], []], [None]])
 
     def break_balance(self, tx):
         """Gives more: 1 lovelace, as much as fits, or some outputs again."""
         kind = self.r.choice(["fee", "donation", "outputs"])
         if kind == "outputs":
-            self.put_in(tx["outputs"], [[it[0], self.r.choice([it[1], GREATEST]), it[2]] for it in tx["outputs"]])
+            self.put_in(tx["outputs"], [[it[0], self.r.choice([it[1], GREATEST]), *it[2:]] for it in tx["outputs"]])
         else:
             tx[kind] += self.r.choice([1, GREATEST - tx[kind]])
 
@@ -461,7 +578,7 @@ class Maker:
         """Changes a transaction so that it breaks this rule, where that can be."""
         r, ledger, outputs = self.r, self.ledger, [*self.ledger["outputs"]]
         max_collateral, max_size = ledger["params"]["maxCollateralInputs"], ledger["params"]["maxTxSize"]
-        least, scripts = least_fee(ledger, tx), [it for it, (address, _) in ledger["outputs"].items() if address[1] == "s"]
+        least, scripts = least_fee(ledger, tx), [name for name, it in ledger["outputs"].items() if it.address[1] == "s"]
         changes = {
             30: lambda: tx.update(id=r.choice(ledger["used"])),
             31: lambda: tx.update(witnessed=False),
@@ -479,7 +596,9 @@ class Maker:
             43: lambda: (self.has_scripts(tx), self.put_in(tx["collateral"], scripts[:1])),
             44: lambda: self.break_return(tx),
             45: lambda: tx.update(treasury=r.choice([ledger["treasury"] + 1, max(0, ledger["treasury"] - 1)])),
+            46: lambda: self.break_collateral_assets(tx),
             110: lambda: self.break_balance(tx),
+            111: lambda: self.break_assets(tx),
         }
         if rule in changes:
             changes[rule]()
@@ -541,12 +660,18 @@ def a_transaction(r, ledger, number, long):
     tx = maker.good()
     for rule in r.sample(RULES, r.choice([0, 0, 1, 1, 2])):
         maker.break_one(tx, rule)
+    # after a fork to version 11 its rules are broken more often
+    if ledger["enacted"]["hardfork"] and ledger["version"] >= [11, 0] and r.random() < 0.2:
+        maker.break_one(tx, r.choice([73, 104]))
     if r.random() < 0.05:
         maker.break_any(tx)
     if tx["scripts"] == "failed" and r.random() < 0.5:
         # the rules that are not asked then
         maker.break_one(tx, 45)
+        maker.break_one(tx, 111)
         maker.break_any(tx)
+    if r.random() < 0.03:
+        maker.spoil(tx)
     return short(tx)
 
 
@@ -557,10 +682,11 @@ def other_record(r, genesis, ledger, shape):
         "rewards": lambda: a_reward_update(r, ledger),
         "pots": lambda: {"kind": "print", "what": "pots"},
         "state": lambda: {"kind": "print", "what": "state"},
+        "assets": lambda: {"kind": "print", "what": "assets"},
         "genesis": lambda: genesis,
         "no kind": lambda: {"kind": r.choice(["Block", "rollback", "", "transaction"])},
     }
-    weights = [0.05, 0.01, 0.01, 0.001, 0.001, 0.002] if shape.long else [0.25, 0.06, 0.04, 0.03, 0.01, 0.01]
+    weights = [0.05, 0.01, 0.01, 0.001, 0.002, 0.001, 0.002] if shape.long else [0.25, 0.06, 0.04, 0.03, 0.03, 0.01, 0.01]
     kind = r.choices([None, *kinds], [1 - sum(weights), *weights])[0]
     return kinds[kind]() if kind else None
 

@@ -1,13 +1,15 @@
 """A plain program of the rules of a transaction: ledgers of lists and maps, written from docs/rules.md and docs/formats.md alone.
-The rest of the rules stands in counts.py, epochs.py and states.py.
+The rest of the rules stands in assets.py, counts.py, epochs.py and states.py.
 
 It knows nothing of the definitions and of the crates, and looks everything up anew. A ledger is a map; of its parts `outputs`,
 `accounts`, `pools`, `dreps` and `hot` are maps by name, `proposals` is a list in order of submission. Records are as
-`json.loads` gives them, with ids in lower case; a transaction has been through `filled`. It reads no lines: that a record can
-be read, and that a genesis breaks no rule of one, is asked of the caller."""
+`json.loads` gives them, with ids in lower case, but for those of assets; a transaction has been through `filled`. It reads no
+lines: that a record can be read, and that a genesis breaks no rule of one, is asked of the caller."""
 
 from copy import deepcopy
 from typing import NamedTuple, Optional
+
+from oracle.assets import added, assets_of, burned, differences, minted
 
 NAMES = {
     30: "TxIdUsed",
@@ -26,6 +28,7 @@ NAMES = {
     43: "CollateralNotKey",
     44: "CollateralTooSmall",
     45: "TreasuryValueWrong",
+    46: "CollateralAssetsWrong",
     50: "WithdrawalWrongNetwork",
     51: "WithdrawalNoAccount",
     52: "WithdrawalNotDelegated",
@@ -62,6 +65,7 @@ NAMES = {
     103: "VotingExpired",
     104: "VoterNotSeated",
     110: "NotBalanced",
+    111: "AssetNotBalanced",
 }
 PURPOSES = {
     "NoConfidence": "committee",
@@ -105,6 +109,7 @@ DEFAULTS = {
     "until": None,
     "collateral": [],
     "collateralReturn": None,
+    "mint": [],
     "treasury": None,
     "donation": 0,
     "withdrawals": [],
@@ -112,6 +117,14 @@ DEFAULTS = {
     "proposals": [],
     "votes": [],
 }
+
+
+class Output(NamedTuple):
+    """What is kept of an output; its assets are a map of quantities."""
+
+    address: str
+    amount: int
+    assets: dict = {}
 
 
 class Terms(NamedTuple):
@@ -150,8 +163,8 @@ def ledger_of(genesis):
         "script": g.get("script"),
         "committee": committee and {"threshold": committee["threshold"], "terms": {cold: term for cold, term, _ in members}},
         "enacted": dict.fromkeys(("committee", "constitution", "hardfork", "parameters")),
-        "outputs": {ref: (address, amount) for ref, address, amount in g["outputs"]},
-        "used": [ref.split("#")[0] for ref, _, _ in g["outputs"]],
+        "outputs": {ref: Output(address, amount, assets_of(it)) for it in g["outputs"] for ref, address, amount in [it[:3]]},
+        "used": [it[0].split("#")[0] for it in g["outputs"]],
         "accounts": {cred: {"deposit": d, "balance": b, "pool": pool, "drep": drep} for cred, d, b, pool, drep in g["accounts"]},
         "pools": {pool: {"deposit": d, "terms": Terms(*terms), "future": None, "retires": None} for pool, d, *terms in g["pools"]},
         "dreps": {cred: {"deposit": d, "expiry": expiry} for cred, d, expiry in g["dreps"]},
@@ -168,7 +181,7 @@ def pots(ledger):
     """The seven pots and their sum, as they are printed."""
     entries = [*ledger["accounts"].values(), *ledger["pools"].values(), *ledger["dreps"].values(), *ledger["proposals"]]
     sums = {
-        "outputs": sum(amount for _, amount in ledger["outputs"].values()),
+        "outputs": sum(it.amount for it in ledger["outputs"].values()),
         "deposits": sum(it["deposit"] for it in entries),
         "rewards": sum(it["balance"] for it in ledger["accounts"].values()),
         **{name: ledger[name] for name in ("fees", "donations", "treasury", "reserves")},
@@ -320,7 +333,7 @@ def least_output(ledger, size):
 
 def broken_by_outputs(ledger, tx):
     returned = [] if tx["collateralReturn"] is None else [tx["collateralReturn"]]
-    for place, (address, amount, size) in enumerate(tx["outputs"] + returned):
+    for place, (address, amount, size, *_) in enumerate(tx["outputs"] + returned):
         if amount < least_output(ledger, size):
             yield Broken(38, place, f"min {least_output(ledger, size)}")
         if network_of(address) != ledger["network"]:
@@ -330,7 +343,7 @@ def broken_by_outputs(ledger, tx):
 def left_of_collateral(ledger, tx):
     """What the collateral holds less its return; it may be negative."""
     returned = tx["collateralReturn"][1] if tx["collateralReturn"] else 0
-    return sum(ledger["outputs"][ref][1] for ref in tx["collateral"]) - returned
+    return sum(ledger["outputs"][ref].amount for ref in tx["collateral"]) - returned
 
 
 def broken_by_collateral(ledger, tx):
@@ -342,12 +355,20 @@ def broken_by_collateral(ledger, tx):
     for place, ref in enumerate(tx["collateral"]):
         if ref not in ledger["outputs"] or ref in tx["collateral"][:place]:
             yield Broken(42, place)
-        if scripts and ledger["outputs"][ref][0][1] == "s":
+        if scripts and ledger["outputs"][ref].address[1] == "s":
             yield Broken(43, place)
     if scripts:
         have = left_of_collateral(ledger, tx)
         if have < 0 or have * 100 < tx["fee"] * ledger["params"]["collateralPercentage"]:
             yield Broken(44, kept=f"have {max(have, 0)}")
+
+
+def broken_by_collateral_assets(ledger, tx):
+    """Where there are scripts, the collateral and its return have the same of each asset."""
+    held = added(*(ledger["outputs"][ref].assets for ref in tx["collateral"]))
+    returned = assets_of(tx["collateralReturn"]) if tx["collateralReturn"] else {}
+    if tx["scripts"] != "none" and any(differences(held, returned)):
+        yield Broken(46)
 
 
 # ---- rules on withdrawals and certificates
@@ -574,7 +595,7 @@ def broken_by_vote(ledger, draft, vote):
 def sums_of(ledger, tx):
     """What is consumed and what is produced, of a transaction of which nothing before the balance is broken."""
     draft = begun_draft(ledger, tx)
-    consumed = sum(ledger["outputs"][ref][1] for ref in tx["inputs"]) + sum(amount for _, amount in tx["withdrawals"])
+    consumed = sum(ledger["outputs"][ref].amount for ref in tx["inputs"]) + sum(amount for _, amount in tx["withdrawals"])
     produced = sum(it[1] for it in tx["outputs"]) + tx["fee"] + tx["donation"] + sum(it["deposit"] for it in tx["proposals"])
     for cert in tx["certs"]:
         consumed, produced = consumed + refund_of(draft, cert), produced + deposit_of(draft, cert)
@@ -582,14 +603,22 @@ def sums_of(ledger, tx):
     return consumed, produced
 
 
+def asset_sums(ledger, tx):
+    """What is consumed and what is produced of each asset."""
+    consumed = added(*(ledger["outputs"][ref].assets for ref in tx["inputs"]), minted(tx))
+    return consumed, added(*map(assets_of, tx["outputs"]), burned(tx))
+
+
 def broken_by(ledger, tx):
     """All that is asked of a transaction. Nothing may be asked for past the first that is broken."""
     for part in (broken_at_first, broken_by_size_time_and_fee, broken_by_outputs, broken_by_collateral):
         yield from part(ledger, tx)
-    if tx["scripts"] == "failed":
-        return
-    if tx["treasury"] is not None and tx["treasury"] != ledger["treasury"]:
+    failed = tx["scripts"] == "failed"
+    if not failed and tx["treasury"] is not None and tx["treasury"] != ledger["treasury"]:
         yield Broken(45, kept=f"is {ledger['treasury']}")
+    yield from broken_by_collateral_assets(ledger, tx)
+    if failed:
+        return
     yield from broken_by_withdrawals(ledger, tx)
 
     draft = begun_draft(ledger, tx)
@@ -603,6 +632,12 @@ def broken_by(ledger, tx):
     consumed, produced = sums_of(ledger, tx)
     if consumed != produced:
         yield Broken(110, kept=f"consumed {consumed} produced {produced}")
+    for place, consumed, produced in differences(*asset_sums(ledger, tx)):
+        yield Broken(111, place, f"consumed {consumed} produced {produced}")
+
+
+def made_output(it):
+    return Output(it[0], it[1], assets_of(it))
 
 
 def without(outputs, refs):
@@ -613,7 +648,7 @@ def after_failed_scripts(ledger, tx):
     """Its collateral leaves, and what is returned of it comes at the place after its outputs."""
     outputs, returned = without(ledger["outputs"], tx["collateral"]), tx["collateralReturn"]
     if returned:
-        outputs[f"{tx['id']}#{len(tx['outputs'])}"] = (returned[0], returned[1])
+        outputs[f"{tx['id']}#{len(tx['outputs'])}"] = made_output(returned)
     return {**ledger, "outputs": outputs, "used": [*ledger["used"], tx["id"]], "fees": ledger["fees"] + left_of_collateral(ledger, tx)}
 
 
@@ -631,7 +666,7 @@ def after(ledger, tx):
     for it in tx["votes"]:
         live(draft, it["action"])["votes"][it["voter"]] = it["vote"]
     draft["outputs"] = without(ledger["outputs"], tx["inputs"])
-    draft["outputs"].update({f"{tx['id']}#{place}": (address, amount) for place, (address, amount, _) in enumerate(tx["outputs"])})
+    draft["outputs"].update({f"{tx['id']}#{place}": made_output(it) for place, it in enumerate(tx["outputs"])})
     draft.update(used=[*ledger["used"], tx["id"]], fees=ledger["fees"] + tx["fee"], donations=ledger["donations"] + tx["donation"])
     return draft
 

@@ -22,6 +22,8 @@ MANY = 16_384
 NAMES = 1_200_000
 # the keys that it has room for in both lists of an UpdateCommittee, of 60 bytes where one is removed and of 64 where one is added
 MEMBERS = (LINE_LIMIT - 1000) // (60 + 64)
+# the assets that it has room for, where it mints them and gives them
+ASSETS = 100_000
 # the registrations of pools with keys that it has room for
 KEYED = 60_000
 FIRST = 40_000_000_000_000_000
@@ -67,6 +69,26 @@ def hashes(count):
         yield text({**tx_record(n), "id": hashed(n), "inputs": [hashed(n - 1) + "#0"], "outputs": outputs, "fee": FEE, "size": SIZE})
 
 
+def three_assets(n):
+    """Three assets under policies like real hashes, with names of 8 bytes."""
+    return [[hashed(-n - it)[:56], hashed(n)[:16], FIRST] for it in (1, 2, 3)]
+
+
+def with_assets(count):
+    """The same; each output has three assets, which are those of the output before."""
+    for n in range(2, count + 2):
+        outputs = [["1k" + hashed(-n)[:56], FIRST - (n - 1) * FEE, 65, three_assets(0)]]
+        yield text({**tx_record(n), "id": hashed(n), "inputs": [hashed(n - 1) + "#0"], "outputs": outputs, "fee": FEE, "size": SIZE})
+
+
+def minting_anew(count):
+    """The same; each output has three assets that are minted for it, and those of the output before are burned."""
+    for n in range(2, count + 2):
+        outputs = [["1k" + hashed(-n)[:56], FIRST - (n - 1) * FEE, 65, three_assets(n)]]
+        mint = three_assets(n) + [[policy, name, -held] for policy, name, held in three_assets(n - 1)]
+        yield text({**tx_record(n), "id": hashed(n), "inputs": [hashed(n - 1) + "#0"], "outputs": outputs, "fee": FEE, "size": SIZE, "mint": mint})
+
+
 def live_outputs():
     return [[hashed(-n) + "#0", "1k" + hashed(-n)[:56], FIRST // LIVE] for n in range(1, LIVE + 1)]
 
@@ -87,6 +109,9 @@ def transfers(count):
     yield Shape("transfers", count, beginning(one, **PRICES), lambda: plain(count), "accepted")
     one = [[hashed(1) + "#0", key(1), FIRST]]
     yield Shape("transfers of hashes", count, beginning(one, **PRICES), lambda: hashes(count), "accepted")
+    for name, lines, held in ("with three assets", with_assets, three_assets(0)), ("that mint and burn three assets", minting_anew, three_assets(1)):
+        one = [[hashed(1) + "#0", key(1), FIRST, held]]
+        yield Shape(f"transfers {name}", count // 2, beginning(one, **PRICES), lambda it=lines: it(count // 2), "accepted")
     yield Shape("spread spends", count // 2, beginning(live_outputs(), **PRICES), lambda: spread(count // 2), "accepted")
 
 
@@ -296,6 +321,34 @@ def outputs():
     yield Shape("outputs", len(making), over(refs, OUTPUT_LIMIT), one_line(inputs=refs, outputs=making, fee=0), "accepted")
 
 
+def an_asset(n, quantity=1):
+    """One of many under few policies."""
+    return [hash28(n % 100), f"{n:08x}", quantity]
+
+
+def assets():
+    held = [an_asset(n) for n in range(OUTPUT_LIMIT)]
+    burned = [an_asset(n, -1) for n in range(OUTPUT_LIMIT)]
+    making = [[key(1), 0, 0, [it]] for it in held]
+    first = over(of_one(1))
+    yield Shape("outputs with an asset each", OUTPUT_LIMIT, first, one_line(inputs=of_one(1), outputs=making, mint=held, fee=1), "accepted")
+    there = beginning([[it, key(1), 1, [asset]] for it, asset in zip(of_one(OUTPUT_LIMIT), held)])
+    spending = one_line(inputs=of_one(OUTPUT_LIMIT), mint=burned, fee=OUTPUT_LIMIT)
+    yield Shape("inputs with an asset each", OUTPUT_LIMIT, there, spending, "accepted")
+    spending = one_line(inputs=of_one(OUTPUT_LIMIT), mint=burned[1:], fee=OUTPUT_LIMIT)
+    yield Shape("inputs of which one asset is lost", OUTPUT_LIMIT, there, spending, "refused 111 AssetNotBalanced at 0 consumed 1 produced 0")
+    same = [[key(1), 0, 0, [an_asset(0)]]] * OUTPUT_LIMIT
+    yield Shape("outputs with the same asset", OUTPUT_LIMIT, first, one_line(inputs=of_one(1), outputs=same, mint=[an_asset(0, OUTPUT_LIMIT)], fee=1), "accepted")
+    refs = of_one(OUTPUT_LIMIT)
+    returned = [key(1), OUTPUT_LIMIT - 1, 0, held]
+    first = beginning([[it, key(1), 1, [asset]] for it, asset in zip(refs, held)], maxCollateralInputs=OUTPUT_LIMIT)
+    failing = one_line(inputs=refs[:1], collateral=refs, collateralReturn=returned, scripts="failed", fee=0)
+    yield Shape("collateral with an asset each", OUTPUT_LIMIT, first, failing, "accepted failed-scripts")
+    for name, many in in_orders(sorted(an_asset(n) for n in range(ASSETS))):
+        minting = one_line(inputs=of_one(1), outputs=[[key(1), 0, 0, many]], mint=many[::-1], fee=1)
+        yield Shape(f"assets of one output {name}", ASSETS, over(of_one(1)), minting, "accepted")
+
+
 def withdrawals():
     owners = [[credential(n, "s"), 2, n, None, None] for n in range(ENTRY_LIMIT)]
     taken = [[script(n), n] for n in range(ENTRY_LIMIT)]
@@ -420,5 +473,5 @@ def names():
 def shapes(count):
     for group in (transfers(count), accounts(count), proposals(count), votes(count), beside(count)):
         yield from group
-    for group in (inputs(), collateral(), outputs(), withdrawals(), certificates(), governance(), orders(), members(), names()):
+    for group in (inputs(), collateral(), outputs(), assets(), withdrawals(), certificates(), governance(), orders(), members(), names()):
         yield from group

@@ -2,6 +2,7 @@
 
 from tables import (
     accounts,
+    assets,
     dreps,
     epochs,
     fields,
@@ -22,7 +23,7 @@ from tables import (
     worked,
 )
 
-TABLES = (words, lines, json_forms, genesis, fields, limits, epochs, parts, rules, accounts, pools, pool_keys, dreps, proposals, votes, seats, outputs, scripts, worked)
+TABLES = (words, lines, json_forms, genesis, fields, limits, epochs, parts, rules, accounts, pools, pool_keys, dreps, proposals, votes, seats, outputs, scripts, assets, worked)
 
 
 def cases():

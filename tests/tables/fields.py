@@ -4,10 +4,10 @@ import json
 from os.path import commonprefix
 from typing import NamedTuple
 
-from cases import AGAIN, USED, begins, malformed, missing, no_genesis, over_small, pots, printed
+from cases import AGAIN, BLANK, USED, begins, malformed, missing, no_genesis, over_small, pots, printed
 from records import ref, small, tx_id
 from tables import kinds
-from tables.kinds import ADDRESS, HASH28, HASH32, ONE_NAME, REF, SLOT, U32, U64, UNIT, VALUES, Kind, entry, listing, or_null, spelled, thing, without
+from tables.kinds import ADDRESS, ASSETS, HASH28, HASH32, MINTED, ONE_NAME, REF, SLOT, U32, U64, UNIT, VALUES, Kind, entry, listing, or_null, spelled, thing, without
 
 
 class Listed(NamedTuple):
@@ -17,7 +17,7 @@ class Listed(NamedTuple):
     named: bool = False
 
 
-OUTPUT = entry(ADDRESS, U64, U32)
+OUTPUT = entry(ADDRESS, U64, U32, last=ASSETS)
 
 # the fields of each kind of record, in the order in which they are read
 RECORDS = {
@@ -33,7 +33,7 @@ RECORDS = {
         "document": HASH32,
         "script": HASH28,
         "committee": thing({"threshold": UNIT, "members": listing(entry(kinds.CREDENTIAL, SLOT, or_null(kinds.CREDENTIAL)))}),
-        "outputs": Listed(entry(REF, ADDRESS, U64)),
+        "outputs": Listed(entry(REF, ADDRESS, U64, last=ASSETS)),
         "accounts": Listed(entry(kinds.CREDENTIAL, U64, U64, or_null(HASH28), or_null(kinds.DREP))),
         "pools": Listed(entry(HASH28, U64, U64, U64, UNIT, kinds.ACCOUNT, last=HASH32)),
         "dreps": Listed(entry(kinds.CREDENTIAL, U64, SLOT)),
@@ -53,6 +53,7 @@ RECORDS = {
         "until": SLOT,
         "collateral": Listed(REF),
         "collateralReturn": OUTPUT,
+        "mint": Listed(MINTED, named=True),
         "treasury": U64,
         "donation": U64,
         "withdrawals": Listed(kinds.WITHDRAWAL, named=True),
@@ -90,7 +91,8 @@ def answer_of(record, name, value):
     if record == "tx":
         return missing() if name == "id" else USED
     if record == "print":
-        return printed(200, 100, 700, 1000)
+        # there is no asset
+        return BLANK if value == '"assets"' else printed(200, 100, 700, 1000)
     return f"refused 10 SlotNotLater last {LAST_SLOT}" if record == "block" else f"refused 20 WrongEpoch now {LAST_EPOCH}"
 
 

@@ -64,7 +64,7 @@ NETWORK = number(0, 1)
 EPOCH_LENGTH = number(1, 2**32 - 1)
 BOOLEAN = of_kind("boolean", VALUES["boolean"], [])
 SCRIPTS = word(["none", "ok", "failed"], ["None", "OK", "fail", "passed", "absent", "true"])
-WHAT = word(["pots", "state"], ["Pots", "pot", "all"])
+WHAT = word(["pots", "state", "assets"], ["Pots", "pot", "all", "asset", "Assets"])
 
 # ---- ids
 
@@ -165,6 +165,20 @@ def listing(kind, named=False):
     twice = [f"[{good[i]},{good[j]}]" for i, j in ONE_NAME] if named else []
     return of_kind("array", ["[]", f"[{good[0]}]", f"[{good[1]},{good[0]}]"], [*(f"[{it}]" for it in bad), f"[{good[0]},{bad[0]}]", *twice])
 
+
+# ---- assets
+
+NAMES = ["", "00", "0a", "0A", "aB", "0000", "f" * 64, "0123456789abcdefABCDEF" + "0" * 42]
+BAD_NAMES = ["0", "0a0", "f" * 63, "f" * 65, "f" * 66, *("0" + it for it in "gG :/@`\u00e9"), " 00", "0x00", "-", "-1", "\u00e9"]
+NAME = of_kind("text", map(json.dumps, NAMES), map(json.dumps, BAD_NAMES))
+HELD = number(1, GREATEST)
+# with a sign, and not 0
+WITHOUT_SIGN = number(1, 2**63 - 1)
+MOVED = Kind([*WITHOUT_SIGN.good, "-1", "-2", str(-(2**63))], [*(it for it in WITHOUT_SIGN.bad if it != "-1"), str(-(2**63) - 1), "-1.0", "-1e0"])
+ASSETS = listing(entry(HASH28, NAME, HELD), named=True)
+MINTED = entry(HASH28, NAME, MOVED)
+
+# ---- fractions
 
 NO_UNITS = ["[0]", "[0,1,1]", "[0,1,null]", "[0,0]", "[1,0]", "[null,1]", "[0,null]", '["0",1]', '[0,"1"]', "[0.0,1]", "[0,1.0]", "[-1,1]", "[0,-1]", "[0,18446744073709551616]"]
 UNIT = of_kind("array", ["[0,1]", "[1,1]", "[2,4]", f"[{GREATEST},{GREATEST}]"], [*NO_UNITS, "[2,1]", f"[{GREATEST},{GREATEST - 1}]"])

@@ -15,7 +15,7 @@ from cases import (
     pots,
     unbalanced,
 )
-from records import GREATEST, SUPPLY_LIMIT, genesis, key, paying, ref, script, transfer, tx_id
+from records import GREATEST, SUPPLY_LIMIT, genesis, hash28, key, paying, ref, script, transfer, tx_id
 
 LAST_SLOT = 2**62 - 1
 
@@ -260,6 +260,7 @@ def balances():
 
 def order():
     """One transaction breaks every rule; each line mends what the line before was refused for."""
+    asset = [hash28(5), "", 7]
     steps = [
         ("refused 30 TxIdUsed", {"id": tx_id(2)}),
         (NOT_WITNESSED, {"witnessed": True}),
@@ -279,9 +280,11 @@ def order():
         ("refused 42 CollateralMissing at 0", {"collateral": [ref(1, 9), ref(9, 9)]}),
         ("refused 43 CollateralNotKey at 0", {"collateral": [ref(1, 3), ref(1, 3)]}),
         ("refused 42 CollateralMissing at 1", {"collateral": [ref(1, 3)]}),
-        ("refused 44 CollateralTooSmall have 0", {"collateralReturn": [key(1), 485, 30]}),
+        ("refused 44 CollateralTooSmall have 0", {"collateralReturn": [key(1), 485, 30, [asset]]}),
         (treasury_is(100), {"treasury": 100}),
+        ("refused 46 CollateralAssetsWrong", {"collateralReturn": [key(1), 485, 30]}),
         (unbalanced(2000, 1361), {"donation": 640}),
+        ("refused 111 AssetNotBalanced at 0 consumed 7 produced 0", {"mint": []}),
         (ACCEPTED, {}),
     ]
     fields = {
@@ -294,6 +297,7 @@ def order():
         "outputs": [[key(1, network=0), 169, 10], [key(1), 179, 20]],
         "collateral": [ref(9, 9)] * 3,
         "collateralReturn": [key(1, network=0), 189, 30],
+        "mint": [asset],
         "treasury": 99,
         "donation": 1,
     }

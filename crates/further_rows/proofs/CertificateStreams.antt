@@ -16,7 +16,7 @@ use Rattle.further_rows.proofs.Texts.{is_text}
 
 abbrev certificates_of_parts_input : List (ℕ × Reading)
 certificates_of_parts_input =
-    (1, Read (records.Genesis (record { network = 1; slot = 0; epoch_length = 10; version = (10, 0); supply = 1000; reserves = 565; treasury = 100; params = (record base_params { pool_voting_thresholds = ((share 1 2) ∷ (share 1 2) ∷ (share 1 2) ∷ (share 1 2) ∷ (share 1 2) ∷ []); drep_voting_thresholds = ((share 67 100) ∷ (share 67 100) ∷ (share 67 100) ∷ (share 67 100) ∷ (share 67 100) ∷ (share 1 2) ∷ (share 1 2) ∷ (share 1 2) ∷ (share 1 2) ∷ (share 1 2) ∷ []); gov_action_lifetime = 0 }); document = (h32 0x01); script = None; committee = (Some (record { threshold = (share 1 2); members = (((key 0x70), 100, (Some (key 0x71))) ∷ ((script 0x70), 0, (Some (key 0x71))) ∷ ((key 0x72), 100, (Some (key 0x73))) ∷ ((key 0x74), 100, None) ∷ ((key 0x76), 1, (Some (script 0x71))) ∷ []) })); outputs = (((ref 0x01 2), (address_with 1 (key 0x01) None), 20) ∷ ((ref 0x01 3), (address_with 1 (key 0x01) None), 20) ∷ ((ref 0x01 4), (address_with 1 (key 0x01) None), 20) ∷ ((ref 0x01 5), (address_with 1 (key 0x01) None), 20) ∷ ((ref 0x01 6), (address_with 1 (key 0x01) None), 20) ∷ ((ref 0x01 7), (address_with 1 (key 0x01) None), 20) ∷ ((ref 0x01 8), (address_with 1 (key 0x01) None), 20) ∷ ((ref 0x01 9), (address_with 1 (key 0x01) (Some (script 0x16))), 6) ∷ []); accounts = (((key 0x10), 2, 67, (Some (pool 0x50)), (Some (drep.Registered (key 0x30)))) ∷ ((key 0x11), 2, 33, (Some (pool 0x51)), (Some (drep.Registered (key 0x31)))) ∷ ((key 0x12), 2, 0, None, (Some (drep.Registered (key 0x32)))) ∷ ((key 0x13), 2, 7, (Some (pool 0x52)), (Some drep.Abstain)) ∷ ((key 0x14), 2, 11, (Some (pool 0x53)), (Some drep.NoConfidence)) ∷ ((script 0x10), 2, 3, (Some (pool 0x50)), (Some (drep.Registered (script 0x30)))) ∷ ((key 0x15), 2, 4, (Some (pool 0x51)), (Some (drep.Registered (key 0x33)))) ∷ []); pools = ((record { pool = (pool 0x50); deposit = 5; cost = 0; pledge = 0; margin = (share 0 1); account = (account_on 1 (key 0x12)); key = None }) ∷ (record { pool = (pool 0x51); deposit = 5; cost = 0; pledge = 0; margin = (share 0 1); account = (account_on 1 (key 0x13)); key = None }) ∷ (record { pool = (pool 0x52); deposit = 5; cost = 0; pledge = 0; margin = (share 0 1); account = (account_on 1 (key 0x14)); key = None }) ∷ (record { pool = (pool 0x53); deposit = 5; cost = 0; pledge = 0; margin = (share 0 1); account = (account_on 1 (key 0x14)); key = None }) ∷ (record { pool = (pool 0x54); deposit = 5; cost = 0; pledge = 0; margin = (share 0 1); account = (account_on 1 (key 0x11)); key = None }) ∷ []); dreps = (((key 0x30), 5, 20) ∷ ((key 0x31), 5, 20) ∷ ((key 0x32), 5, 20) ∷ ((script 0x30), 5, 20) ∷ ((key 0x33), 5, 0) ∷ []) }))) ∷
+    (1, Read (records.Genesis (record { network = 1; slot = 0; epoch_length = 10; version = (10, 0); supply = 1000; reserves = 565; treasury = 100; params = (record base_params { pool_voting_thresholds = ((share 1 2) ∷ (share 1 2) ∷ (share 1 2) ∷ (share 1 2) ∷ (share 1 2) ∷ []); drep_voting_thresholds = ((share 67 100) ∷ (share 67 100) ∷ (share 67 100) ∷ (share 67 100) ∷ (share 67 100) ∷ (share 1 2) ∷ (share 1 2) ∷ (share 1 2) ∷ (share 1 2) ∷ (share 1 2) ∷ []); gov_action_lifetime = 0 }); document = (h32 0x01); script = None; committee = (Some (record { threshold = (share 1 2); members = (((key 0x70), 100, (Some (key 0x71))) ∷ ((script 0x70), 0, (Some (key 0x71))) ∷ ((key 0x72), 100, (Some (key 0x73))) ∷ ((key 0x74), 100, None) ∷ ((key 0x76), 1, (Some (script 0x71))) ∷ []) })); outputs = (((ref 0x01 2), (address_with 1 (key 0x01) None), 20, []) ∷ ((ref 0x01 3), (address_with 1 (key 0x01) None), 20, []) ∷ ((ref 0x01 4), (address_with 1 (key 0x01) None), 20, []) ∷ ((ref 0x01 5), (address_with 1 (key 0x01) None), 20, []) ∷ ((ref 0x01 6), (address_with 1 (key 0x01) None), 20, []) ∷ ((ref 0x01 7), (address_with 1 (key 0x01) None), 20, []) ∷ ((ref 0x01 8), (address_with 1 (key 0x01) None), 20, []) ∷ ((ref 0x01 9), (address_with 1 (key 0x01) (Some (script 0x16))), 6, []) ∷ []); accounts = (((key 0x10), 2, 67, (Some (pool 0x50)), (Some (drep.Registered (key 0x30)))) ∷ ((key 0x11), 2, 33, (Some (pool 0x51)), (Some (drep.Registered (key 0x31)))) ∷ ((key 0x12), 2, 0, None, (Some (drep.Registered (key 0x32)))) ∷ ((key 0x13), 2, 7, (Some (pool 0x52)), (Some drep.Abstain)) ∷ ((key 0x14), 2, 11, (Some (pool 0x53)), (Some drep.NoConfidence)) ∷ ((script 0x10), 2, 3, (Some (pool 0x50)), (Some (drep.Registered (script 0x30)))) ∷ ((key 0x15), 2, 4, (Some (pool 0x51)), (Some (drep.Registered (key 0x33)))) ∷ []); pools = ((record { pool = (pool 0x50); deposit = 5; cost = 0; pledge = 0; margin = (share 0 1); account = (account_on 1 (key 0x12)); key = None }) ∷ (record { pool = (pool 0x51); deposit = 5; cost = 0; pledge = 0; margin = (share 0 1); account = (account_on 1 (key 0x13)); key = None }) ∷ (record { pool = (pool 0x52); deposit = 5; cost = 0; pledge = 0; margin = (share 0 1); account = (account_on 1 (key 0x14)); key = None }) ∷ (record { pool = (pool 0x53); deposit = 5; cost = 0; pledge = 0; margin = (share 0 1); account = (account_on 1 (key 0x14)); key = None }) ∷ (record { pool = (pool 0x54); deposit = 5; cost = 0; pledge = 0; margin = (share 0 1); account = (account_on 1 (key 0x11)); key = None }) ∷ []); dreps = (((key 0x30), 5, 20) ∷ ((key 0x31), 5, 20) ∷ ((key 0x32), 5, 20) ∷ ((script 0x30), 5, 20) ∷ ((key 0x33), 5, 0) ∷ []) }))) ∷
     (2, Read (records.Tx (record (spend 0x02 0) { proposals = ((proposing 10 (account_on 1 (key 0x10)) (actions.Info)) ∷ (proposing 10 (account_on 1 (script 0x10)) (actions.TreasuryWithdrawals (((account_on 1 (key 0x10)), 30) ∷ []) None)) ∷ []) }))) ∷
     (3, Read (records.Tx (record (spend 0x03 10) { certs = ((certs.PoolRetire (pool 0x53) 1) ∷ (certs.HotResign (key 0x72)) ∷ []); proposals = ((proposing 10 (account_on 1 (key 0x13)) (actions.NoConfidence None)) ∷ []) }))) ∷
     (4, Read (records.Tx (record (spend 0x04 20) { votes = ((voting (voter.Drep (key 0x30)) (action 0x02 1) vote.Yes) ∷ (voting (voter.Drep (key 0x31)) (action 0x02 1) vote.Abstain) ∷ (voting (voter.Committee (key 0x71)) (action 0x02 1) vote.Yes) ∷ (voting (voter.Pool (pool 0x50)) (action 0x03 0) vote.No) ∷ (voting (voter.Pool (pool 0x51)) (action 0x02 0) vote.Yes) ∷ (voting (voter.Committee (script 0x71)) (action 0x02 0) vote.Abstain) ∷ (voting (voter.Pool (pool 0x53)) (action 0x03 0) vote.Yes) ∷ []) }))) ∷
@@ -219,7 +219,7 @@ certificates_of_parts = refl
 
 abbrev certificates_of_full_actions_input : List (ℕ × Reading)
 certificates_of_full_actions_input =
-    (1, Read (records.Genesis (record { network = 1; slot = 0; epoch_length = 10; version = (10, 0); supply = 1000; reserves = 579; treasury = 100; params = (record base_params { gov_action_lifetime = 9 }); document = (h32 0x01); script = None; committee = (Some (record { threshold = (share 0 1); members = (((key 0x70), 100, (Some (key 0x71))) ∷ []) })); outputs = (((ref 0x01 0), (address_with 1 (key 0x01) None), 20) ∷ ((ref 0x01 1), (address_with 1 (key 0x01) None), 20) ∷ ((ref 0x01 2), (address_with 1 (key 0x01) None), 20) ∷ ((ref 0x01 3), (address_with 1 (key 0x01) None), 20) ∷ ((ref 0x01 4), (address_with 1 (key 0x01) None), 20) ∷ ((ref 0x01 5), (address_with 1 (key 0x01) None), 20) ∷ ((ref 0x01 6), (address_with 1 (key 0x01) None), 20) ∷ ((ref 0x01 7), (address_with 1 (key 0x01) None), 20) ∷ ((ref 0x01 8), (address_with 1 (key 0x01) None), 20) ∷ ((ref 0x01 9), (address_with 1 (key 0x01) None), 20) ∷ []); accounts = (((key 0x10), 2, 67, None, (Some (drep.Registered (key 0x30)))) ∷ ((key 0x11), 2, 33, None, (Some (drep.Registered (key 0x31)))) ∷ ((key 0x12), 2, 0, None, None) ∷ []); pools = ((record { pool = (pool 0x50); deposit = 5; cost = 0; pledge = 0; margin = (share 0 1); account = (account_on 1 (key 0x12)); key = None }) ∷ []); dreps = (((key 0x30), 5, 20) ∷ ((key 0x31), 5, 20) ∷ []) }))) ∷
+    (1, Read (records.Genesis (record { network = 1; slot = 0; epoch_length = 10; version = (10, 0); supply = 1000; reserves = 579; treasury = 100; params = (record base_params { gov_action_lifetime = 9 }); document = (h32 0x01); script = None; committee = (Some (record { threshold = (share 0 1); members = (((key 0x70), 100, (Some (key 0x71))) ∷ []) })); outputs = (((ref 0x01 0), (address_with 1 (key 0x01) None), 20, []) ∷ ((ref 0x01 1), (address_with 1 (key 0x01) None), 20, []) ∷ ((ref 0x01 2), (address_with 1 (key 0x01) None), 20, []) ∷ ((ref 0x01 3), (address_with 1 (key 0x01) None), 20, []) ∷ ((ref 0x01 4), (address_with 1 (key 0x01) None), 20, []) ∷ ((ref 0x01 5), (address_with 1 (key 0x01) None), 20, []) ∷ ((ref 0x01 6), (address_with 1 (key 0x01) None), 20, []) ∷ ((ref 0x01 7), (address_with 1 (key 0x01) None), 20, []) ∷ ((ref 0x01 8), (address_with 1 (key 0x01) None), 20, []) ∷ ((ref 0x01 9), (address_with 1 (key 0x01) None), 20, []) ∷ []); accounts = (((key 0x10), 2, 67, None, (Some (drep.Registered (key 0x30)))) ∷ ((key 0x11), 2, 33, None, (Some (drep.Registered (key 0x31)))) ∷ ((key 0x12), 2, 0, None, None) ∷ []); pools = ((record { pool = (pool 0x50); deposit = 5; cost = 0; pledge = 0; margin = (share 0 1); account = (account_on 1 (key 0x12)); key = None }) ∷ []); dreps = (((key 0x30), 5, 20) ∷ ((key 0x31), 5, 20) ∷ []) }))) ∷
     (2, Read (records.Tx (record (spend 0x02 0) { proposals = ((proposing 10 (account_on 1 (key 0x12)) (actions.ParameterChange None (record no_update { max_block_body_size = (Some 1); max_tx_size = (Some 2); max_block_header_size = (Some 3); max_value_size = (Some 4); max_tx_ex_units = (Some (18446744073709551615, 0)); max_block_ex_units = (Some (6, 5)); max_collateral_inputs = (Some 65535); min_fee_a = (Some 8); min_fee_b = (Some 9); key_deposit = (Some 0); pool_deposit = (Some 11); rho = (Some (share 12 13)); tau = (Some (share 0 14)); min_pool_cost = (Some 15); coins_per_utxo_byte = (Some 16); prices = (Some ((share 17 1), (share 0 18))); min_fee_ref_script_cost_per_byte = (Some (share 19 20)); a0 = (Some (share 21 2)); e_max = (Some 4294967295); n_opt = (Some 23); cost_models = (Some (h32 0x24)); collateral_percentage = (Some 25); pool_voting_thresholds = (Some ((share 0 26) ∷ (share 1 26) ∷ (share 2 26) ∷ (share 3 26) ∷ (share 4 26) ∷ [])); drep_voting_thresholds = (Some ((share 0 27) ∷ (share 1 27) ∷ (share 2 27) ∷ (share 3 27) ∷ (share 4 27) ∷ (share 5 27) ∷ (share 6 27) ∷ (share 7 27) ∷ (share 8 27) ∷ (share 9 27) ∷ [])); gov_action_lifetime = (Some 28); gov_action_deposit = (Some 29); drep_deposit = (Some 30); drep_activity = (Some 31); committee_min_size = (Some 32); committee_max_term_length = (Some 33) }) None)) ∷ (proposing 10 (account_on 1 (key 0x12)) (actions.ParameterChange None (record no_update { e_max = (Some 0) }) None)) ∷ []) }))) ∷
     (3, Read (records.Tx (record (spend 0x03 0) { proposals = ((proposing 10 (account_on 1 (key 0x12)) (actions.ParameterChange (Some (action 0x02 1)) (record no_update { rho = (Some (share 2 4)) }) None)) ∷ (proposing 10 (account_on 1 (key 0x12)) (actions.Info)) ∷ []) }))) ∷
     (5, Read (records.Tx (record (spend 0x04 0) { proposals = ((proposing 10 (account_on 1 (key 0x12)) (actions.TreasuryWithdrawals (((account_on 1 (key 0x12)), 0) ∷ ((account_on 1 (key 0x10)), 5) ∷ ((account_on 1 (key 0x11)), 18446744073709551615) ∷ []) None)) ∷ (proposing 10 (account_on 1 (key 0x12)) (actions.NewConstitution None (0xAB ∷ 0xAB ∷ 0xAB ∷ 0xAB ∷ 0xAB ∷ 0xAB ∷ 0xAB ∷ 0xAB ∷ 0xAB ∷ 0xAB ∷ 0xAB ∷ 0xAB ∷ 0xAB ∷ 0xAB ∷ 0xAB ∷ 0xAB ∷ 0xAB ∷ 0xAB ∷ 0xAB ∷ 0xAB ∷ 0xAB ∷ 0xAB ∷ 0xAB ∷ 0xAB ∷ 0xAB ∷ 0xAB ∷ 0xAB ∷ 0xAB ∷ 0xAB ∷ 0xAB ∷ 0xAB ∷ 0xAB ∷ []) (Some (0xCd ∷ 0xCd ∷ 0xCd ∷ 0xCd ∷ 0xCd ∷ 0xCd ∷ 0xCd ∷ 0xCd ∷ 0xCd ∷ 0xCd ∷ 0xCd ∷ 0xCd ∷ 0xCd ∷ 0xCd ∷ 0xCd ∷ 0xCd ∷ 0xCd ∷ 0xCd ∷ 0xCd ∷ 0xCd ∷ 0xCd ∷ 0xCd ∷ 0xCd ∷ 0xCd ∷ 0xCd ∷ 0xCd ∷ 0xCd ∷ 0xCd ∷ [])))) ∷ []) }))) ∷
@@ -399,7 +399,7 @@ certificates_of_full_actions = refl
 
 abbrev certificates_of_enacted_parameters_input : List (ℕ × Reading)
 certificates_of_enacted_parameters_input =
-    (1, Read (records.Genesis (record { network = 1; slot = 0; epoch_length = 10; version = (10, 0); supply = 1000; reserves = 579; treasury = 100; params = (record base_params { drep_voting_thresholds = ((share 0 1) ∷ (share 0 1) ∷ (share 0 1) ∷ (share 0 1) ∷ (share 0 1) ∷ (share 0 1) ∷ (share 0 1) ∷ (share 0 1) ∷ (share 0 1) ∷ (share 0 1) ∷ []) }); document = (h32 0x01); script = None; committee = (Some (record { threshold = (share 0 1); members = (((key 0x70), 100, (Some (key 0x71))) ∷ []) })); outputs = (((ref 0x01 0), (address_with 1 (key 0x01) None), 20) ∷ ((ref 0x01 1), (address_with 1 (key 0x01) None), 20) ∷ ((ref 0x01 2), (address_with 1 (key 0x01) None), 20) ∷ ((ref 0x01 3), (address_with 1 (key 0x01) None), 20) ∷ ((ref 0x01 4), (address_with 1 (key 0x01) None), 20) ∷ ((ref 0x01 5), (address_with 1 (key 0x01) None), 20) ∷ ((ref 0x01 6), (address_with 1 (key 0x01) None), 20) ∷ ((ref 0x01 7), (address_with 1 (key 0x01) None), 20) ∷ ((ref 0x01 8), (address_with 1 (key 0x01) None), 20) ∷ ((ref 0x01 9), (address_with 1 (key 0x01) None), 20) ∷ []); accounts = (((key 0x10), 2, 67, None, (Some (drep.Registered (key 0x30)))) ∷ ((key 0x11), 2, 33, None, (Some (drep.Registered (key 0x31)))) ∷ ((key 0x12), 2, 0, None, None) ∷ []); pools = ((record { pool = (pool 0x50); deposit = 5; cost = 0; pledge = 0; margin = (share 0 1); account = (account_on 1 (key 0x12)); key = None }) ∷ []); dreps = (((key 0x30), 5, 20) ∷ ((key 0x31), 5, 20) ∷ []) }))) ∷
+    (1, Read (records.Genesis (record { network = 1; slot = 0; epoch_length = 10; version = (10, 0); supply = 1000; reserves = 579; treasury = 100; params = (record base_params { drep_voting_thresholds = ((share 0 1) ∷ (share 0 1) ∷ (share 0 1) ∷ (share 0 1) ∷ (share 0 1) ∷ (share 0 1) ∷ (share 0 1) ∷ (share 0 1) ∷ (share 0 1) ∷ (share 0 1) ∷ []) }); document = (h32 0x01); script = None; committee = (Some (record { threshold = (share 0 1); members = (((key 0x70), 100, (Some (key 0x71))) ∷ []) })); outputs = (((ref 0x01 0), (address_with 1 (key 0x01) None), 20, []) ∷ ((ref 0x01 1), (address_with 1 (key 0x01) None), 20, []) ∷ ((ref 0x01 2), (address_with 1 (key 0x01) None), 20, []) ∷ ((ref 0x01 3), (address_with 1 (key 0x01) None), 20, []) ∷ ((ref 0x01 4), (address_with 1 (key 0x01) None), 20, []) ∷ ((ref 0x01 5), (address_with 1 (key 0x01) None), 20, []) ∷ ((ref 0x01 6), (address_with 1 (key 0x01) None), 20, []) ∷ ((ref 0x01 7), (address_with 1 (key 0x01) None), 20, []) ∷ ((ref 0x01 8), (address_with 1 (key 0x01) None), 20, []) ∷ ((ref 0x01 9), (address_with 1 (key 0x01) None), 20, []) ∷ []); accounts = (((key 0x10), 2, 67, None, (Some (drep.Registered (key 0x30)))) ∷ ((key 0x11), 2, 33, None, (Some (drep.Registered (key 0x31)))) ∷ ((key 0x12), 2, 0, None, None) ∷ []); pools = ((record { pool = (pool 0x50); deposit = 5; cost = 0; pledge = 0; margin = (share 0 1); account = (account_on 1 (key 0x12)); key = None }) ∷ []); dreps = (((key 0x30), 5, 20) ∷ ((key 0x31), 5, 20) ∷ []) }))) ∷
     (2, Read (records.Tx (record (spend 0x02 0) { proposals = ((proposing 10 (account_on 1 (key 0x12)) (actions.TreasuryWithdrawals (((account_on 1 (key 0x12)), 60) ∷ []) None)) ∷ (proposing 10 (account_on 1 (key 0x12)) (actions.TreasuryWithdrawals (((account_on 1 (key 0x12)), 41) ∷ []) None)) ∷ []) }))) ∷
     (3, Read (records.Tx (record (spend 0x03 0) { proposals = ((proposing 10 (account_on 1 (key 0x12)) (actions.ParameterChange None (record no_update { drep_voting_thresholds = (Some ((share 1 10) ∷ (share 1 10) ∷ (share 1 10) ∷ (share 1 10) ∷ (share 1 10) ∷ (share 1 10) ∷ (share 1 10) ∷ (share 1 10) ∷ (share 1 10) ∷ (share 0 4) ∷ [])); committee_min_size = (Some 1) }) None)) ∷ (proposing 10 (account_on 1 (key 0x12)) (actions.ParameterChange None (record no_update { n_opt = (Some 9) }) None)) ∷ []) }))) ∷
     (4, Read (records.Block 10 1)) ∷
@@ -527,7 +527,7 @@ certificates_of_enacted_parameters = refl
 
 abbrev certificates_of_no_boundary_input : List (ℕ × Reading)
 certificates_of_no_boundary_input =
-    (1, Read (records.Genesis (record { network = 1; slot = 0; epoch_length = 10; version = (10, 0); supply = 1000; reserves = 579; treasury = 100; params = base_params; document = (h32 0x01); script = None; committee = (Some (record { threshold = (share 0 1); members = (((key 0x70), 100, (Some (key 0x71))) ∷ []) })); outputs = (((ref 0x01 0), (address_with 1 (key 0x01) None), 20) ∷ ((ref 0x01 1), (address_with 1 (key 0x01) None), 20) ∷ ((ref 0x01 2), (address_with 1 (key 0x01) None), 20) ∷ ((ref 0x01 3), (address_with 1 (key 0x01) None), 20) ∷ ((ref 0x01 4), (address_with 1 (key 0x01) None), 20) ∷ ((ref 0x01 5), (address_with 1 (key 0x01) None), 20) ∷ ((ref 0x01 6), (address_with 1 (key 0x01) None), 20) ∷ ((ref 0x01 7), (address_with 1 (key 0x01) None), 20) ∷ ((ref 0x01 8), (address_with 1 (key 0x01) None), 20) ∷ ((ref 0x01 9), (address_with 1 (key 0x01) None), 20) ∷ []); accounts = (((key 0x10), 2, 67, None, (Some (drep.Registered (key 0x30)))) ∷ ((key 0x11), 2, 33, None, (Some (drep.Registered (key 0x31)))) ∷ ((key 0x12), 2, 0, None, None) ∷ []); pools = ((record { pool = (pool 0x50); deposit = 5; cost = 0; pledge = 0; margin = (share 0 1); account = (account_on 1 (key 0x12)); key = None }) ∷ []); dreps = (((key 0x30), 5, 20) ∷ ((key 0x31), 5, 20) ∷ []) }))) ∷
+    (1, Read (records.Genesis (record { network = 1; slot = 0; epoch_length = 10; version = (10, 0); supply = 1000; reserves = 579; treasury = 100; params = base_params; document = (h32 0x01); script = None; committee = (Some (record { threshold = (share 0 1); members = (((key 0x70), 100, (Some (key 0x71))) ∷ []) })); outputs = (((ref 0x01 0), (address_with 1 (key 0x01) None), 20, []) ∷ ((ref 0x01 1), (address_with 1 (key 0x01) None), 20, []) ∷ ((ref 0x01 2), (address_with 1 (key 0x01) None), 20, []) ∷ ((ref 0x01 3), (address_with 1 (key 0x01) None), 20, []) ∷ ((ref 0x01 4), (address_with 1 (key 0x01) None), 20, []) ∷ ((ref 0x01 5), (address_with 1 (key 0x01) None), 20, []) ∷ ((ref 0x01 6), (address_with 1 (key 0x01) None), 20, []) ∷ ((ref 0x01 7), (address_with 1 (key 0x01) None), 20, []) ∷ ((ref 0x01 8), (address_with 1 (key 0x01) None), 20, []) ∷ ((ref 0x01 9), (address_with 1 (key 0x01) None), 20, []) ∷ []); accounts = (((key 0x10), 2, 67, None, (Some (drep.Registered (key 0x30)))) ∷ ((key 0x11), 2, 33, None, (Some (drep.Registered (key 0x31)))) ∷ ((key 0x12), 2, 0, None, None) ∷ []); pools = ((record { pool = (pool 0x50); deposit = 5; cost = 0; pledge = 0; margin = (share 0 1); account = (account_on 1 (key 0x12)); key = None }) ∷ []); dreps = (((key 0x30), 5, 20) ∷ ((key 0x31), 5, 20) ∷ []) }))) ∷
     (2, Read (records.Block 1 1)) ∷
     (3, Read (records.Block 9 1)) ∷
     []

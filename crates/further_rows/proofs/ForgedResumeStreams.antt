@@ -36,7 +36,7 @@ abbrev resume_of_forged_sound_texts_proposal_3 : Proposal
 resume_of_forged_sound_texts_proposal_3 = (record { id = (action 0x03 0); action = (actions.NoConfidence (Some (action 0x02 0))); deposit = 10; account = (account_on 1 (key 0x12)); expires_after = 20; votes = [] })
 
 abbrev resume_of_forged_sound_texts_world : World
-resume_of_forged_sound_texts_world = (record { ledger = (record { network = 1; epoch_length = 10; supply = 1000; slot = 21; epoch = 2; dormant = 0; reserves = 635; fees = 35; donations = 10; state = resume_of_forged_sound_texts_state; outputs = (((ref 0x01 6), (record { address = (address_with 0 (script 0x01) None); lovelace = 20 })) ∷ ((ref 0x01 7), (record { address = (address_with 1 (key 0x01) (Some (key 0x10))); lovelace = 20 })) ∷ ((ref 0x01 8), (record { address = (address_with 1 (key 0x01) (Some (script 0x10))); lovelace = 9 })) ∷ ((ref 0x05 0), (record { address = (address_with 1 (key 0x01) None); lovelace = 5 })) ∷ []); used = ((tx_id 0x01) ∷ (tx_id 0x02) ∷ (tx_id 0x03) ∷ (tx_id 0x04) ∷ (tx_id 0x05) ∷ (tx_id 0x77) ∷ []); accounts = (((key 0x10), (record { deposit = 2; rewards = 67; pool = (Some (pool 0x50)); drep = (Some (drep.Registered (key 0x30))) })) ∷ ((key 0x11), (record { deposit = 2; rewards = 33; pool = (Some (pool 0x51)); drep = (Some (drep.Registered (key 0x31))) })) ∷ ((key 0x12), (record { deposit = 2; rewards = 0; pool = None; drep = None })) ∷ []); pools = (((pool 0x50), (record { deposit = 5; terms = (record { cost = 0; pledge = 0; margin = (share 0 1); account = (account_on 1 (key 0x12)); key = None }); future = (Some (record { cost = 1; pledge = 2; margin = (share 1 3); account = (account_on 1 (key 0x12)); key = None })); retires = None })) ∷ ((pool 0x51), (record { deposit = 5; terms = (record { cost = 0; pledge = 0; margin = (share 0 1); account = (account_on 0 (key 0x11)); key = None }); future = None; retires = (Some 0) })) ∷ []); dreps = (((key 0x30), (record { deposit = 5; expiry = 20 })) ∷ ((key 0x31), (record { deposit = 5; expiry = 22 })) ∷ []); hot = (((key 0x70), (Hot (key 0x74))) ∷ ((key 0x72), (Hot (key 0x73))) ∷ ((key 0x80), Resigned) ∷ []); proposals = (resume_of_forged_sound_texts_proposal_0 ∷ resume_of_forged_sound_texts_proposal_1 ∷ resume_of_forged_sound_texts_proposal_2 ∷ resume_of_forged_sound_texts_proposal_3 ∷ []) }); pending = (Some (record { epoch = 2; from_reserves = 20; from_fees = 3; to_treasury = 8; rewards = (((key 0x10), 10) ∷ ((key 0x11), 5) ∷ []) })); counted = 4; mark = (((pool 0x50), 87) ∷ ((pool 0x51), 33) ∷ []); set = (((pool 0x50), 87) ∷ ((pool 0x51), 33) ∷ []); go = (((pool 0x50), 87) ∷ ((pool 0x51), 33) ∷ []); noted_fees = 30; frozen = (record { epoch = 2; entries = (((key 0x10), (record { stake = 20; registered = (Some (record { deposit = 2; rewards = 67; pool = (Some (pool 0x50)); drep = (Some (drep.Registered (key 0x30))) })) })) ∷ ((script 0x10), (record { stake = 9; registered = None })) ∷ ((key 0x11), (record { stake = 0; registered = (Some (record { deposit = 2; rewards = 33; pool = (Some (pool 0x51)); drep = (Some (drep.Registered (key 0x31))) })) })) ∷ ((key 0x12), (record { stake = 0; registered = (Some (record { deposit = 18446744073709551615; rewards = 0; pool = (Some (pool 0x59)); drep = (Some (drep.Registered (script 0x39))) })) })) ∷ []); dreps = (((key 0x30), 18446744073709551615) ∷ ((key 0x31), 20) ∷ []); mark = (((pool 0x50), 87) ∷ ((pool 0x51), 33) ∷ []); pool_accounts = (((pool 0x50), (account_on 1 (key 0x12))) ∷ []); hot = (((key 0x70), (Hot (key 0x71))) ∷ ((key 0x72), (Hot (key 0x73))) ∷ ((script 0x72), (Hot (key 0x01))) ∷ []); proposals = ((record resume_of_forged_sound_texts_proposal_1 { votes = (((voter.Committee (key 0x71)), vote.Yes) ∷ ((voter.Drep (key 0x30)), vote.No) ∷ []) }) ∷ (record resume_of_forged_sound_texts_proposal_2 { votes = [] }) ∷ (record resume_of_forged_sound_texts_proposal_3 { votes = [] }) ∷ []); start = (record resume_of_forged_sound_texts_state { treasury = 0 }) }) })
+resume_of_forged_sound_texts_world = (record { ledger = (record { network = 1; epoch_length = 10; supply = 1000; slot = 21; epoch = 2; dormant = 0; reserves = 635; fees = 35; donations = 10; state = resume_of_forged_sound_texts_state; outputs = (((ref 0x01 6), (record { address = (address_with 0 (script 0x01) None); lovelace = 20; assets = [] })) ∷ ((ref 0x01 7), (record { address = (address_with 1 (key 0x01) (Some (key 0x10))); lovelace = 20; assets = [] })) ∷ ((ref 0x01 8), (record { address = (address_with 1 (key 0x01) (Some (script 0x10))); lovelace = 9; assets = [] })) ∷ ((ref 0x05 0), (record { address = (address_with 1 (key 0x01) None); lovelace = 5; assets = [] })) ∷ []); used = ((tx_id 0x01) ∷ (tx_id 0x02) ∷ (tx_id 0x03) ∷ (tx_id 0x04) ∷ (tx_id 0x05) ∷ (tx_id 0x77) ∷ []); accounts = (((key 0x10), (record { deposit = 2; rewards = 67; pool = (Some (pool 0x50)); drep = (Some (drep.Registered (key 0x30))) })) ∷ ((key 0x11), (record { deposit = 2; rewards = 33; pool = (Some (pool 0x51)); drep = (Some (drep.Registered (key 0x31))) })) ∷ ((key 0x12), (record { deposit = 2; rewards = 0; pool = None; drep = None })) ∷ []); pools = (((pool 0x50), (record { deposit = 5; terms = (record { cost = 0; pledge = 0; margin = (share 0 1); account = (account_on 1 (key 0x12)); key = None }); future = (Some (record { cost = 1; pledge = 2; margin = (share 1 3); account = (account_on 1 (key 0x12)); key = None })); retires = None })) ∷ ((pool 0x51), (record { deposit = 5; terms = (record { cost = 0; pledge = 0; margin = (share 0 1); account = (account_on 0 (key 0x11)); key = None }); future = None; retires = (Some 0) })) ∷ []); dreps = (((key 0x30), (record { deposit = 5; expiry = 20 })) ∷ ((key 0x31), (record { deposit = 5; expiry = 22 })) ∷ []); hot = (((key 0x70), (Hot (key 0x74))) ∷ ((key 0x72), (Hot (key 0x73))) ∷ ((key 0x80), Resigned) ∷ []); proposals = (resume_of_forged_sound_texts_proposal_0 ∷ resume_of_forged_sound_texts_proposal_1 ∷ resume_of_forged_sound_texts_proposal_2 ∷ resume_of_forged_sound_texts_proposal_3 ∷ []) }); pending = (Some (record { epoch = 2; from_reserves = 20; from_fees = 3; to_treasury = 8; rewards = (((key 0x10), 10) ∷ ((key 0x11), 5) ∷ []) })); counted = 4; mark = (((pool 0x50), 87) ∷ ((pool 0x51), 33) ∷ []); set = (((pool 0x50), 87) ∷ ((pool 0x51), 33) ∷ []); go = (((pool 0x50), 87) ∷ ((pool 0x51), 33) ∷ []); noted_fees = 30; frozen = (record { epoch = 2; entries = (((key 0x10), (record { stake = 20; registered = (Some (record { deposit = 2; rewards = 67; pool = (Some (pool 0x50)); drep = (Some (drep.Registered (key 0x30))) })) })) ∷ ((script 0x10), (record { stake = 9; registered = None })) ∷ ((key 0x11), (record { stake = 0; registered = (Some (record { deposit = 2; rewards = 33; pool = (Some (pool 0x51)); drep = (Some (drep.Registered (key 0x31))) })) })) ∷ ((key 0x12), (record { stake = 0; registered = (Some (record { deposit = 18446744073709551615; rewards = 0; pool = (Some (pool 0x59)); drep = (Some (drep.Registered (script 0x39))) })) })) ∷ []); dreps = (((key 0x30), 18446744073709551615) ∷ ((key 0x31), 20) ∷ []); mark = (((pool 0x50), 87) ∷ ((pool 0x51), 33) ∷ []); pool_accounts = (((pool 0x50), (account_on 1 (key 0x12))) ∷ []); hot = (((key 0x70), (Hot (key 0x71))) ∷ ((key 0x72), (Hot (key 0x73))) ∷ ((script 0x72), (Hot (key 0x01))) ∷ []); proposals = ((record resume_of_forged_sound_texts_proposal_1 { votes = (((voter.Committee (key 0x71)), vote.Yes) ∷ ((voter.Drep (key 0x30)), vote.No) ∷ []) }) ∷ (record resume_of_forged_sound_texts_proposal_2 { votes = [] }) ∷ (record resume_of_forged_sound_texts_proposal_3 { votes = [] }) ∷ []); start = (record resume_of_forged_sound_texts_state { treasury = 0 }) }) })
 
 pub resume_of_forged_sound_texts_shown : is_text (Some (checkpoint_text resume_of_forged_sound_texts_world 281474976710656)) (
     codes "checkpoint 1 line 281474976710656 network 1 length 10 counted 4" ∷
@@ -267,7 +267,7 @@ abbrev resume_of_forged_exact_bounds_proposal_3 : Proposal
 resume_of_forged_exact_bounds_proposal_3 = (record { id = (action 0x03 0); action = (actions.NoConfidence (Some (action 0x02 0))); deposit = 10; account = (account_on 1 (key 0x12)); expires_after = 20; votes = [] })
 
 abbrev resume_of_forged_exact_bounds_world : World
-resume_of_forged_exact_bounds_world = (record { ledger = (record { network = 1; epoch_length = 10; supply = 1000; slot = 21; epoch = 2; dormant = 0; reserves = 635; fees = 35; donations = 10; state = resume_of_forged_exact_bounds_state; outputs = (((ref 0x01 6), (record { address = (address_with 1 (key 0x01) None); lovelace = 20 })) ∷ ((ref 0x01 7), (record { address = (address_with 1 (key 0x01) (Some (key 0x10))); lovelace = 20 })) ∷ ((ref 0x01 8), (record { address = (address_with 1 (key 0x01) (Some (script 0x10))); lovelace = 9 })) ∷ ((ref 0x05 0), (record { address = (address_with 1 (key 0x01) None); lovelace = 5 })) ∷ []); used = ((tx_id 0x01) ∷ (tx_id 0x02) ∷ (tx_id 0x03) ∷ (tx_id 0x04) ∷ (tx_id 0x05) ∷ []); accounts = (((key 0x10), (record { deposit = 2; rewards = 67; pool = (Some (pool 0x50)); drep = (Some (drep.Registered (key 0x30))) })) ∷ ((key 0x11), (record { deposit = 2; rewards = 33; pool = (Some (pool 0x51)); drep = (Some (drep.Registered (key 0x31))) })) ∷ ((key 0x12), (record { deposit = 2; rewards = 0; pool = None; drep = None })) ∷ []); pools = (((pool 0x50), (record { deposit = 5; terms = (record { cost = 0; pledge = 0; margin = (share 0 1); account = (account_on 1 (key 0x12)); key = None }); future = (Some (record { cost = 1; pledge = 2; margin = (share 1 3); account = (account_on 1 (key 0x12)); key = None })); retires = None })) ∷ ((pool 0x51), (record { deposit = 5; terms = (record { cost = 18446744073709551615; pledge = 18446744073709551615; margin = (share 0 1); account = (account_on 1 (key 0x11)); key = None }); future = None; retires = None })) ∷ []); dreps = (((key 0x30), (record { deposit = 5; expiry = 20 })) ∷ ((key 0x31), (record { deposit = 5; expiry = 4611686022722355202 })) ∷ []); hot = (((key 0x70), (Hot (key 0x74))) ∷ ((key 0x72), (Hot (key 0x73))) ∷ []); proposals = (resume_of_forged_exact_bounds_proposal_0 ∷ resume_of_forged_exact_bounds_proposal_1 ∷ resume_of_forged_exact_bounds_proposal_2 ∷ resume_of_forged_exact_bounds_proposal_3 ∷ []) }); pending = (Some (record { epoch = 2; from_reserves = 20; from_fees = 3; to_treasury = 8; rewards = (((key 0x10), 10) ∷ ((key 0x11), 5) ∷ []) })); counted = 0; mark = (((pool 0x50), 967) ∷ ((pool 0x51), 33) ∷ []); set = (((pool 0x50), 967) ∷ ((pool 0x51), 33) ∷ []); go = (((pool 0x50), 967) ∷ ((pool 0x51), 33) ∷ []); noted_fees = 1000; frozen = (record { epoch = 2; entries = (((key 0x10), (record { stake = 851; registered = (Some (record { deposit = 2; rewards = 67; pool = (Some (pool 0x50)); drep = (Some (drep.Registered (key 0x30))) })) })) ∷ ((script 0x10), (record { stake = 9; registered = None })) ∷ ((key 0x11), (record { stake = 0; registered = (Some (record { deposit = 2; rewards = 33; pool = (Some (pool 0x51)); drep = (Some (drep.Registered (key 0x31))) })) })) ∷ ((key 0x12), (record { stake = 0; registered = (Some (record { deposit = 2; rewards = 0; pool = None; drep = None })) })) ∷ []); dreps = (((key 0x30), 20) ∷ ((key 0x31), 20) ∷ []); mark = (((pool 0x50), 967) ∷ ((pool 0x51), 33) ∷ []); pool_accounts = (((pool 0x50), (account_on 1 (key 0x12))) ∷ ((pool 0x51), (account_on 1 (key 0x11))) ∷ []); hot = (((key 0x70), (Hot (key 0x71))) ∷ ((key 0x72), (Hot (key 0x73))) ∷ []); proposals = ((record resume_of_forged_exact_bounds_proposal_0 { votes = (((voter.Pool (pool 0x50)), vote.Abstain) ∷ []) }) ∷ (record resume_of_forged_exact_bounds_proposal_1 { votes = (((voter.Committee (key 0x71)), vote.Yes) ∷ ((voter.Drep (key 0x30)), vote.No) ∷ []) }) ∷ (record resume_of_forged_exact_bounds_proposal_2 { votes = [] }) ∷ (record resume_of_forged_exact_bounds_proposal_3 { votes = [] }) ∷ []); start = (record resume_of_forged_exact_bounds_state { treasury = 100 }) }) })
+resume_of_forged_exact_bounds_world = (record { ledger = (record { network = 1; epoch_length = 10; supply = 1000; slot = 21; epoch = 2; dormant = 0; reserves = 635; fees = 35; donations = 10; state = resume_of_forged_exact_bounds_state; outputs = (((ref 0x01 6), (record { address = (address_with 1 (key 0x01) None); lovelace = 20; assets = [] })) ∷ ((ref 0x01 7), (record { address = (address_with 1 (key 0x01) (Some (key 0x10))); lovelace = 20; assets = [] })) ∷ ((ref 0x01 8), (record { address = (address_with 1 (key 0x01) (Some (script 0x10))); lovelace = 9; assets = [] })) ∷ ((ref 0x05 0), (record { address = (address_with 1 (key 0x01) None); lovelace = 5; assets = [] })) ∷ []); used = ((tx_id 0x01) ∷ (tx_id 0x02) ∷ (tx_id 0x03) ∷ (tx_id 0x04) ∷ (tx_id 0x05) ∷ []); accounts = (((key 0x10), (record { deposit = 2; rewards = 67; pool = (Some (pool 0x50)); drep = (Some (drep.Registered (key 0x30))) })) ∷ ((key 0x11), (record { deposit = 2; rewards = 33; pool = (Some (pool 0x51)); drep = (Some (drep.Registered (key 0x31))) })) ∷ ((key 0x12), (record { deposit = 2; rewards = 0; pool = None; drep = None })) ∷ []); pools = (((pool 0x50), (record { deposit = 5; terms = (record { cost = 0; pledge = 0; margin = (share 0 1); account = (account_on 1 (key 0x12)); key = None }); future = (Some (record { cost = 1; pledge = 2; margin = (share 1 3); account = (account_on 1 (key 0x12)); key = None })); retires = None })) ∷ ((pool 0x51), (record { deposit = 5; terms = (record { cost = 18446744073709551615; pledge = 18446744073709551615; margin = (share 0 1); account = (account_on 1 (key 0x11)); key = None }); future = None; retires = None })) ∷ []); dreps = (((key 0x30), (record { deposit = 5; expiry = 20 })) ∷ ((key 0x31), (record { deposit = 5; expiry = 4611686022722355202 })) ∷ []); hot = (((key 0x70), (Hot (key 0x74))) ∷ ((key 0x72), (Hot (key 0x73))) ∷ []); proposals = (resume_of_forged_exact_bounds_proposal_0 ∷ resume_of_forged_exact_bounds_proposal_1 ∷ resume_of_forged_exact_bounds_proposal_2 ∷ resume_of_forged_exact_bounds_proposal_3 ∷ []) }); pending = (Some (record { epoch = 2; from_reserves = 20; from_fees = 3; to_treasury = 8; rewards = (((key 0x10), 10) ∷ ((key 0x11), 5) ∷ []) })); counted = 0; mark = (((pool 0x50), 967) ∷ ((pool 0x51), 33) ∷ []); set = (((pool 0x50), 967) ∷ ((pool 0x51), 33) ∷ []); go = (((pool 0x50), 967) ∷ ((pool 0x51), 33) ∷ []); noted_fees = 1000; frozen = (record { epoch = 2; entries = (((key 0x10), (record { stake = 851; registered = (Some (record { deposit = 2; rewards = 67; pool = (Some (pool 0x50)); drep = (Some (drep.Registered (key 0x30))) })) })) ∷ ((script 0x10), (record { stake = 9; registered = None })) ∷ ((key 0x11), (record { stake = 0; registered = (Some (record { deposit = 2; rewards = 33; pool = (Some (pool 0x51)); drep = (Some (drep.Registered (key 0x31))) })) })) ∷ ((key 0x12), (record { stake = 0; registered = (Some (record { deposit = 2; rewards = 0; pool = None; drep = None })) })) ∷ []); dreps = (((key 0x30), 20) ∷ ((key 0x31), 20) ∷ []); mark = (((pool 0x50), 967) ∷ ((pool 0x51), 33) ∷ []); pool_accounts = (((pool 0x50), (account_on 1 (key 0x12))) ∷ ((pool 0x51), (account_on 1 (key 0x11))) ∷ []); hot = (((key 0x70), (Hot (key 0x71))) ∷ ((key 0x72), (Hot (key 0x73))) ∷ []); proposals = ((record resume_of_forged_exact_bounds_proposal_0 { votes = (((voter.Pool (pool 0x50)), vote.Abstain) ∷ []) }) ∷ (record resume_of_forged_exact_bounds_proposal_1 { votes = (((voter.Committee (key 0x71)), vote.Yes) ∷ ((voter.Drep (key 0x30)), vote.No) ∷ []) }) ∷ (record resume_of_forged_exact_bounds_proposal_2 { votes = [] }) ∷ (record resume_of_forged_exact_bounds_proposal_3 { votes = [] }) ∷ []); start = (record resume_of_forged_exact_bounds_state { treasury = 100 }) }) })
 
 pub resume_of_forged_exact_bounds_shown : is_text (Some (checkpoint_text resume_of_forged_exact_bounds_world 9)) (
     codes "checkpoint 1 line 9 network 1 length 10 counted 0" ∷
@@ -480,7 +480,7 @@ abbrev resume_of_the_greatest_version_proposal_3 : Proposal
 resume_of_the_greatest_version_proposal_3 = (record { id = (action 0x03 0); action = (actions.NoConfidence (Some (action 0x02 0))); deposit = 10; account = (account_on 1 (key 0x12)); expires_after = 20; votes = [] })
 
 abbrev resume_of_the_greatest_version_world : World
-resume_of_the_greatest_version_world = (record { ledger = (record { network = 1; epoch_length = 10; supply = 1000; slot = 21; epoch = 2; dormant = 0; reserves = 635; fees = 35; donations = 10; state = resume_of_the_greatest_version_state; outputs = (((ref 0x01 6), (record { address = (address_with 1 (key 0x01) None); lovelace = 20 })) ∷ ((ref 0x01 7), (record { address = (address_with 1 (key 0x01) (Some (key 0x10))); lovelace = 20 })) ∷ ((ref 0x01 8), (record { address = (address_with 1 (key 0x01) (Some (script 0x10))); lovelace = 9 })) ∷ ((ref 0x05 0), (record { address = (address_with 1 (key 0x01) None); lovelace = 5 })) ∷ []); used = ((tx_id 0x01) ∷ (tx_id 0x02) ∷ (tx_id 0x03) ∷ (tx_id 0x04) ∷ (tx_id 0x05) ∷ []); accounts = (((key 0x10), (record { deposit = 2; rewards = 67; pool = (Some (pool 0x50)); drep = (Some (drep.Registered (key 0x30))) })) ∷ ((key 0x11), (record { deposit = 2; rewards = 33; pool = (Some (pool 0x51)); drep = (Some (drep.Registered (key 0x31))) })) ∷ ((key 0x12), (record { deposit = 2; rewards = 0; pool = None; drep = None })) ∷ []); pools = (((pool 0x50), (record { deposit = 5; terms = (record { cost = 0; pledge = 0; margin = (share 0 1); account = (account_on 1 (key 0x12)); key = None }); future = (Some (record { cost = 1; pledge = 2; margin = (share 1 3); account = (account_on 1 (key 0x12)); key = None })); retires = None })) ∷ ((pool 0x51), (record { deposit = 5; terms = (record { cost = 0; pledge = 0; margin = (share 0 1); account = (account_on 1 (key 0x11)); key = None }); future = None; retires = None })) ∷ []); dreps = (((key 0x30), (record { deposit = 5; expiry = 20 })) ∷ ((key 0x31), (record { deposit = 5; expiry = 22 })) ∷ []); hot = (((key 0x70), (Hot (key 0x74))) ∷ ((key 0x72), (Hot (key 0x73))) ∷ []); proposals = (resume_of_the_greatest_version_proposal_0 ∷ resume_of_the_greatest_version_proposal_1 ∷ resume_of_the_greatest_version_proposal_2 ∷ resume_of_the_greatest_version_proposal_3 ∷ []) }); pending = (Some (record { epoch = 2; from_reserves = 20; from_fees = 3; to_treasury = 8; rewards = (((key 0x10), 10) ∷ ((key 0x11), 5) ∷ []) })); counted = 2; mark = (((pool 0x50), 87) ∷ ((pool 0x51), 33) ∷ []); set = (((pool 0x50), 87) ∷ ((pool 0x51), 33) ∷ []); go = (((pool 0x50), 87) ∷ ((pool 0x51), 33) ∷ []); noted_fees = 30; frozen = (record { epoch = 2; entries = (((key 0x10), (record { stake = 20; registered = (Some (record { deposit = 2; rewards = 67; pool = (Some (pool 0x50)); drep = (Some (drep.Registered (key 0x30))) })) })) ∷ ((script 0x10), (record { stake = 9; registered = None })) ∷ ((key 0x11), (record { stake = 0; registered = (Some (record { deposit = 2; rewards = 33; pool = (Some (pool 0x51)); drep = (Some (drep.Registered (key 0x31))) })) })) ∷ ((key 0x12), (record { stake = 0; registered = (Some (record { deposit = 2; rewards = 0; pool = None; drep = None })) })) ∷ []); dreps = (((key 0x30), 20) ∷ ((key 0x31), 20) ∷ []); mark = (((pool 0x50), 87) ∷ ((pool 0x51), 33) ∷ []); pool_accounts = (((pool 0x50), (account_on 1 (key 0x12))) ∷ ((pool 0x51), (account_on 1 (key 0x11))) ∷ []); hot = (((key 0x70), (Hot (key 0x71))) ∷ ((key 0x72), (Hot (key 0x73))) ∷ []); proposals = ((record resume_of_the_greatest_version_proposal_0 { votes = (((voter.Pool (pool 0x50)), vote.Abstain) ∷ []) }) ∷ (record resume_of_the_greatest_version_proposal_1 { votes = (((voter.Committee (key 0x71)), vote.Yes) ∷ ((voter.Drep (key 0x30)), vote.No) ∷ []) }) ∷ (record resume_of_the_greatest_version_proposal_2 { votes = [] }) ∷ (record resume_of_the_greatest_version_proposal_3 { votes = [] }) ∷ []); start = (record resume_of_the_greatest_version_state { treasury = 100 }) }) })
+resume_of_the_greatest_version_world = (record { ledger = (record { network = 1; epoch_length = 10; supply = 1000; slot = 21; epoch = 2; dormant = 0; reserves = 635; fees = 35; donations = 10; state = resume_of_the_greatest_version_state; outputs = (((ref 0x01 6), (record { address = (address_with 1 (key 0x01) None); lovelace = 20; assets = [] })) ∷ ((ref 0x01 7), (record { address = (address_with 1 (key 0x01) (Some (key 0x10))); lovelace = 20; assets = [] })) ∷ ((ref 0x01 8), (record { address = (address_with 1 (key 0x01) (Some (script 0x10))); lovelace = 9; assets = [] })) ∷ ((ref 0x05 0), (record { address = (address_with 1 (key 0x01) None); lovelace = 5; assets = [] })) ∷ []); used = ((tx_id 0x01) ∷ (tx_id 0x02) ∷ (tx_id 0x03) ∷ (tx_id 0x04) ∷ (tx_id 0x05) ∷ []); accounts = (((key 0x10), (record { deposit = 2; rewards = 67; pool = (Some (pool 0x50)); drep = (Some (drep.Registered (key 0x30))) })) ∷ ((key 0x11), (record { deposit = 2; rewards = 33; pool = (Some (pool 0x51)); drep = (Some (drep.Registered (key 0x31))) })) ∷ ((key 0x12), (record { deposit = 2; rewards = 0; pool = None; drep = None })) ∷ []); pools = (((pool 0x50), (record { deposit = 5; terms = (record { cost = 0; pledge = 0; margin = (share 0 1); account = (account_on 1 (key 0x12)); key = None }); future = (Some (record { cost = 1; pledge = 2; margin = (share 1 3); account = (account_on 1 (key 0x12)); key = None })); retires = None })) ∷ ((pool 0x51), (record { deposit = 5; terms = (record { cost = 0; pledge = 0; margin = (share 0 1); account = (account_on 1 (key 0x11)); key = None }); future = None; retires = None })) ∷ []); dreps = (((key 0x30), (record { deposit = 5; expiry = 20 })) ∷ ((key 0x31), (record { deposit = 5; expiry = 22 })) ∷ []); hot = (((key 0x70), (Hot (key 0x74))) ∷ ((key 0x72), (Hot (key 0x73))) ∷ []); proposals = (resume_of_the_greatest_version_proposal_0 ∷ resume_of_the_greatest_version_proposal_1 ∷ resume_of_the_greatest_version_proposal_2 ∷ resume_of_the_greatest_version_proposal_3 ∷ []) }); pending = (Some (record { epoch = 2; from_reserves = 20; from_fees = 3; to_treasury = 8; rewards = (((key 0x10), 10) ∷ ((key 0x11), 5) ∷ []) })); counted = 2; mark = (((pool 0x50), 87) ∷ ((pool 0x51), 33) ∷ []); set = (((pool 0x50), 87) ∷ ((pool 0x51), 33) ∷ []); go = (((pool 0x50), 87) ∷ ((pool 0x51), 33) ∷ []); noted_fees = 30; frozen = (record { epoch = 2; entries = (((key 0x10), (record { stake = 20; registered = (Some (record { deposit = 2; rewards = 67; pool = (Some (pool 0x50)); drep = (Some (drep.Registered (key 0x30))) })) })) ∷ ((script 0x10), (record { stake = 9; registered = None })) ∷ ((key 0x11), (record { stake = 0; registered = (Some (record { deposit = 2; rewards = 33; pool = (Some (pool 0x51)); drep = (Some (drep.Registered (key 0x31))) })) })) ∷ ((key 0x12), (record { stake = 0; registered = (Some (record { deposit = 2; rewards = 0; pool = None; drep = None })) })) ∷ []); dreps = (((key 0x30), 20) ∷ ((key 0x31), 20) ∷ []); mark = (((pool 0x50), 87) ∷ ((pool 0x51), 33) ∷ []); pool_accounts = (((pool 0x50), (account_on 1 (key 0x12))) ∷ ((pool 0x51), (account_on 1 (key 0x11))) ∷ []); hot = (((key 0x70), (Hot (key 0x71))) ∷ ((key 0x72), (Hot (key 0x73))) ∷ []); proposals = ((record resume_of_the_greatest_version_proposal_0 { votes = (((voter.Pool (pool 0x50)), vote.Abstain) ∷ []) }) ∷ (record resume_of_the_greatest_version_proposal_1 { votes = (((voter.Committee (key 0x71)), vote.Yes) ∷ ((voter.Drep (key 0x30)), vote.No) ∷ []) }) ∷ (record resume_of_the_greatest_version_proposal_2 { votes = [] }) ∷ (record resume_of_the_greatest_version_proposal_3 { votes = [] }) ∷ []); start = (record resume_of_the_greatest_version_state { treasury = 100 }) }) })
 
 pub resume_of_the_greatest_version_shown : is_text (Some (checkpoint_text resume_of_the_greatest_version_world 9)) (
     codes "checkpoint 1 line 9 network 1 length 10 counted 2" ∷
@@ -621,7 +621,7 @@ abbrev resume_of_forged_dormant_counts_state : EnactState
 resume_of_forged_dormant_counts_state = (record { params = base_params; version = (10, 0); committee = (Some (record { threshold = (share 0 1); members = (((key 0x70), 100) ∷ []) })); document = (h32 0x01); script = None; last = (record { committee = None; constitution = None; hardfork = None; parameters = None }); treasury = 100 })
 
 abbrev resume_of_forged_dormant_counts_world : World
-resume_of_forged_dormant_counts_world = (record { ledger = (record { network = 1; epoch_length = 10; supply = 1000; slot = 120; epoch = 12; dormant = 12; reserves = 579; fees = 0; donations = 0; state = resume_of_forged_dormant_counts_state; outputs = (((ref 0x01 0), (record { address = (address_with 1 (key 0x01) None); lovelace = 20 })) ∷ ((ref 0x01 1), (record { address = (address_with 1 (key 0x01) None); lovelace = 20 })) ∷ ((ref 0x01 2), (record { address = (address_with 1 (key 0x01) None); lovelace = 20 })) ∷ ((ref 0x01 3), (record { address = (address_with 1 (key 0x01) None); lovelace = 20 })) ∷ ((ref 0x01 4), (record { address = (address_with 1 (key 0x01) None); lovelace = 20 })) ∷ ((ref 0x01 5), (record { address = (address_with 1 (key 0x01) None); lovelace = 20 })) ∷ ((ref 0x01 6), (record { address = (address_with 1 (key 0x01) None); lovelace = 20 })) ∷ ((ref 0x01 7), (record { address = (address_with 1 (key 0x01) None); lovelace = 20 })) ∷ ((ref 0x01 8), (record { address = (address_with 1 (key 0x01) None); lovelace = 20 })) ∷ ((ref 0x01 9), (record { address = (address_with 1 (key 0x01) None); lovelace = 20 })) ∷ []); used = ((tx_id 0x01) ∷ []); accounts = (((key 0x10), (record { deposit = 2; rewards = 67; pool = None; drep = (Some (drep.Registered (key 0x30))) })) ∷ ((key 0x11), (record { deposit = 2; rewards = 33; pool = None; drep = (Some (drep.Registered (key 0x31))) })) ∷ ((key 0x12), (record { deposit = 2; rewards = 0; pool = None; drep = None })) ∷ []); pools = (((pool 0x50), (record { deposit = 5; terms = (record { cost = 0; pledge = 0; margin = (share 0 1); account = (account_on 1 (key 0x12)); key = None }); future = None; retires = None })) ∷ []); dreps = (((key 0x30), (record { deposit = 5; expiry = 4611686022722355200 })) ∷ ((key 0x31), (record { deposit = 5; expiry = 20 })) ∷ []); hot = (((key 0x70), (Hot (key 0x71))) ∷ []); proposals = [] }); pending = None; counted = 1; mark = (((pool 0x50), 0) ∷ []); set = (((pool 0x50), 0) ∷ []); go = (((pool 0x50), 0) ∷ []); noted_fees = 0; frozen = (record { epoch = 12; entries = (((key 0x10), (record { stake = 0; registered = (Some (record { deposit = 2; rewards = 67; pool = None; drep = (Some (drep.Registered (key 0x30))) })) })) ∷ ((key 0x11), (record { stake = 0; registered = (Some (record { deposit = 2; rewards = 33; pool = None; drep = (Some (drep.Registered (key 0x31))) })) })) ∷ ((key 0x12), (record { stake = 0; registered = (Some (record { deposit = 2; rewards = 0; pool = None; drep = None })) })) ∷ []); dreps = (((key 0x30), 20) ∷ ((key 0x31), 20) ∷ []); mark = (((pool 0x50), 0) ∷ []); pool_accounts = (((pool 0x50), (account_on 1 (key 0x12))) ∷ []); hot = (((key 0x70), (Hot (key 0x71))) ∷ []); proposals = []; start = (record resume_of_forged_dormant_counts_state { treasury = 100 }) }) })
+resume_of_forged_dormant_counts_world = (record { ledger = (record { network = 1; epoch_length = 10; supply = 1000; slot = 120; epoch = 12; dormant = 12; reserves = 579; fees = 0; donations = 0; state = resume_of_forged_dormant_counts_state; outputs = (((ref 0x01 0), (record { address = (address_with 1 (key 0x01) None); lovelace = 20; assets = [] })) ∷ ((ref 0x01 1), (record { address = (address_with 1 (key 0x01) None); lovelace = 20; assets = [] })) ∷ ((ref 0x01 2), (record { address = (address_with 1 (key 0x01) None); lovelace = 20; assets = [] })) ∷ ((ref 0x01 3), (record { address = (address_with 1 (key 0x01) None); lovelace = 20; assets = [] })) ∷ ((ref 0x01 4), (record { address = (address_with 1 (key 0x01) None); lovelace = 20; assets = [] })) ∷ ((ref 0x01 5), (record { address = (address_with 1 (key 0x01) None); lovelace = 20; assets = [] })) ∷ ((ref 0x01 6), (record { address = (address_with 1 (key 0x01) None); lovelace = 20; assets = [] })) ∷ ((ref 0x01 7), (record { address = (address_with 1 (key 0x01) None); lovelace = 20; assets = [] })) ∷ ((ref 0x01 8), (record { address = (address_with 1 (key 0x01) None); lovelace = 20; assets = [] })) ∷ ((ref 0x01 9), (record { address = (address_with 1 (key 0x01) None); lovelace = 20; assets = [] })) ∷ []); used = ((tx_id 0x01) ∷ []); accounts = (((key 0x10), (record { deposit = 2; rewards = 67; pool = None; drep = (Some (drep.Registered (key 0x30))) })) ∷ ((key 0x11), (record { deposit = 2; rewards = 33; pool = None; drep = (Some (drep.Registered (key 0x31))) })) ∷ ((key 0x12), (record { deposit = 2; rewards = 0; pool = None; drep = None })) ∷ []); pools = (((pool 0x50), (record { deposit = 5; terms = (record { cost = 0; pledge = 0; margin = (share 0 1); account = (account_on 1 (key 0x12)); key = None }); future = None; retires = None })) ∷ []); dreps = (((key 0x30), (record { deposit = 5; expiry = 4611686022722355200 })) ∷ ((key 0x31), (record { deposit = 5; expiry = 20 })) ∷ []); hot = (((key 0x70), (Hot (key 0x71))) ∷ []); proposals = [] }); pending = None; counted = 1; mark = (((pool 0x50), 0) ∷ []); set = (((pool 0x50), 0) ∷ []); go = (((pool 0x50), 0) ∷ []); noted_fees = 0; frozen = (record { epoch = 12; entries = (((key 0x10), (record { stake = 0; registered = (Some (record { deposit = 2; rewards = 67; pool = None; drep = (Some (drep.Registered (key 0x30))) })) })) ∷ ((key 0x11), (record { stake = 0; registered = (Some (record { deposit = 2; rewards = 33; pool = None; drep = (Some (drep.Registered (key 0x31))) })) })) ∷ ((key 0x12), (record { stake = 0; registered = (Some (record { deposit = 2; rewards = 0; pool = None; drep = None })) })) ∷ []); dreps = (((key 0x30), 20) ∷ ((key 0x31), 20) ∷ []); mark = (((pool 0x50), 0) ∷ []); pool_accounts = (((pool 0x50), (account_on 1 (key 0x12))) ∷ []); hot = (((key 0x70), (Hot (key 0x71))) ∷ []); proposals = []; start = (record resume_of_forged_dormant_counts_state { treasury = 100 }) }) })
 
 pub resume_of_forged_dormant_counts_shown : is_text (Some (checkpoint_text resume_of_forged_dormant_counts_world 4)) (
     codes "checkpoint 1 line 4 network 1 length 10 counted 1" ∷

@@ -21,7 +21,7 @@ abbrev keys_shared_when_version_eleven_starts_resume_8_state : EnactState
 keys_shared_when_version_eleven_starts_resume_8_state = (record { params = base_params; version = (11, 0); committee = (Some (record { threshold = (share 0 1); members = (((key 0x70), 100) ∷ []) })); document = (h32 0x01); script = None; last = (record { committee = None; constitution = None; hardfork = (Some (action 0x02 0)); parameters = None }); treasury = 100 })
 
 abbrev keys_shared_when_version_eleven_starts_resume_8_world : World
-keys_shared_when_version_eleven_starts_resume_8_world = (record { ledger = (record { network = 1; epoch_length = 10; supply = 1000; slot = 20; epoch = 2; dormant = 1; reserves = 624; fees = 40; donations = 0; state = keys_shared_when_version_eleven_starts_resume_8_state; outputs = (((ref 0x01 5), (record { address = (address_with 1 (key 0x01) None); lovelace = 20 })) ∷ ((ref 0x01 6), (record { address = (address_with 1 (key 0x01) None); lovelace = 20 })) ∷ ((ref 0x01 7), (record { address = (address_with 1 (key 0x01) None); lovelace = 20 })) ∷ ((ref 0x01 8), (record { address = (address_with 1 (key 0x01) None); lovelace = 20 })) ∷ []); used = ((tx_id 0x01) ∷ (tx_id 0x02) ∷ (tx_id 0x03) ∷ (tx_id 0x04) ∷ []); accounts = (((key 0x10), (record { deposit = 2; rewards = 67; pool = None; drep = (Some (drep.Registered (key 0x30))) })) ∷ ((key 0x11), (record { deposit = 2; rewards = 33; pool = None; drep = (Some (drep.Registered (key 0x31))) })) ∷ ((key 0x12), (record { deposit = 2; rewards = 10; pool = None; drep = None })) ∷ []); pools = (((pool 0x48), (record { deposit = 5; terms = (record { cost = 0; pledge = 0; margin = (share 0 1); account = (account_on 1 (key 0x12)); key = (Some (h32 0x04)) }); future = None; retires = None })) ∷ ((pool 0x49), (record { deposit = 5; terms = (record { cost = 0; pledge = 0; margin = (share 0 1); account = (account_on 1 (key 0x12)); key = (Some (h32 0x03)) }); future = None; retires = None })) ∷ ((pool 0x50), (record { deposit = 5; terms = (record { cost = 0; pledge = 0; margin = (share 0 1); account = (account_on 1 (key 0x12)); key = (Some (h32 0x07)) }); future = None; retires = None })) ∷ ((pool 0x51), (record { deposit = 5; terms = (record { cost = 0; pledge = 0; margin = (share 0 1); account = (account_on 1 (key 0x12)); key = (Some (h32 0x07)) }); future = None; retires = None })) ∷ ((pool 0x52), (record { deposit = 5; terms = (record { cost = 0; pledge = 0; margin = (share 0 1); account = (account_on 1 (key 0x12)); key = (Some (h32 0x07)) }); future = None; retires = None })) ∷ ((pool 0x53), (record { deposit = 5; terms = (record { cost = 0; pledge = 0; margin = (share 0 1); account = (account_on 1 (key 0x12)); key = (Some (h32 0x07)) }); future = None; retires = None })) ∷ []); dreps = (((key 0x30), (record { deposit = 5; expiry = 20 })) ∷ ((key 0x31), (record { deposit = 5; expiry = 20 })) ∷ []); hot = (((key 0x70), (Hot (key 0x71))) ∷ []); proposals = [] }); pending = None; counted = 1; mark = (((pool 0x48), 0) ∷ ((pool 0x49), 0) ∷ ((pool 0x50), 0) ∷ ((pool 0x51), 0) ∷ ((pool 0x52), 0) ∷ ((pool 0x53), 0) ∷ []); set = (((pool 0x48), 0) ∷ ((pool 0x49), 0) ∷ ((pool 0x50), 0) ∷ ((pool 0x51), 0) ∷ ((pool 0x52), 0) ∷ ((pool 0x53), 0) ∷ []); go = (((pool 0x48), 0) ∷ ((pool 0x49), 0) ∷ ((pool 0x50), 0) ∷ ((pool 0x51), 0) ∷ []); noted_fees = 40; frozen = (record { epoch = 2; entries = (((key 0x10), (record { stake = 0; registered = (Some (record { deposit = 2; rewards = 67; pool = None; drep = (Some (drep.Registered (key 0x30))) })) })) ∷ ((key 0x11), (record { stake = 0; registered = (Some (record { deposit = 2; rewards = 33; pool = None; drep = (Some (drep.Registered (key 0x31))) })) })) ∷ ((key 0x12), (record { stake = 0; registered = (Some (record { deposit = 2; rewards = 10; pool = None; drep = None })) })) ∷ []); dreps = (((key 0x30), 20) ∷ ((key 0x31), 20) ∷ []); mark = (((pool 0x48), 0) ∷ ((pool 0x49), 0) ∷ ((pool 0x50), 0) ∷ ((pool 0x51), 0) ∷ ((pool 0x52), 0) ∷ ((pool 0x53), 0) ∷ []); pool_accounts = (((pool 0x48), (account_on 1 (key 0x12))) ∷ ((pool 0x49), (account_on 1 (key 0x12))) ∷ ((pool 0x50), (account_on 1 (key 0x12))) ∷ ((pool 0x51), (account_on 1 (key 0x12))) ∷ ((pool 0x52), (account_on 1 (key 0x12))) ∷ ((pool 0x53), (account_on 1 (key 0x12))) ∷ []); hot = (((key 0x70), (Hot (key 0x71))) ∷ []); proposals = []; start = (record keys_shared_when_version_eleven_starts_resume_8_state { treasury = 100 }) }) })
+keys_shared_when_version_eleven_starts_resume_8_world = (record { ledger = (record { network = 1; epoch_length = 10; supply = 1000; slot = 20; epoch = 2; dormant = 1; reserves = 624; fees = 40; donations = 0; state = keys_shared_when_version_eleven_starts_resume_8_state; outputs = (((ref 0x01 5), (record { address = (address_with 1 (key 0x01) None); lovelace = 20; assets = [] })) ∷ ((ref 0x01 6), (record { address = (address_with 1 (key 0x01) None); lovelace = 20; assets = [] })) ∷ ((ref 0x01 7), (record { address = (address_with 1 (key 0x01) None); lovelace = 20; assets = [] })) ∷ ((ref 0x01 8), (record { address = (address_with 1 (key 0x01) None); lovelace = 20; assets = [] })) ∷ []); used = ((tx_id 0x01) ∷ (tx_id 0x02) ∷ (tx_id 0x03) ∷ (tx_id 0x04) ∷ []); accounts = (((key 0x10), (record { deposit = 2; rewards = 67; pool = None; drep = (Some (drep.Registered (key 0x30))) })) ∷ ((key 0x11), (record { deposit = 2; rewards = 33; pool = None; drep = (Some (drep.Registered (key 0x31))) })) ∷ ((key 0x12), (record { deposit = 2; rewards = 10; pool = None; drep = None })) ∷ []); pools = (((pool 0x48), (record { deposit = 5; terms = (record { cost = 0; pledge = 0; margin = (share 0 1); account = (account_on 1 (key 0x12)); key = (Some (h32 0x04)) }); future = None; retires = None })) ∷ ((pool 0x49), (record { deposit = 5; terms = (record { cost = 0; pledge = 0; margin = (share 0 1); account = (account_on 1 (key 0x12)); key = (Some (h32 0x03)) }); future = None; retires = None })) ∷ ((pool 0x50), (record { deposit = 5; terms = (record { cost = 0; pledge = 0; margin = (share 0 1); account = (account_on 1 (key 0x12)); key = (Some (h32 0x07)) }); future = None; retires = None })) ∷ ((pool 0x51), (record { deposit = 5; terms = (record { cost = 0; pledge = 0; margin = (share 0 1); account = (account_on 1 (key 0x12)); key = (Some (h32 0x07)) }); future = None; retires = None })) ∷ ((pool 0x52), (record { deposit = 5; terms = (record { cost = 0; pledge = 0; margin = (share 0 1); account = (account_on 1 (key 0x12)); key = (Some (h32 0x07)) }); future = None; retires = None })) ∷ ((pool 0x53), (record { deposit = 5; terms = (record { cost = 0; pledge = 0; margin = (share 0 1); account = (account_on 1 (key 0x12)); key = (Some (h32 0x07)) }); future = None; retires = None })) ∷ []); dreps = (((key 0x30), (record { deposit = 5; expiry = 20 })) ∷ ((key 0x31), (record { deposit = 5; expiry = 20 })) ∷ []); hot = (((key 0x70), (Hot (key 0x71))) ∷ []); proposals = [] }); pending = None; counted = 1; mark = (((pool 0x48), 0) ∷ ((pool 0x49), 0) ∷ ((pool 0x50), 0) ∷ ((pool 0x51), 0) ∷ ((pool 0x52), 0) ∷ ((pool 0x53), 0) ∷ []); set = (((pool 0x48), 0) ∷ ((pool 0x49), 0) ∷ ((pool 0x50), 0) ∷ ((pool 0x51), 0) ∷ ((pool 0x52), 0) ∷ ((pool 0x53), 0) ∷ []); go = (((pool 0x48), 0) ∷ ((pool 0x49), 0) ∷ ((pool 0x50), 0) ∷ ((pool 0x51), 0) ∷ []); noted_fees = 40; frozen = (record { epoch = 2; entries = (((key 0x10), (record { stake = 0; registered = (Some (record { deposit = 2; rewards = 67; pool = None; drep = (Some (drep.Registered (key 0x30))) })) })) ∷ ((key 0x11), (record { stake = 0; registered = (Some (record { deposit = 2; rewards = 33; pool = None; drep = (Some (drep.Registered (key 0x31))) })) })) ∷ ((key 0x12), (record { stake = 0; registered = (Some (record { deposit = 2; rewards = 10; pool = None; drep = None })) })) ∷ []); dreps = (((key 0x30), 20) ∷ ((key 0x31), 20) ∷ []); mark = (((pool 0x48), 0) ∷ ((pool 0x49), 0) ∷ ((pool 0x50), 0) ∷ ((pool 0x51), 0) ∷ ((pool 0x52), 0) ∷ ((pool 0x53), 0) ∷ []); pool_accounts = (((pool 0x48), (account_on 1 (key 0x12))) ∷ ((pool 0x49), (account_on 1 (key 0x12))) ∷ ((pool 0x50), (account_on 1 (key 0x12))) ∷ ((pool 0x51), (account_on 1 (key 0x12))) ∷ ((pool 0x52), (account_on 1 (key 0x12))) ∷ ((pool 0x53), (account_on 1 (key 0x12))) ∷ []); hot = (((key 0x70), (Hot (key 0x71))) ∷ []); proposals = []; start = (record keys_shared_when_version_eleven_starts_resume_8_state { treasury = 100 }) }) })
 
 pub keys_shared_when_version_eleven_starts_resume_8_shown : is_text (Some (checkpoint_text keys_shared_when_version_eleven_starts_resume_8_world 8)) (
     codes "checkpoint 1 line 8 network 1 length 10 counted 1" ∷
@@ -294,7 +294,7 @@ abbrev keys_shared_when_version_eleven_starts_resume_14_state : EnactState
 keys_shared_when_version_eleven_starts_resume_14_state = (record { params = base_params; version = (11, 0); committee = (Some (record { threshold = (share 0 1); members = (((key 0x70), 100) ∷ []) })); document = (h32 0x01); script = None; last = (record { committee = None; constitution = None; hardfork = (Some (action 0x02 0)); parameters = None }); treasury = 100 })
 
 abbrev keys_shared_when_version_eleven_starts_resume_14_world : World
-keys_shared_when_version_eleven_starts_resume_14_world = (record { ledger = (record { network = 1; epoch_length = 10; supply = 1000; slot = 30; epoch = 3; dormant = 2; reserves = 624; fees = 80; donations = 0; state = keys_shared_when_version_eleven_starts_resume_14_state; outputs = (((ref 0x01 7), (record { address = (address_with 1 (key 0x01) None); lovelace = 20 })) ∷ ((ref 0x01 8), (record { address = (address_with 1 (key 0x01) None); lovelace = 20 })) ∷ []); used = ((tx_id 0x01) ∷ (tx_id 0x02) ∷ (tx_id 0x03) ∷ (tx_id 0x04) ∷ (tx_id 0x05) ∷ (tx_id 0x06) ∷ []); accounts = (((key 0x10), (record { deposit = 2; rewards = 67; pool = None; drep = (Some (drep.Registered (key 0x30))) })) ∷ ((key 0x11), (record { deposit = 2; rewards = 33; pool = None; drep = (Some (drep.Registered (key 0x31))) })) ∷ ((key 0x12), (record { deposit = 2; rewards = 10; pool = None; drep = None })) ∷ []); pools = (((pool 0x48), (record { deposit = 5; terms = (record { cost = 0; pledge = 0; margin = (share 0 1); account = (account_on 1 (key 0x12)); key = (Some (h32 0x04)) }); future = None; retires = None })) ∷ ((pool 0x49), (record { deposit = 5; terms = (record { cost = 0; pledge = 0; margin = (share 0 1); account = (account_on 1 (key 0x12)); key = (Some (h32 0x03)) }); future = None; retires = None })) ∷ ((pool 0x50), (record { deposit = 5; terms = (record { cost = 0; pledge = 0; margin = (share 0 1); account = (account_on 1 (key 0x12)); key = (Some (h32 0x08)) }); future = None; retires = None })) ∷ ((pool 0x51), (record { deposit = 5; terms = (record { cost = 0; pledge = 0; margin = (share 0 1); account = (account_on 1 (key 0x12)); key = (Some (h32 0x09)) }); future = None; retires = None })) ∷ ((pool 0x52), (record { deposit = 5; terms = (record { cost = 0; pledge = 0; margin = (share 0 1); account = (account_on 1 (key 0x12)); key = None }); future = None; retires = None })) ∷ ((pool 0x53), (record { deposit = 5; terms = (record { cost = 0; pledge = 0; margin = (share 0 1); account = (account_on 1 (key 0x12)); key = (Some (h32 0x07)) }); future = None; retires = None })) ∷ []); dreps = (((key 0x30), (record { deposit = 5; expiry = 20 })) ∷ ((key 0x31), (record { deposit = 5; expiry = 20 })) ∷ []); hot = (((key 0x70), (Hot (key 0x71))) ∷ []); proposals = [] }); pending = None; counted = 1; mark = (((pool 0x48), 0) ∷ ((pool 0x49), 0) ∷ ((pool 0x50), 0) ∷ ((pool 0x51), 0) ∷ ((pool 0x52), 0) ∷ ((pool 0x53), 0) ∷ []); set = (((pool 0x48), 0) ∷ ((pool 0x49), 0) ∷ ((pool 0x50), 0) ∷ ((pool 0x51), 0) ∷ ((pool 0x52), 0) ∷ ((pool 0x53), 0) ∷ []); go = (((pool 0x48), 0) ∷ ((pool 0x49), 0) ∷ ((pool 0x50), 0) ∷ ((pool 0x51), 0) ∷ ((pool 0x52), 0) ∷ ((pool 0x53), 0) ∷ []); noted_fees = 80; frozen = (record { epoch = 3; entries = (((key 0x10), (record { stake = 0; registered = (Some (record { deposit = 2; rewards = 67; pool = None; drep = (Some (drep.Registered (key 0x30))) })) })) ∷ ((key 0x11), (record { stake = 0; registered = (Some (record { deposit = 2; rewards = 33; pool = None; drep = (Some (drep.Registered (key 0x31))) })) })) ∷ ((key 0x12), (record { stake = 0; registered = (Some (record { deposit = 2; rewards = 10; pool = None; drep = None })) })) ∷ []); dreps = (((key 0x30), 20) ∷ ((key 0x31), 20) ∷ []); mark = (((pool 0x48), 0) ∷ ((pool 0x49), 0) ∷ ((pool 0x50), 0) ∷ ((pool 0x51), 0) ∷ ((pool 0x52), 0) ∷ ((pool 0x53), 0) ∷ []); pool_accounts = (((pool 0x48), (account_on 1 (key 0x12))) ∷ ((pool 0x49), (account_on 1 (key 0x12))) ∷ ((pool 0x50), (account_on 1 (key 0x12))) ∷ ((pool 0x51), (account_on 1 (key 0x12))) ∷ ((pool 0x52), (account_on 1 (key 0x12))) ∷ ((pool 0x53), (account_on 1 (key 0x12))) ∷ []); hot = (((key 0x70), (Hot (key 0x71))) ∷ []); proposals = []; start = (record keys_shared_when_version_eleven_starts_resume_14_state { treasury = 100 }) }) })
+keys_shared_when_version_eleven_starts_resume_14_world = (record { ledger = (record { network = 1; epoch_length = 10; supply = 1000; slot = 30; epoch = 3; dormant = 2; reserves = 624; fees = 80; donations = 0; state = keys_shared_when_version_eleven_starts_resume_14_state; outputs = (((ref 0x01 7), (record { address = (address_with 1 (key 0x01) None); lovelace = 20; assets = [] })) ∷ ((ref 0x01 8), (record { address = (address_with 1 (key 0x01) None); lovelace = 20; assets = [] })) ∷ []); used = ((tx_id 0x01) ∷ (tx_id 0x02) ∷ (tx_id 0x03) ∷ (tx_id 0x04) ∷ (tx_id 0x05) ∷ (tx_id 0x06) ∷ []); accounts = (((key 0x10), (record { deposit = 2; rewards = 67; pool = None; drep = (Some (drep.Registered (key 0x30))) })) ∷ ((key 0x11), (record { deposit = 2; rewards = 33; pool = None; drep = (Some (drep.Registered (key 0x31))) })) ∷ ((key 0x12), (record { deposit = 2; rewards = 10; pool = None; drep = None })) ∷ []); pools = (((pool 0x48), (record { deposit = 5; terms = (record { cost = 0; pledge = 0; margin = (share 0 1); account = (account_on 1 (key 0x12)); key = (Some (h32 0x04)) }); future = None; retires = None })) ∷ ((pool 0x49), (record { deposit = 5; terms = (record { cost = 0; pledge = 0; margin = (share 0 1); account = (account_on 1 (key 0x12)); key = (Some (h32 0x03)) }); future = None; retires = None })) ∷ ((pool 0x50), (record { deposit = 5; terms = (record { cost = 0; pledge = 0; margin = (share 0 1); account = (account_on 1 (key 0x12)); key = (Some (h32 0x08)) }); future = None; retires = None })) ∷ ((pool 0x51), (record { deposit = 5; terms = (record { cost = 0; pledge = 0; margin = (share 0 1); account = (account_on 1 (key 0x12)); key = (Some (h32 0x09)) }); future = None; retires = None })) ∷ ((pool 0x52), (record { deposit = 5; terms = (record { cost = 0; pledge = 0; margin = (share 0 1); account = (account_on 1 (key 0x12)); key = None }); future = None; retires = None })) ∷ ((pool 0x53), (record { deposit = 5; terms = (record { cost = 0; pledge = 0; margin = (share 0 1); account = (account_on 1 (key 0x12)); key = (Some (h32 0x07)) }); future = None; retires = None })) ∷ []); dreps = (((key 0x30), (record { deposit = 5; expiry = 20 })) ∷ ((key 0x31), (record { deposit = 5; expiry = 20 })) ∷ []); hot = (((key 0x70), (Hot (key 0x71))) ∷ []); proposals = [] }); pending = None; counted = 1; mark = (((pool 0x48), 0) ∷ ((pool 0x49), 0) ∷ ((pool 0x50), 0) ∷ ((pool 0x51), 0) ∷ ((pool 0x52), 0) ∷ ((pool 0x53), 0) ∷ []); set = (((pool 0x48), 0) ∷ ((pool 0x49), 0) ∷ ((pool 0x50), 0) ∷ ((pool 0x51), 0) ∷ ((pool 0x52), 0) ∷ ((pool 0x53), 0) ∷ []); go = (((pool 0x48), 0) ∷ ((pool 0x49), 0) ∷ ((pool 0x50), 0) ∷ ((pool 0x51), 0) ∷ ((pool 0x52), 0) ∷ ((pool 0x53), 0) ∷ []); noted_fees = 80; frozen = (record { epoch = 3; entries = (((key 0x10), (record { stake = 0; registered = (Some (record { deposit = 2; rewards = 67; pool = None; drep = (Some (drep.Registered (key 0x30))) })) })) ∷ ((key 0x11), (record { stake = 0; registered = (Some (record { deposit = 2; rewards = 33; pool = None; drep = (Some (drep.Registered (key 0x31))) })) })) ∷ ((key 0x12), (record { stake = 0; registered = (Some (record { deposit = 2; rewards = 10; pool = None; drep = None })) })) ∷ []); dreps = (((key 0x30), 20) ∷ ((key 0x31), 20) ∷ []); mark = (((pool 0x48), 0) ∷ ((pool 0x49), 0) ∷ ((pool 0x50), 0) ∷ ((pool 0x51), 0) ∷ ((pool 0x52), 0) ∷ ((pool 0x53), 0) ∷ []); pool_accounts = (((pool 0x48), (account_on 1 (key 0x12))) ∷ ((pool 0x49), (account_on 1 (key 0x12))) ∷ ((pool 0x50), (account_on 1 (key 0x12))) ∷ ((pool 0x51), (account_on 1 (key 0x12))) ∷ ((pool 0x52), (account_on 1 (key 0x12))) ∷ ((pool 0x53), (account_on 1 (key 0x12))) ∷ []); hot = (((key 0x70), (Hot (key 0x71))) ∷ []); proposals = []; start = (record keys_shared_when_version_eleven_starts_resume_14_state { treasury = 100 }) }) })
 
 pub keys_shared_when_version_eleven_starts_resume_14_shown : is_text (Some (checkpoint_text keys_shared_when_version_eleven_starts_resume_14_world 14)) (
     codes "checkpoint 1 line 14 network 1 length 10 counted 1" ∷

@@ -147,7 +147,7 @@ abbrev resume_after_enactments_proposal_1 : Proposal
 resume_after_enactments_proposal_1 = (record { id = (action 0x06 0); action = (actions.UpdateCommittee (Some (action 0x04 0)) [] (((key 0x60), 50) ∷ ((script 0x60), 40) ∷ []) (share 0 7)); deposit = 10; account = (account_on 1 (key 0x12)); expires_after = 6; votes = [] })
 
 abbrev resume_after_enactments_world : World
-resume_after_enactments_world = (record { ledger = (record { network = 1; epoch_length = 10; supply = 1200; slot = 55; epoch = 5; dormant = 0; reserves = 709; fees = 60; donations = 0; state = resume_after_enactments_state; outputs = (((ref 0x01 7), (record { address = (address_with 1 (key 0x01) None); lovelace = 20 })) ∷ ((ref 0x01 8), (record { address = (address_with 1 (key 0x01) None); lovelace = 20 })) ∷ ((ref 0x01 9), (record { address = (address_with 1 (key 0x01) None); lovelace = 20 })) ∷ ((ref 0x01 10), (record { address = (address_with 1 (key 0x01) None); lovelace = 20 })) ∷ ((ref 0x01 11), (record { address = (address_with 1 (key 0x01) None); lovelace = 20 })) ∷ ((ref 0x01 12), (record { address = (address_with 1 (key 0x01) None); lovelace = 20 })) ∷ ((ref 0x01 13), (record { address = (address_with 1 (key 0x01) None); lovelace = 20 })) ∷ []); used = ((tx_id 0x01) ∷ (tx_id 0x02) ∷ (tx_id 0x03) ∷ (tx_id 0x04) ∷ (tx_id 0x05) ∷ (tx_id 0x06) ∷ []); accounts = (((key 0x10), (record { deposit = 2; rewards = 67; pool = None; drep = (Some (drep.Registered (key 0x30))) })) ∷ ((key 0x11), (record { deposit = 2; rewards = 53; pool = None; drep = (Some (drep.Registered (key 0x31))) })) ∷ ((key 0x12), (record { deposit = 2; rewards = 25; pool = None; drep = None })) ∷ []); pools = []; dreps = (((key 0x30), (record { deposit = 5; expiry = 21 })) ∷ ((key 0x31), (record { deposit = 5; expiry = 21 })) ∷ []); hot = []; proposals = (resume_after_enactments_proposal_0 ∷ resume_after_enactments_proposal_1 ∷ []) }); pending = None; counted = 1; mark = []; set = []; go = []; noted_fees = 60; frozen = (record { epoch = 5; entries = (((key 0x10), (record { stake = 0; registered = (Some (record { deposit = 2; rewards = 67; pool = None; drep = (Some (drep.Registered (key 0x30))) })) })) ∷ ((key 0x11), (record { stake = 0; registered = (Some (record { deposit = 2; rewards = 53; pool = None; drep = (Some (drep.Registered (key 0x31))) })) })) ∷ ((key 0x12), (record { stake = 0; registered = (Some (record { deposit = 2; rewards = 25; pool = None; drep = None })) })) ∷ []); dreps = (((key 0x30), 21) ∷ ((key 0x31), 21) ∷ []); mark = []; pool_accounts = []; hot = []; proposals = ((record resume_after_enactments_proposal_0 { votes = [] }) ∷ (record resume_after_enactments_proposal_1 { votes = [] }) ∷ []); start = (record resume_after_enactments_state { treasury = 110 }) }) })
+resume_after_enactments_world = (record { ledger = (record { network = 1; epoch_length = 10; supply = 1200; slot = 55; epoch = 5; dormant = 0; reserves = 709; fees = 60; donations = 0; state = resume_after_enactments_state; outputs = (((ref 0x01 7), (record { address = (address_with 1 (key 0x01) None); lovelace = 20; assets = [] })) ∷ ((ref 0x01 8), (record { address = (address_with 1 (key 0x01) None); lovelace = 20; assets = [] })) ∷ ((ref 0x01 9), (record { address = (address_with 1 (key 0x01) None); lovelace = 20; assets = [] })) ∷ ((ref 0x01 10), (record { address = (address_with 1 (key 0x01) None); lovelace = 20; assets = [] })) ∷ ((ref 0x01 11), (record { address = (address_with 1 (key 0x01) None); lovelace = 20; assets = [] })) ∷ ((ref 0x01 12), (record { address = (address_with 1 (key 0x01) None); lovelace = 20; assets = [] })) ∷ ((ref 0x01 13), (record { address = (address_with 1 (key 0x01) None); lovelace = 20; assets = [] })) ∷ []); used = ((tx_id 0x01) ∷ (tx_id 0x02) ∷ (tx_id 0x03) ∷ (tx_id 0x04) ∷ (tx_id 0x05) ∷ (tx_id 0x06) ∷ []); accounts = (((key 0x10), (record { deposit = 2; rewards = 67; pool = None; drep = (Some (drep.Registered (key 0x30))) })) ∷ ((key 0x11), (record { deposit = 2; rewards = 53; pool = None; drep = (Some (drep.Registered (key 0x31))) })) ∷ ((key 0x12), (record { deposit = 2; rewards = 25; pool = None; drep = None })) ∷ []); pools = []; dreps = (((key 0x30), (record { deposit = 5; expiry = 21 })) ∷ ((key 0x31), (record { deposit = 5; expiry = 21 })) ∷ []); hot = []; proposals = (resume_after_enactments_proposal_0 ∷ resume_after_enactments_proposal_1 ∷ []) }); pending = None; counted = 1; mark = []; set = []; go = []; noted_fees = 60; frozen = (record { epoch = 5; entries = (((key 0x10), (record { stake = 0; registered = (Some (record { deposit = 2; rewards = 67; pool = None; drep = (Some (drep.Registered (key 0x30))) })) })) ∷ ((key 0x11), (record { stake = 0; registered = (Some (record { deposit = 2; rewards = 53; pool = None; drep = (Some (drep.Registered (key 0x31))) })) })) ∷ ((key 0x12), (record { stake = 0; registered = (Some (record { deposit = 2; rewards = 25; pool = None; drep = None })) })) ∷ []); dreps = (((key 0x30), 21) ∷ ((key 0x31), 21) ∷ []); mark = []; pool_accounts = []; hot = []; proposals = ((record resume_after_enactments_proposal_0 { votes = [] }) ∷ (record resume_after_enactments_proposal_1 { votes = [] }) ∷ []); start = (record resume_after_enactments_state { treasury = 110 }) }) })
 
 pub resume_after_enactments_shown : is_text (Some (checkpoint_text resume_after_enactments_world 12)) (
     codes "checkpoint 1 line 12 network 1 length 10 counted 1" ∷
@@ -328,7 +328,7 @@ abbrev resume_right_after_a_boundary_proposal_0 : Proposal
 resume_right_after_a_boundary_proposal_0 = (record { id = (action 0x02 0); action = (actions.NoConfidence None); deposit = 10; account = (account_on 1 (key 0x12)); expires_after = 2; votes = (((voter.Drep (key 0x30)), vote.Yes) ∷ []) })
 
 abbrev resume_right_after_a_boundary_world : World
-resume_right_after_a_boundary_world = (record { ledger = (record { network = 1; epoch_length = 10; supply = 1000; slot = 10; epoch = 1; dormant = 0; reserves = 579; fees = 30; donations = 0; state = resume_right_after_a_boundary_state; outputs = (((ref 0x01 0), (record { address = (address_with 1 (key 0x01) None); lovelace = 20 })) ∷ ((ref 0x01 1), (record { address = (address_with 1 (key 0x01) None); lovelace = 20 })) ∷ ((ref 0x01 4), (record { address = (address_with 1 (key 0x01) None); lovelace = 20 })) ∷ ((ref 0x01 5), (record { address = (address_with 1 (key 0x01) None); lovelace = 20 })) ∷ ((ref 0x01 6), (record { address = (address_with 1 (key 0x01) None); lovelace = 20 })) ∷ ((ref 0x01 7), (record { address = (address_with 1 (key 0x01) None); lovelace = 20 })) ∷ ((ref 0x01 8), (record { address = (address_with 1 (key 0x01) None); lovelace = 20 })) ∷ ((ref 0x01 9), (record { address = (address_with 1 (key 0x01) None); lovelace = 20 })) ∷ []); used = ((tx_id 0x01) ∷ (tx_id 0x02) ∷ (tx_id 0x03) ∷ []); accounts = (((key 0x10), (record { deposit = 2; rewards = 67; pool = None; drep = (Some (drep.Registered (key 0x30))) })) ∷ ((key 0x11), (record { deposit = 2; rewards = 33; pool = None; drep = (Some (drep.Registered (key 0x31))) })) ∷ ((key 0x12), (record { deposit = 2; rewards = 0; pool = None; drep = None })) ∷ []); pools = (((pool 0x50), (record { deposit = 5; terms = (record { cost = 0; pledge = 0; margin = (share 0 1); account = (account_on 1 (key 0x12)); key = None }); future = None; retires = None })) ∷ []); dreps = (((key 0x30), (record { deposit = 5; expiry = 20 })) ∷ ((key 0x31), (record { deposit = 5; expiry = 20 })) ∷ []); hot = (((key 0x70), (Hot (key 0x71))) ∷ []); proposals = (resume_right_after_a_boundary_proposal_0 ∷ []) }); pending = None; counted = 1; mark = (((pool 0x50), 0) ∷ []); set = (((pool 0x50), 0) ∷ []); go = []; noted_fees = 30; frozen = (record { epoch = 1; entries = (((key 0x10), (record { stake = 0; registered = (Some (record { deposit = 2; rewards = 67; pool = None; drep = (Some (drep.Registered (key 0x30))) })) })) ∷ ((key 0x11), (record { stake = 0; registered = (Some (record { deposit = 2; rewards = 33; pool = None; drep = (Some (drep.Registered (key 0x31))) })) })) ∷ ((key 0x12), (record { stake = 0; registered = (Some (record { deposit = 2; rewards = 0; pool = None; drep = None })) })) ∷ []); dreps = (((key 0x30), 20) ∷ ((key 0x31), 20) ∷ []); mark = (((pool 0x50), 0) ∷ []); pool_accounts = (((pool 0x50), (account_on 1 (key 0x12))) ∷ []); hot = (((key 0x70), (Hot (key 0x71))) ∷ []); proposals = ((record resume_right_after_a_boundary_proposal_0 { votes = (((voter.Drep (key 0x30)), vote.Yes) ∷ []) }) ∷ []); start = (record resume_right_after_a_boundary_state { treasury = 100 }) }) })
+resume_right_after_a_boundary_world = (record { ledger = (record { network = 1; epoch_length = 10; supply = 1000; slot = 10; epoch = 1; dormant = 0; reserves = 579; fees = 30; donations = 0; state = resume_right_after_a_boundary_state; outputs = (((ref 0x01 0), (record { address = (address_with 1 (key 0x01) None); lovelace = 20; assets = [] })) ∷ ((ref 0x01 1), (record { address = (address_with 1 (key 0x01) None); lovelace = 20; assets = [] })) ∷ ((ref 0x01 4), (record { address = (address_with 1 (key 0x01) None); lovelace = 20; assets = [] })) ∷ ((ref 0x01 5), (record { address = (address_with 1 (key 0x01) None); lovelace = 20; assets = [] })) ∷ ((ref 0x01 6), (record { address = (address_with 1 (key 0x01) None); lovelace = 20; assets = [] })) ∷ ((ref 0x01 7), (record { address = (address_with 1 (key 0x01) None); lovelace = 20; assets = [] })) ∷ ((ref 0x01 8), (record { address = (address_with 1 (key 0x01) None); lovelace = 20; assets = [] })) ∷ ((ref 0x01 9), (record { address = (address_with 1 (key 0x01) None); lovelace = 20; assets = [] })) ∷ []); used = ((tx_id 0x01) ∷ (tx_id 0x02) ∷ (tx_id 0x03) ∷ []); accounts = (((key 0x10), (record { deposit = 2; rewards = 67; pool = None; drep = (Some (drep.Registered (key 0x30))) })) ∷ ((key 0x11), (record { deposit = 2; rewards = 33; pool = None; drep = (Some (drep.Registered (key 0x31))) })) ∷ ((key 0x12), (record { deposit = 2; rewards = 0; pool = None; drep = None })) ∷ []); pools = (((pool 0x50), (record { deposit = 5; terms = (record { cost = 0; pledge = 0; margin = (share 0 1); account = (account_on 1 (key 0x12)); key = None }); future = None; retires = None })) ∷ []); dreps = (((key 0x30), (record { deposit = 5; expiry = 20 })) ∷ ((key 0x31), (record { deposit = 5; expiry = 20 })) ∷ []); hot = (((key 0x70), (Hot (key 0x71))) ∷ []); proposals = (resume_right_after_a_boundary_proposal_0 ∷ []) }); pending = None; counted = 1; mark = (((pool 0x50), 0) ∷ []); set = (((pool 0x50), 0) ∷ []); go = []; noted_fees = 30; frozen = (record { epoch = 1; entries = (((key 0x10), (record { stake = 0; registered = (Some (record { deposit = 2; rewards = 67; pool = None; drep = (Some (drep.Registered (key 0x30))) })) })) ∷ ((key 0x11), (record { stake = 0; registered = (Some (record { deposit = 2; rewards = 33; pool = None; drep = (Some (drep.Registered (key 0x31))) })) })) ∷ ((key 0x12), (record { stake = 0; registered = (Some (record { deposit = 2; rewards = 0; pool = None; drep = None })) })) ∷ []); dreps = (((key 0x30), 20) ∷ ((key 0x31), 20) ∷ []); mark = (((pool 0x50), 0) ∷ []); pool_accounts = (((pool 0x50), (account_on 1 (key 0x12))) ∷ []); hot = (((key 0x70), (Hot (key 0x71))) ∷ []); proposals = ((record resume_right_after_a_boundary_proposal_0 { votes = (((voter.Drep (key 0x30)), vote.Yes) ∷ []) }) ∷ []); start = (record resume_right_after_a_boundary_state { treasury = 100 }) }) })
 
 pub resume_right_after_a_boundary_shown : is_text (Some (checkpoint_text resume_right_after_a_boundary_world 4)) (
     codes "checkpoint 1 line 4 network 1 length 10 counted 1" ∷
@@ -448,7 +448,7 @@ abbrev resume_of_the_greatest_supply_state : EnactState
 resume_of_the_greatest_supply_state = (record { params = base_params; version = (10, 0); committee = (Some (record { threshold = (share 0 1); members = (((key 0x70), 100) ∷ []) })); document = (h32 0x01); script = None; last = (record { committee = None; constitution = None; hardfork = None; parameters = None }); treasury = 100 })
 
 abbrev resume_of_the_greatest_supply_world : World
-resume_of_the_greatest_supply_world = (record { ledger = (record { network = 1; epoch_length = 10; supply = 45000000000000000; slot = 0; epoch = 0; dormant = 0; reserves = 44999999999999579; fees = 0; donations = 0; state = resume_of_the_greatest_supply_state; outputs = (((ref 0x01 0), (record { address = (address_with 1 (key 0x01) None); lovelace = 20 })) ∷ ((ref 0x01 1), (record { address = (address_with 1 (key 0x01) None); lovelace = 20 })) ∷ ((ref 0x01 2), (record { address = (address_with 1 (key 0x01) None); lovelace = 20 })) ∷ ((ref 0x01 3), (record { address = (address_with 1 (key 0x01) None); lovelace = 20 })) ∷ ((ref 0x01 4), (record { address = (address_with 1 (key 0x01) None); lovelace = 20 })) ∷ ((ref 0x01 5), (record { address = (address_with 1 (key 0x01) None); lovelace = 20 })) ∷ ((ref 0x01 6), (record { address = (address_with 1 (key 0x01) None); lovelace = 20 })) ∷ ((ref 0x01 7), (record { address = (address_with 1 (key 0x01) None); lovelace = 20 })) ∷ ((ref 0x01 8), (record { address = (address_with 1 (key 0x01) None); lovelace = 20 })) ∷ ((ref 0x01 9), (record { address = (address_with 1 (key 0x01) None); lovelace = 20 })) ∷ []); used = ((tx_id 0x01) ∷ []); accounts = (((key 0x10), (record { deposit = 2; rewards = 67; pool = None; drep = (Some (drep.Registered (key 0x30))) })) ∷ ((key 0x11), (record { deposit = 2; rewards = 33; pool = None; drep = (Some (drep.Registered (key 0x31))) })) ∷ ((key 0x12), (record { deposit = 2; rewards = 0; pool = None; drep = None })) ∷ []); pools = (((pool 0x50), (record { deposit = 5; terms = (record { cost = 0; pledge = 0; margin = (share 0 1); account = (account_on 1 (key 0x12)); key = None }); future = None; retires = None })) ∷ []); dreps = (((key 0x30), (record { deposit = 5; expiry = 20 })) ∷ ((key 0x31), (record { deposit = 5; expiry = 20 })) ∷ []); hot = (((key 0x70), (Hot (key 0x71))) ∷ []); proposals = [] }); pending = None; counted = 0; mark = (((pool 0x50), 0) ∷ []); set = []; go = []; noted_fees = 0; frozen = (record { epoch = 0; entries = (((key 0x10), (record { stake = 0; registered = (Some (record { deposit = 2; rewards = 67; pool = None; drep = (Some (drep.Registered (key 0x30))) })) })) ∷ ((key 0x11), (record { stake = 0; registered = (Some (record { deposit = 2; rewards = 33; pool = None; drep = (Some (drep.Registered (key 0x31))) })) })) ∷ ((key 0x12), (record { stake = 0; registered = (Some (record { deposit = 2; rewards = 0; pool = None; drep = None })) })) ∷ []); dreps = (((key 0x30), 20) ∷ ((key 0x31), 20) ∷ []); mark = (((pool 0x50), 0) ∷ []); pool_accounts = (((pool 0x50), (account_on 1 (key 0x12))) ∷ []); hot = (((key 0x70), (Hot (key 0x71))) ∷ []); proposals = []; start = (record resume_of_the_greatest_supply_state { treasury = 100 }) }) })
+resume_of_the_greatest_supply_world = (record { ledger = (record { network = 1; epoch_length = 10; supply = 45000000000000000; slot = 0; epoch = 0; dormant = 0; reserves = 44999999999999579; fees = 0; donations = 0; state = resume_of_the_greatest_supply_state; outputs = (((ref 0x01 0), (record { address = (address_with 1 (key 0x01) None); lovelace = 20; assets = [] })) ∷ ((ref 0x01 1), (record { address = (address_with 1 (key 0x01) None); lovelace = 20; assets = [] })) ∷ ((ref 0x01 2), (record { address = (address_with 1 (key 0x01) None); lovelace = 20; assets = [] })) ∷ ((ref 0x01 3), (record { address = (address_with 1 (key 0x01) None); lovelace = 20; assets = [] })) ∷ ((ref 0x01 4), (record { address = (address_with 1 (key 0x01) None); lovelace = 20; assets = [] })) ∷ ((ref 0x01 5), (record { address = (address_with 1 (key 0x01) None); lovelace = 20; assets = [] })) ∷ ((ref 0x01 6), (record { address = (address_with 1 (key 0x01) None); lovelace = 20; assets = [] })) ∷ ((ref 0x01 7), (record { address = (address_with 1 (key 0x01) None); lovelace = 20; assets = [] })) ∷ ((ref 0x01 8), (record { address = (address_with 1 (key 0x01) None); lovelace = 20; assets = [] })) ∷ ((ref 0x01 9), (record { address = (address_with 1 (key 0x01) None); lovelace = 20; assets = [] })) ∷ []); used = ((tx_id 0x01) ∷ []); accounts = (((key 0x10), (record { deposit = 2; rewards = 67; pool = None; drep = (Some (drep.Registered (key 0x30))) })) ∷ ((key 0x11), (record { deposit = 2; rewards = 33; pool = None; drep = (Some (drep.Registered (key 0x31))) })) ∷ ((key 0x12), (record { deposit = 2; rewards = 0; pool = None; drep = None })) ∷ []); pools = (((pool 0x50), (record { deposit = 5; terms = (record { cost = 0; pledge = 0; margin = (share 0 1); account = (account_on 1 (key 0x12)); key = None }); future = None; retires = None })) ∷ []); dreps = (((key 0x30), (record { deposit = 5; expiry = 20 })) ∷ ((key 0x31), (record { deposit = 5; expiry = 20 })) ∷ []); hot = (((key 0x70), (Hot (key 0x71))) ∷ []); proposals = [] }); pending = None; counted = 0; mark = (((pool 0x50), 0) ∷ []); set = []; go = []; noted_fees = 0; frozen = (record { epoch = 0; entries = (((key 0x10), (record { stake = 0; registered = (Some (record { deposit = 2; rewards = 67; pool = None; drep = (Some (drep.Registered (key 0x30))) })) })) ∷ ((key 0x11), (record { stake = 0; registered = (Some (record { deposit = 2; rewards = 33; pool = None; drep = (Some (drep.Registered (key 0x31))) })) })) ∷ ((key 0x12), (record { stake = 0; registered = (Some (record { deposit = 2; rewards = 0; pool = None; drep = None })) })) ∷ []); dreps = (((key 0x30), 20) ∷ ((key 0x31), 20) ∷ []); mark = (((pool 0x50), 0) ∷ []); pool_accounts = (((pool 0x50), (account_on 1 (key 0x12))) ∷ []); hot = (((key 0x70), (Hot (key 0x71))) ∷ []); proposals = []; start = (record resume_of_the_greatest_supply_state { treasury = 100 }) }) })
 
 pub resume_of_the_greatest_supply_shown : is_text (Some (checkpoint_text resume_of_the_greatest_supply_world 1)) (
     codes "checkpoint 1 line 1 network 1 length 10 counted 0" ∷

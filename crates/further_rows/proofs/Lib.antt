@@ -15,3 +15,7 @@ pub mod FollowStreams
 pub mod TakenBackStreams
 pub mod RefusedStreams
 pub mod LaterRefusedStreams
+pub mod AssetCheckpointStreams
+pub mod AssetResumeStreams
+pub mod AssetRefusedStreams
+pub mod AssetFollowStreams

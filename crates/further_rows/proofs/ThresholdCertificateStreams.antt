@@ -16,7 +16,7 @@ use Rattle.further_rows.proofs.Texts.{is_text}
 
 abbrev thresholds_met_exactly_certificates_input : List (ℕ × Reading)
 thresholds_met_exactly_certificates_input =
-    (1, Read (records.Genesis (record { network = 1; slot = 0; epoch_length = 10; version = (10, 0); supply = 1000; reserves = 619; treasury = 100; params = (record base_params { drep_voting_thresholds = ((share 67 100) ∷ (share 1 2) ∷ (share 1 2) ∷ (share 33 100) ∷ (share 34 100) ∷ (share 1 2) ∷ (share 2 4) ∷ (share 3 6) ∷ (share 1 3) ∷ (share 67 100) ∷ []) }); document = (h32 0x01); script = None; committee = (Some (record { threshold = (share 0 1); members = (((key 0x70), 100, (Some (key 0x71))) ∷ []) })); outputs = (((ref 0x01 2), (address_with 1 (key 0x01) None), 40) ∷ ((ref 0x01 3), (address_with 1 (key 0x01) None), 40) ∷ ((ref 0x01 4), (address_with 1 (key 0x01) None), 40) ∷ ((ref 0x01 5), (address_with 1 (key 0x01) None), 40) ∷ []); accounts = (((key 0x10), 2, 67, None, (Some (drep.Registered (key 0x30)))) ∷ ((key 0x11), 2, 33, None, (Some (drep.Registered (key 0x31)))) ∷ ((key 0x12), 2, 0, None, None) ∷ []); pools = ((record { pool = (pool 0x50); deposit = 5; cost = 0; pledge = 0; margin = (share 0 1); account = (account_on 1 (key 0x12)); key = None }) ∷ []); dreps = (((key 0x30), 5, 20) ∷ ((key 0x31), 5, 20) ∷ []) }))) ∷
+    (1, Read (records.Genesis (record { network = 1; slot = 0; epoch_length = 10; version = (10, 0); supply = 1000; reserves = 619; treasury = 100; params = (record base_params { drep_voting_thresholds = ((share 67 100) ∷ (share 1 2) ∷ (share 1 2) ∷ (share 33 100) ∷ (share 34 100) ∷ (share 1 2) ∷ (share 2 4) ∷ (share 3 6) ∷ (share 1 3) ∷ (share 67 100) ∷ []) }); document = (h32 0x01); script = None; committee = (Some (record { threshold = (share 0 1); members = (((key 0x70), 100, (Some (key 0x71))) ∷ []) })); outputs = (((ref 0x01 2), (address_with 1 (key 0x01) None), 40, []) ∷ ((ref 0x01 3), (address_with 1 (key 0x01) None), 40, []) ∷ ((ref 0x01 4), (address_with 1 (key 0x01) None), 40, []) ∷ ((ref 0x01 5), (address_with 1 (key 0x01) None), 40, []) ∷ []); accounts = (((key 0x10), 2, 67, None, (Some (drep.Registered (key 0x30)))) ∷ ((key 0x11), 2, 33, None, (Some (drep.Registered (key 0x31)))) ∷ ((key 0x12), 2, 0, None, None) ∷ []); pools = ((record { pool = (pool 0x50); deposit = 5; cost = 0; pledge = 0; margin = (share 0 1); account = (account_on 1 (key 0x12)); key = None }) ∷ []); dreps = (((key 0x30), 5, 20) ∷ ((key 0x31), 5, 20) ∷ []) }))) ∷
     (2, Read (records.Tx (record (spend 0x02 20) { proposals = ((proposing 10 (account_on 1 (key 0x12)) (actions.ParameterChange None (record no_update { max_tx_ex_units = (Some (1, 1)); key_deposit = (Some 1); a0 = (Some (share 1 2)) }) None)) ∷ (proposing 10 (account_on 1 (key 0x12)) (actions.ParameterChange None (record no_update { key_deposit = (Some 1); a0 = (Some (share 1 2)); drep_activity = (Some 3) }) None)) ∷ []) }))) ∷
     (3, Read (records.Tx (record (spend 0x03 10) { proposals = ((proposing 10 (account_on 1 (key 0x12)) (actions.NewConstitution None (h32 0x02) None)) ∷ (proposing 10 (account_on 1 (key 0x12)) (actions.HardForkInitiation None (10, 1))) ∷ (proposing 10 (account_on 1 (key 0x12)) (actions.Info)) ∷ []) }))) ∷
     (4, Read (records.Tx (record (spend 0x04 40) { votes = ((voting (voter.Drep (key 0x31)) (action 0x03 0) vote.Yes) ∷ (voting (voter.Drep (key 0x31)) (action 0x03 1) vote.Yes) ∷ (voting (voter.Drep (key 0x30)) (action 0x02 0) vote.Yes) ∷ []) }))) ∷
@@ -155,7 +155,7 @@ thresholds_met_exactly_certificates = refl
 
 abbrev silent_pools_on_a_hard_fork_certificates_input : List (ℕ × Reading)
 silent_pools_on_a_hard_fork_certificates_input =
-    (1, Read (records.Genesis (record { network = 1; slot = 0; epoch_length = 10; version = (10, 0); supply = 1000; reserves = 545; treasury = 100; params = base_params; document = (h32 0x01); script = None; committee = (Some (record { threshold = (share 0 1); members = (((key 0x70), 100, (Some (key 0x71))) ∷ []) })); outputs = (((ref 0x01 2), (address_with 1 (key 0x01) None), 80) ∷ ((ref 0x01 3), (address_with 1 (key 0x01) None), 80) ∷ ((ref 0x01 4), (address_with 1 (key 0x01) None), 80) ∷ []); accounts = (((key 0x10), 2, 1, (Some (pool 0x50)), (Some drep.Abstain)) ∷ ((key 0x11), 2, 2, (Some (pool 0x51)), (Some drep.NoConfidence)) ∷ ((key 0x12), 2, 4, (Some (pool 0x52)), (Some (drep.Registered (key 0x30)))) ∷ ((key 0x13), 2, 8, (Some (pool 0x53)), None) ∷ ((key 0x14), 2, 16, (Some (pool 0x54)), (Some drep.Abstain)) ∷ ((key 0x15), 2, 32, (Some (pool 0x55)), None) ∷ []); pools = ((record { pool = (pool 0x50); deposit = 5; cost = 0; pledge = 0; margin = (share 0 1); account = (account_on 1 (key 0x10)); key = None }) ∷ (record { pool = (pool 0x51); deposit = 5; cost = 0; pledge = 0; margin = (share 0 1); account = (account_on 1 (key 0x11)); key = None }) ∷ (record { pool = (pool 0x52); deposit = 5; cost = 0; pledge = 0; margin = (share 0 1); account = (account_on 1 (key 0x12)); key = None }) ∷ (record { pool = (pool 0x53); deposit = 5; cost = 0; pledge = 0; margin = (share 0 1); account = (account_on 1 (key 0x13)); key = None }) ∷ (record { pool = (pool 0x54); deposit = 5; cost = 0; pledge = 0; margin = (share 0 1); account = (account_on 1 (key 0x20)); key = None }) ∷ (record { pool = (pool 0x55); deposit = 5; cost = 0; pledge = 0; margin = (share 0 1); account = (account_on 1 (key 0x14)); key = None }) ∷ []); dreps = (((key 0x30), 5, 20) ∷ ((key 0x31), 5, 20) ∷ []) }))) ∷
+    (1, Read (records.Genesis (record { network = 1; slot = 0; epoch_length = 10; version = (10, 0); supply = 1000; reserves = 545; treasury = 100; params = base_params; document = (h32 0x01); script = None; committee = (Some (record { threshold = (share 0 1); members = (((key 0x70), 100, (Some (key 0x71))) ∷ []) })); outputs = (((ref 0x01 2), (address_with 1 (key 0x01) None), 80, []) ∷ ((ref 0x01 3), (address_with 1 (key 0x01) None), 80, []) ∷ ((ref 0x01 4), (address_with 1 (key 0x01) None), 80, []) ∷ []); accounts = (((key 0x10), 2, 1, (Some (pool 0x50)), (Some drep.Abstain)) ∷ ((key 0x11), 2, 2, (Some (pool 0x51)), (Some drep.NoConfidence)) ∷ ((key 0x12), 2, 4, (Some (pool 0x52)), (Some (drep.Registered (key 0x30)))) ∷ ((key 0x13), 2, 8, (Some (pool 0x53)), None) ∷ ((key 0x14), 2, 16, (Some (pool 0x54)), (Some drep.Abstain)) ∷ ((key 0x15), 2, 32, (Some (pool 0x55)), None) ∷ []); pools = ((record { pool = (pool 0x50); deposit = 5; cost = 0; pledge = 0; margin = (share 0 1); account = (account_on 1 (key 0x10)); key = None }) ∷ (record { pool = (pool 0x51); deposit = 5; cost = 0; pledge = 0; margin = (share 0 1); account = (account_on 1 (key 0x11)); key = None }) ∷ (record { pool = (pool 0x52); deposit = 5; cost = 0; pledge = 0; margin = (share 0 1); account = (account_on 1 (key 0x12)); key = None }) ∷ (record { pool = (pool 0x53); deposit = 5; cost = 0; pledge = 0; margin = (share 0 1); account = (account_on 1 (key 0x13)); key = None }) ∷ (record { pool = (pool 0x54); deposit = 5; cost = 0; pledge = 0; margin = (share 0 1); account = (account_on 1 (key 0x20)); key = None }) ∷ (record { pool = (pool 0x55); deposit = 5; cost = 0; pledge = 0; margin = (share 0 1); account = (account_on 1 (key 0x14)); key = None }) ∷ []); dreps = (((key 0x30), 5, 20) ∷ ((key 0x31), 5, 20) ∷ []) }))) ∷
     (2, Read (records.Tx (record (spend 0x02 40) { proposals = ((proposing 10 (account_on 1 (key 0x10)) (actions.HardForkInitiation None (10, 1))) ∷ (proposing 10 (account_on 1 (key 0x11)) (actions.NoConfidence None)) ∷ (proposing 10 (account_on 1 (key 0x12)) (actions.UpdateCommittee None [] (((key 0x60), 50) ∷ []) (share 1 2))) ∷ (proposing 10 (account_on 1 (key 0x13)) (actions.Info)) ∷ []) }))) ∷
     (3, Read (records.Tx (record (spend 0x03 80) { votes = ((voting (voter.Pool (pool 0x54)) (action 0x02 0) vote.Yes) ∷ (voting (voter.Pool (pool 0x55)) (action 0x02 1) vote.No) ∷ (voting (voter.Pool (pool 0x55)) (action 0x02 2) vote.Abstain) ∷ (voting (voter.Pool (pool 0x53)) (action 0x02 2) vote.Yes) ∷ []) }))) ∷
     (4, Read (records.Block 10 1)) ∷

@@ -14,7 +14,7 @@ use Rattle.ledger_rows.proofs.Base.{h32, key, pool, account_on, address_with, re
 
 abbrev dormant_epochs_added_input : List (ℕ × Reading)
 dormant_epochs_added_input =
-    (1, Read (records.Genesis (record { network = 1; slot = 50; epoch_length = 10; version = (10, 0); supply = 1000; reserves = 713; treasury = 100; params = (record base_params { drep_activity = 10 }); document = (h32 0x01); script = None; committee = (Some (record { threshold = (share 0 1); members = (((key 0x70), 100, (Some (key 0x71))) ∷ []) })); outputs = (((ref 0x01 2), (address_with 1 (key 0x01) None), 20) ∷ ((ref 0x01 3), (address_with 1 (key 0x01) None), 20) ∷ ((ref 0x01 4), (address_with 1 (key 0x01) None), 20) ∷ ((ref 0x01 5), (address_with 1 (key 0x01) None), 20) ∷ ((ref 0x01 6), (address_with 1 (key 0x01) None), 20) ∷ ((ref 0x01 7), (address_with 1 (key 0x01) None), 20) ∷ ((ref 0x01 8), (address_with 1 (key 0x01) None), 20) ∷ ((ref 0x01 9), (address_with 1 (key 0x01) None), 20) ∷ []); accounts = (((key 0x12), 2, 0, None, None) ∷ []); pools = ((record { pool = (pool 0x50); deposit = 5; cost = 0; pledge = 0; margin = (share 0 1); account = (account_on 1 (key 0x12)); key = None }) ∷ []); dreps = (((key 0x30), 5, 6) ∷ ((key 0x31), 5, 4) ∷ ((key 0x32), 5, 5) ∷ ((key 0x33), 5, 12) ∷ []) }))) ∷
+    (1, Read (records.Genesis (record { network = 1; slot = 50; epoch_length = 10; version = (10, 0); supply = 1000; reserves = 713; treasury = 100; params = (record base_params { drep_activity = 10 }); document = (h32 0x01); script = None; committee = (Some (record { threshold = (share 0 1); members = (((key 0x70), 100, (Some (key 0x71))) ∷ []) })); outputs = (((ref 0x01 2), (address_with 1 (key 0x01) None), 20, []) ∷ ((ref 0x01 3), (address_with 1 (key 0x01) None), 20, []) ∷ ((ref 0x01 4), (address_with 1 (key 0x01) None), 20, []) ∷ ((ref 0x01 5), (address_with 1 (key 0x01) None), 20, []) ∷ ((ref 0x01 6), (address_with 1 (key 0x01) None), 20, []) ∷ ((ref 0x01 7), (address_with 1 (key 0x01) None), 20, []) ∷ ((ref 0x01 8), (address_with 1 (key 0x01) None), 20, []) ∷ ((ref 0x01 9), (address_with 1 (key 0x01) None), 20, []) ∷ []); accounts = (((key 0x12), 2, 0, None, None) ∷ []); pools = ((record { pool = (pool 0x50); deposit = 5; cost = 0; pledge = 0; margin = (share 0 1); account = (account_on 1 (key 0x12)); key = None }) ∷ []); dreps = (((key 0x30), 5, 6) ∷ ((key 0x31), 5, 4) ∷ ((key 0x32), 5, 5) ∷ ((key 0x33), 5, 12) ∷ []) }))) ∷
     (2, Read (records.Block 60 1)) ∷
     (3, Read (records.Block 70 1)) ∷
     (4, Read (records.Block 80 1)) ∷
@@ -290,7 +290,7 @@ dormant_epochs_added = refl
 
 abbrev expiries_after_many_dormant_epochs_input : List (ℕ × Reading)
 expiries_after_many_dormant_epochs_input =
-    (1, Read (records.Genesis (record { network = 1; slot = 20; epoch_length = 10; version = (10, 0); supply = 1000; reserves = 763; treasury = 100; params = (record base_params { gov_action_lifetime = 5; drep_activity = 7 }); document = (h32 0x01); script = None; committee = (Some (record { threshold = (share 0 1); members = (((key 0x70), 100, (Some (key 0x71))) ∷ []) })); outputs = (((ref 0x01 2), (address_with 1 (key 0x01) None), 20) ∷ ((ref 0x01 3), (address_with 1 (key 0x01) None), 20) ∷ ((ref 0x01 4), (address_with 1 (key 0x01) None), 20) ∷ ((ref 0x01 5), (address_with 1 (key 0x01) None), 20) ∷ ((ref 0x01 6), (address_with 1 (key 0x01) None), 20) ∷ ((ref 0x01 7), (address_with 1 (key 0x01) None), 20) ∷ []); accounts = (((key 0x12), 2, 0, None, None) ∷ []); pools = ((record { pool = (pool 0x50); deposit = 5; cost = 0; pledge = 0; margin = (share 0 1); account = (account_on 1 (key 0x12)); key = None }) ∷ []); dreps = (((key 0x30), 5, 3) ∷ ((key 0x31), 5, 9) ∷ []) }))) ∷
+    (1, Read (records.Genesis (record { network = 1; slot = 20; epoch_length = 10; version = (10, 0); supply = 1000; reserves = 763; treasury = 100; params = (record base_params { gov_action_lifetime = 5; drep_activity = 7 }); document = (h32 0x01); script = None; committee = (Some (record { threshold = (share 0 1); members = (((key 0x70), 100, (Some (key 0x71))) ∷ []) })); outputs = (((ref 0x01 2), (address_with 1 (key 0x01) None), 20, []) ∷ ((ref 0x01 3), (address_with 1 (key 0x01) None), 20, []) ∷ ((ref 0x01 4), (address_with 1 (key 0x01) None), 20, []) ∷ ((ref 0x01 5), (address_with 1 (key 0x01) None), 20, []) ∷ ((ref 0x01 6), (address_with 1 (key 0x01) None), 20, []) ∷ ((ref 0x01 7), (address_with 1 (key 0x01) None), 20, []) ∷ []); accounts = (((key 0x12), 2, 0, None, None) ∷ []); pools = ((record { pool = (pool 0x50); deposit = 5; cost = 0; pledge = 0; margin = (share 0 1); account = (account_on 1 (key 0x12)); key = None }) ∷ []); dreps = (((key 0x30), 5, 3) ∷ ((key 0x31), 5, 9) ∷ []) }))) ∷
     (2, Read (records.Tx (record (spend 0x02 10) { proposals = ((proposing 10 (account_on 1 (key 0x12)) (actions.Info)) ∷ []) }))) ∷
     (3, Read (records.Block 30 1)) ∷
     (4, Read (records.Tx (record (spend 0x03 15) { certs = ((certs.DrepReg (key 0x32) None) ∷ []); votes = ((voting (voter.Drep (key 0x31)) (action 0x02 0) vote.Yes) ∷ []) }))) ∷

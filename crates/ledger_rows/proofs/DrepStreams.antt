@@ -15,7 +15,7 @@ use Rattle.ledger_rows.proofs.Base.{h32, key, script, pool, account_on, address_
 
 abbrev certificates_of_dreps_input : List (ℕ × Reading)
 certificates_of_dreps_input =
-    (1, Read (records.Genesis (record { network = 1; slot = 30; epoch_length = 10; version = (10, 0); supply = 1000; reserves = 650; treasury = 100; params = (record base_params { drep_deposit = 4 }); document = (h32 0x01); script = None; committee = (Some (record { threshold = (share 0 1); members = (((key 0x70), 100, (Some (key 0x71))) ∷ []) })); outputs = (((ref 0x01 2), (address_with 1 (key 0x01) None), 20) ∷ ((ref 0x01 3), (address_with 1 (key 0x01) None), 20) ∷ ((ref 0x01 4), (address_with 1 (key 0x01) None), 20) ∷ ((ref 0x01 5), (address_with 1 (key 0x01) None), 20) ∷ ((ref 0x01 6), (address_with 1 (key 0x01) None), 20) ∷ ((ref 0x01 7), (address_with 1 (key 0x01) None), 20) ∷ []); accounts = (((key 0x10), 2, 67, None, (Some (drep.Registered (key 0x30)))) ∷ ((key 0x11), 2, 33, None, (Some (drep.Registered (key 0x31)))) ∷ ((key 0x12), 2, 1, None, (Some (drep.Registered (script 0x30)))) ∷ []); pools = ((record { pool = (pool 0x50); deposit = 5; cost = 0; pledge = 0; margin = (share 0 1); account = (account_on 1 (key 0x12)); key = None }) ∷ []); dreps = (((key 0x30), 5, 5) ∷ ((key 0x31), 6, 20) ∷ ((script 0x30), 7, 9) ∷ []) }))) ∷
+    (1, Read (records.Genesis (record { network = 1; slot = 30; epoch_length = 10; version = (10, 0); supply = 1000; reserves = 650; treasury = 100; params = (record base_params { drep_deposit = 4 }); document = (h32 0x01); script = None; committee = (Some (record { threshold = (share 0 1); members = (((key 0x70), 100, (Some (key 0x71))) ∷ []) })); outputs = (((ref 0x01 2), (address_with 1 (key 0x01) None), 20, []) ∷ ((ref 0x01 3), (address_with 1 (key 0x01) None), 20, []) ∷ ((ref 0x01 4), (address_with 1 (key 0x01) None), 20, []) ∷ ((ref 0x01 5), (address_with 1 (key 0x01) None), 20, []) ∷ ((ref 0x01 6), (address_with 1 (key 0x01) None), 20, []) ∷ ((ref 0x01 7), (address_with 1 (key 0x01) None), 20, []) ∷ []); accounts = (((key 0x10), 2, 67, None, (Some (drep.Registered (key 0x30)))) ∷ ((key 0x11), 2, 33, None, (Some (drep.Registered (key 0x31)))) ∷ ((key 0x12), 2, 1, None, (Some (drep.Registered (script 0x30)))) ∷ []); pools = ((record { pool = (pool 0x50); deposit = 5; cost = 0; pledge = 0; margin = (share 0 1); account = (account_on 1 (key 0x12)); key = None }) ∷ []); dreps = (((key 0x30), 5, 5) ∷ ((key 0x31), 6, 20) ∷ ((script 0x30), 7, 9) ∷ []) }))) ∷
     (2, Read (records.Tx (record (spend 0x02 10) { proposals = ((proposing 10 (account_on 1 (key 0x12)) (actions.NoConfidence None)) ∷ []) }))) ∷
     (3, Read (records.Tx (record (spend 0x03 20) { votes = ((voting (voter.Drep (key 0x31)) (action 0x02 0) vote.Yes) ∷ (voting (voter.Drep (key 0x30)) (action 0x02 0) vote.No) ∷ (voting (voter.Drep (script 0x30)) (action 0x02 0) vote.Abstain) ∷ []) }))) ∷
     (4, Read (records.Print what.State)) ∷
@@ -210,7 +210,7 @@ certificates_of_dreps = refl
 
 abbrev hot_keys_replaced_and_shared_input : List (ℕ × Reading)
 hot_keys_replaced_and_shared_input =
-    (1, Read (records.Genesis (record { network = 1; slot = 0; epoch_length = 10; version = (10, 0); supply = 1000; reserves = 499; treasury = 100; params = (record base_params { drep_voting_thresholds = ((share 0 1) ∷ (share 0 1) ∷ (share 0 1) ∷ (share 0 1) ∷ (share 0 1) ∷ (share 0 1) ∷ (share 0 1) ∷ (share 0 1) ∷ (share 0 1) ∷ (share 0 1) ∷ []) }); document = (h32 0x01); script = None; committee = (Some (record { threshold = (share 1 2); members = (((key 0x70), 100, (Some (key 0x71))) ∷ ((key 0x72), 100, None) ∷ ((script 0x70), 100, (Some (key 0x73))) ∷ []) })); outputs = (((ref 0x01 2), (address_with 1 (key 0x01) None), 40) ∷ ((ref 0x01 3), (address_with 1 (key 0x01) None), 40) ∷ ((ref 0x01 4), (address_with 1 (key 0x01) None), 40) ∷ ((ref 0x01 5), (address_with 1 (key 0x01) None), 40) ∷ ((ref 0x01 6), (address_with 1 (key 0x01) None), 40) ∷ ((ref 0x01 7), (address_with 1 (key 0x01) None), 40) ∷ ((ref 0x01 8), (address_with 1 (key 0x01) None), 40) ∷ []); accounts = (((key 0x10), 2, 67, None, (Some (drep.Registered (key 0x30)))) ∷ ((key 0x11), 2, 33, None, (Some (drep.Registered (key 0x31)))) ∷ ((key 0x12), 2, 0, None, None) ∷ []); pools = ((record { pool = (pool 0x50); deposit = 5; cost = 0; pledge = 0; margin = (share 0 1); account = (account_on 1 (key 0x12)); key = None }) ∷ []); dreps = (((key 0x30), 5, 20) ∷ ((key 0x31), 5, 20) ∷ []) }))) ∷
+    (1, Read (records.Genesis (record { network = 1; slot = 0; epoch_length = 10; version = (10, 0); supply = 1000; reserves = 499; treasury = 100; params = (record base_params { drep_voting_thresholds = ((share 0 1) ∷ (share 0 1) ∷ (share 0 1) ∷ (share 0 1) ∷ (share 0 1) ∷ (share 0 1) ∷ (share 0 1) ∷ (share 0 1) ∷ (share 0 1) ∷ (share 0 1) ∷ []) }); document = (h32 0x01); script = None; committee = (Some (record { threshold = (share 1 2); members = (((key 0x70), 100, (Some (key 0x71))) ∷ ((key 0x72), 100, None) ∷ ((script 0x70), 100, (Some (key 0x73))) ∷ []) })); outputs = (((ref 0x01 2), (address_with 1 (key 0x01) None), 40, []) ∷ ((ref 0x01 3), (address_with 1 (key 0x01) None), 40, []) ∷ ((ref 0x01 4), (address_with 1 (key 0x01) None), 40, []) ∷ ((ref 0x01 5), (address_with 1 (key 0x01) None), 40, []) ∷ ((ref 0x01 6), (address_with 1 (key 0x01) None), 40, []) ∷ ((ref 0x01 7), (address_with 1 (key 0x01) None), 40, []) ∷ ((ref 0x01 8), (address_with 1 (key 0x01) None), 40, []) ∷ []); accounts = (((key 0x10), 2, 67, None, (Some (drep.Registered (key 0x30)))) ∷ ((key 0x11), 2, 33, None, (Some (drep.Registered (key 0x31)))) ∷ ((key 0x12), 2, 0, None, None) ∷ []); pools = ((record { pool = (pool 0x50); deposit = 5; cost = 0; pledge = 0; margin = (share 0 1); account = (account_on 1 (key 0x12)); key = None }) ∷ []); dreps = (((key 0x30), 5, 20) ∷ ((key 0x31), 5, 20) ∷ []) }))) ∷
     (2, Read (records.Tx (record (spend 0x02 30) { certs = ((certs.HotAuth (key 0x70) (script 0x75)) ∷ (certs.HotAuth (key 0x72) (script 0x75)) ∷ []); proposals = ((proposing 10 (account_on 1 (key 0x12)) (actions.UpdateCommittee None ((script 0x70) ∷ []) (((key 0x60), 50) ∷ []) (share 1 3))) ∷ []) }))) ∷
     (3, Read (records.Tx (record (spend 0x03 30) { certs = ((certs.HotAuth (key 0x60) (key 0x61)) ∷ []); proposals = ((proposing 10 (account_on 1 (key 0x12)) (actions.HardForkInitiation None (10, 1))) ∷ []) }))) ∷
     (4, Read (records.Tx (record (spend 0x04 40) { votes = ((voting (voter.Committee (script 0x75)) (action 0x03 0) vote.Yes) ∷ (voting (voter.Committee (key 0x73)) (action 0x03 0) vote.No) ∷ []) }))) ∷
@@ -481,7 +481,7 @@ hot_keys_replaced_and_shared = refl
 
 abbrev hot_key_with_the_name_of_a_drep_input : List (ℕ × Reading)
 hot_key_with_the_name_of_a_drep_input =
-    (1, Read (records.Genesis (record { network = 1; slot = 30; epoch_length = 10; version = (10, 0); supply = 1000; reserves = 803; treasury = 100; params = (record base_params { drep_voting_thresholds = ((share 0 1) ∷ (share 0 1) ∷ (share 0 1) ∷ (share 0 1) ∷ (share 0 1) ∷ (share 0 1) ∷ (share 0 1) ∷ (share 0 1) ∷ (share 0 1) ∷ (share 0 1) ∷ []) }); document = (h32 0x01); script = None; committee = (Some (record { threshold = (share 1 1); members = (((key 0x70), 100, (Some (key 0x30))) ∷ []) })); outputs = (((ref 0x01 2), (address_with 1 (key 0x01) None), 20) ∷ ((ref 0x01 3), (address_with 1 (key 0x01) None), 20) ∷ ((ref 0x01 4), (address_with 1 (key 0x01) None), 20) ∷ ((ref 0x01 5), (address_with 1 (key 0x01) None), 20) ∷ []); accounts = (((key 0x12), 2, 0, None, None) ∷ []); pools = ((record { pool = (pool 0x50); deposit = 5; cost = 0; pledge = 0; margin = (share 0 1); account = (account_on 1 (key 0x12)); key = None }) ∷ []); dreps = (((key 0x30), 5, 7) ∷ ((key 0x50), 5, 8) ∷ []) }))) ∷
+    (1, Read (records.Genesis (record { network = 1; slot = 30; epoch_length = 10; version = (10, 0); supply = 1000; reserves = 803; treasury = 100; params = (record base_params { drep_voting_thresholds = ((share 0 1) ∷ (share 0 1) ∷ (share 0 1) ∷ (share 0 1) ∷ (share 0 1) ∷ (share 0 1) ∷ (share 0 1) ∷ (share 0 1) ∷ (share 0 1) ∷ (share 0 1) ∷ []) }); document = (h32 0x01); script = None; committee = (Some (record { threshold = (share 1 1); members = (((key 0x70), 100, (Some (key 0x30))) ∷ []) })); outputs = (((ref 0x01 2), (address_with 1 (key 0x01) None), 20, []) ∷ ((ref 0x01 3), (address_with 1 (key 0x01) None), 20, []) ∷ ((ref 0x01 4), (address_with 1 (key 0x01) None), 20, []) ∷ ((ref 0x01 5), (address_with 1 (key 0x01) None), 20, []) ∷ []); accounts = (((key 0x12), 2, 0, None, None) ∷ []); pools = ((record { pool = (pool 0x50); deposit = 5; cost = 0; pledge = 0; margin = (share 0 1); account = (account_on 1 (key 0x12)); key = None }) ∷ []); dreps = (((key 0x30), 5, 7) ∷ ((key 0x50), 5, 8) ∷ []) }))) ∷
     (2, Read (records.Tx (record (spend 0x02 10) { proposals = ((proposing 10 (account_on 1 (key 0x12)) (actions.HardForkInitiation None (10, 1))) ∷ []) }))) ∷
     (3, Read (records.Tx (record (spend 0x03 20) { votes = ((voting (voter.Committee (key 0x30)) (action 0x02 0) vote.Yes) ∷ (voting (voter.Pool (pool 0x50)) (action 0x02 0) vote.Yes) ∷ []) }))) ∷
     (4, Read (records.Print what.State)) ∷

@@ -17,7 +17,7 @@ use Rattle.ledger_rows.proofs.Base.{h28, h32, key, script, pool, account_on, add
 
 abbrev transactions_of_version_twelve_1_input : List (ℕ × Reading)
 transactions_of_version_twelve_1_input =
-    (1, Read (records.Genesis (record { network = 0; slot = 50; epoch_length = 10; version = (12, 0); supply = 57031; reserves = 0; treasury = 100; params = (record base_params { max_collateral_inputs = 0; min_fee_a = 1; key_deposit = 0; min_pool_cost = 34; e_max = 0; collateral_percentage = 100; pool_voting_thresholds = ((share 67 100) ∷ (share 0 1) ∷ (share 1 1) ∷ (share 0 1) ∷ (share 0 1) ∷ []); drep_voting_thresholds = ((share 0 1) ∷ (share 0 1) ∷ (share 0 1) ∷ (share 0 1) ∷ (share 0 1) ∷ (share 0 1) ∷ (share 0 1) ∷ (share 0 1) ∷ (share 0 1) ∷ (share 0 1) ∷ []); gov_action_deposit = 100; drep_activity = 0 }); document = (h32 0x01); script = (Some (h28 0x98)); committee = (Some (record { threshold = (share 1 2); members = (((script 0x70), 5, (Some (key 0x81))) ∷ []) })); outputs = (((ref 0x01 0), (address_with 0 (key 0x02) (Some (key 0x12))), 1991) ∷ ((ref 0x01 1), (address_with 0 (script 0x03) None), 727) ∷ ((ref 0x09 2), (address_with 0 (script 0x03) None), 2748) ∷ ((ref 0x01 3), (address_with 0 (key 0x02) None), 3472) ∷ ((ref 0x01 4), (address_with 0 (key 0x02) None), 2486) ∷ ((ref 0x09 5), (address_with 0 (key 0x02) None), 1403) ∷ ((ref 0x09 6), (address_with 0 (key 0x01) None), 1533) ∷ ((ref 0x01 7), (address_with 0 (key 0x02) (Some (script 0x10))), 3889) ∷ ((ref 0x01 8), (address_with 0 (key 0x10) (Some (key 0x11))), 3368) ∷ ((ref 0x09 9), (address_with 0 (script 0x03) None), 4748) ∷ ((ref 0x01 10), (address_with 0 (key 0x01) None), 5320) ∷ ((ref 0x09 11), (address_with 0 (key 0x01) None), 5058) ∷ ((ref 0x09 12), (address_with 0 (key 0x02) (Some (key 0x10))), 5947) ∷ ((ref 0x01 13), (address_with 0 (script 0x03) (Some (key 0x12))), 3599) ∷ ((ref 0x01 14), (address_with 0 (script 0x03) None), 2033) ∷ ((ref 0x01 15), (address_with 0 (key 0x10) None), 3975) ∷ ((ref 0x01 16), (address_with 0 (key 0x01) None), 3595) ∷ []); accounts = (((key 0x14), 3, 800, None, (Some (drep.Registered (key 0x10)))) ∷ ((key 0x12), 0, 0, None, None) ∷ ((script 0x10), 3, 1, (Some (pool 0x50)), (Some (drep.Registered (key 0x10)))) ∷ ((key 0x11), 0, 67, (Some (pool 0x50)), (Some drep.Abstain)) ∷ ((key 0x10), 0, 67, (Some (pool 0x50)), (Some drep.Abstain)) ∷ ((key 0x30), 0, 0, (Some (pool 0x50)), (Some drep.NoConfidence)) ∷ ((key 0x15), 3, 0, None, (Some drep.NoConfidence)) ∷ ((script 0x13), 3, 67, None, (Some drep.Abstain)) ∷ []); pools = ((record { pool = (pool 0x50); deposit = 4; cost = 88; pledge = 0; margin = (share 1 9); account = (account_on 0 (key 0x14)); key = (Some (h32 0x08)) }) ∷ []); dreps = (((key 0x30), 5, 0) ∷ ((key 0x31), 5, 23) ∷ ((script 0x30), 5, 5) ∷ ((key 0x10), 6, 21) ∷ []) }))) ∷
+    (1, Read (records.Genesis (record { network = 0; slot = 50; epoch_length = 10; version = (12, 0); supply = 57031; reserves = 0; treasury = 100; params = (record base_params { max_collateral_inputs = 0; min_fee_a = 1; key_deposit = 0; min_pool_cost = 34; e_max = 0; collateral_percentage = 100; pool_voting_thresholds = ((share 67 100) ∷ (share 0 1) ∷ (share 1 1) ∷ (share 0 1) ∷ (share 0 1) ∷ []); drep_voting_thresholds = ((share 0 1) ∷ (share 0 1) ∷ (share 0 1) ∷ (share 0 1) ∷ (share 0 1) ∷ (share 0 1) ∷ (share 0 1) ∷ (share 0 1) ∷ (share 0 1) ∷ (share 0 1) ∷ []); gov_action_deposit = 100; drep_activity = 0 }); document = (h32 0x01); script = (Some (h28 0x98)); committee = (Some (record { threshold = (share 1 2); members = (((script 0x70), 5, (Some (key 0x81))) ∷ []) })); outputs = (((ref 0x01 0), (address_with 0 (key 0x02) (Some (key 0x12))), 1991, []) ∷ ((ref 0x01 1), (address_with 0 (script 0x03) None), 727, []) ∷ ((ref 0x09 2), (address_with 0 (script 0x03) None), 2748, []) ∷ ((ref 0x01 3), (address_with 0 (key 0x02) None), 3472, []) ∷ ((ref 0x01 4), (address_with 0 (key 0x02) None), 2486, []) ∷ ((ref 0x09 5), (address_with 0 (key 0x02) None), 1403, []) ∷ ((ref 0x09 6), (address_with 0 (key 0x01) None), 1533, []) ∷ ((ref 0x01 7), (address_with 0 (key 0x02) (Some (script 0x10))), 3889, []) ∷ ((ref 0x01 8), (address_with 0 (key 0x10) (Some (key 0x11))), 3368, []) ∷ ((ref 0x09 9), (address_with 0 (script 0x03) None), 4748, []) ∷ ((ref 0x01 10), (address_with 0 (key 0x01) None), 5320, []) ∷ ((ref 0x09 11), (address_with 0 (key 0x01) None), 5058, []) ∷ ((ref 0x09 12), (address_with 0 (key 0x02) (Some (key 0x10))), 5947, []) ∷ ((ref 0x01 13), (address_with 0 (script 0x03) (Some (key 0x12))), 3599, []) ∷ ((ref 0x01 14), (address_with 0 (script 0x03) None), 2033, []) ∷ ((ref 0x01 15), (address_with 0 (key 0x10) None), 3975, []) ∷ ((ref 0x01 16), (address_with 0 (key 0x01) None), 3595, []) ∷ []); accounts = (((key 0x14), 3, 800, None, (Some (drep.Registered (key 0x10)))) ∷ ((key 0x12), 0, 0, None, None) ∷ ((script 0x10), 3, 1, (Some (pool 0x50)), (Some (drep.Registered (key 0x10)))) ∷ ((key 0x11), 0, 67, (Some (pool 0x50)), (Some drep.Abstain)) ∷ ((key 0x10), 0, 67, (Some (pool 0x50)), (Some drep.Abstain)) ∷ ((key 0x30), 0, 0, (Some (pool 0x50)), (Some drep.NoConfidence)) ∷ ((key 0x15), 3, 0, None, (Some drep.NoConfidence)) ∷ ((script 0x13), 3, 67, None, (Some drep.Abstain)) ∷ []); pools = ((record { pool = (pool 0x50); deposit = 4; cost = 88; pledge = 0; margin = (share 1 9); account = (account_on 0 (key 0x14)); key = (Some (h32 0x08)) }) ∷ []); dreps = (((key 0x30), 5, 0) ∷ ((key 0x31), 5, 23) ∷ ((script 0x30), 5, 5) ∷ ((key 0x10), 6, 21) ∷ []) }))) ∷
     (2, Read (records.Print what.Pots)) ∷
     (3, Read (records.Tx (record (spend 0x10 3022) { inputs = ((ref 0x09 9) ∷ (ref 0x01 0) ∷ (ref 0x01 10) ∷ []); outputs = ((paying (address_with 0 (key 0x01) (Some (key 0x11))) 6025 65) ∷ (paying (address_with 0 (key 0x02) None) 3012 57) ∷ []) }))) ∷
     (4, Read (records.Rewards (record { epoch = 5; from_reserves = 0; from_fees = 0; to_treasury = 0; rewards = (((script 0x13), 0) ∷ ((script 0x10), 0) ∷ []) }))) ∷
@@ -48,7 +48,7 @@ transactions_of_version_twelve_1_input =
     (29, Read (records.Tx (record (spend 0x25 351) { inputs = ((ref 0x22 1) ∷ (ref 0x01 14) ∷ []); outputs = ((paying (address_with 0 (script 0x03) None) 1969 0) ∷ (paying (address_with 0 (key 0x02) (Some (key 0x15))) 0 29) ∷ (paying (address_with 0 (key 0x01) (Some (key 0x30))) 0 65) ∷ (paying (address_with 0 (key 0x02) None) 0 57) ∷ []); size = 346; script_fee = 5; treasury = (Some 100); donation = 30; withdrawals = (((account_on 0 (script 0x13)), 0) ∷ ((account_on 0 (key 0x30)), 0) ∷ []); certs = ((certs.DrepReg (key 0x10) None) ∷ (certs.DrepUpdate (key 0x30)) ∷ (certs.DrepUnreg (key 0x30) (Some 5)) ∷ []); votes = ((voting (voter.Pool (pool 0x50)) (action 0x18 0) vote.No) ∷ []) }))) ∷
     (30, Read (records.Tx (record (spend 0x26 904) { inputs = ((ref 0x17 1) ∷ (ref 0x19 0) ∷ (ref 0x22 0) ∷ []); outputs = ((paying (address_with 0 (script 0x03) (Some (key 0x15))) 421 57) ∷ (paying (address_with 0 (key 0x10) (Some (script 0x13))) 281 57) ∷ []); size = 341; until = (Some 68); donation = 30; votes = ((voting (voter.Pool (pool 0x50)) (action 0x18 0) vote.Yes) ∷ []) }))) ∷
     (31, Read (records.Tx (record (spend 0x27 205) { inputs = ((ref 0x26 1) ∷ (ref 0x09 12) ∷ []); outputs = ((paying (address_with 0 (script 0x03) None) 1972 29) ∷ (paying (address_with 0 (script 0x03) None) 3946 65) ∷ (paying (address_with 0 (key 0x02) (Some (key 0x12))) 0 65) ∷ (paying (address_with 0 (key 0x01) None) 0 65) ∷ []); size = 196; withdrawals = (((account_on 0 (script 0x13)), 0) ∷ ((account_on 0 (script 0x10)), 0) ∷ []); certs = ((certs.AccountUnreg (key 0x14) None) ∷ (certs.DrepReg (script 0x30) (Some 5)) ∷ (certs.DrepUnreg (key 0x30) (Some 6)) ∷ []); proposals = ((proposing 100 (account_on 0 (key 0x30)) (actions.TreasuryWithdrawals (((account_on 0 (script 0x10)), 100) ∷ ((account_on 0 (key 0x12)), 99) ∷ []) (Some (h28 0x98)))) ∷ []); votes = ((voting (voter.Pool (pool 0x52)) (action 0x16 0) vote.Abstain) ∷ []) }))) ∷
-    (32, Read (records.Genesis (record { network = 0; slot = 50; epoch_length = 10; version = (12, 0); supply = 57031; reserves = 0; treasury = 100; params = (record base_params { max_collateral_inputs = 0; min_fee_a = 1; key_deposit = 0; min_pool_cost = 34; e_max = 0; collateral_percentage = 100; pool_voting_thresholds = ((share 67 100) ∷ (share 0 1) ∷ (share 1 1) ∷ (share 0 1) ∷ (share 0 1) ∷ []); drep_voting_thresholds = ((share 0 1) ∷ (share 0 1) ∷ (share 0 1) ∷ (share 0 1) ∷ (share 0 1) ∷ (share 0 1) ∷ (share 0 1) ∷ (share 0 1) ∷ (share 0 1) ∷ (share 0 1) ∷ []); gov_action_deposit = 100; drep_activity = 0 }); document = (h32 0x01); script = (Some (h28 0x98)); committee = (Some (record { threshold = (share 1 2); members = (((script 0x70), 5, (Some (key 0x81))) ∷ []) })); outputs = (((ref 0x01 0), (address_with 0 (key 0x02) (Some (key 0x12))), 1991) ∷ ((ref 0x01 1), (address_with 0 (script 0x03) None), 727) ∷ ((ref 0x09 2), (address_with 0 (script 0x03) None), 2748) ∷ ((ref 0x01 3), (address_with 0 (key 0x02) None), 3472) ∷ ((ref 0x01 4), (address_with 0 (key 0x02) None), 2486) ∷ ((ref 0x09 5), (address_with 0 (key 0x02) None), 1403) ∷ ((ref 0x09 6), (address_with 0 (key 0x01) None), 1533) ∷ ((ref 0x01 7), (address_with 0 (key 0x02) (Some (script 0x10))), 3889) ∷ ((ref 0x01 8), (address_with 0 (key 0x10) (Some (key 0x11))), 3368) ∷ ((ref 0x09 9), (address_with 0 (script 0x03) None), 4748) ∷ ((ref 0x01 10), (address_with 0 (key 0x01) None), 5320) ∷ ((ref 0x09 11), (address_with 0 (key 0x01) None), 5058) ∷ ((ref 0x09 12), (address_with 0 (key 0x02) (Some (key 0x10))), 5947) ∷ ((ref 0x01 13), (address_with 0 (script 0x03) (Some (key 0x12))), 3599) ∷ ((ref 0x01 14), (address_with 0 (script 0x03) None), 2033) ∷ ((ref 0x01 15), (address_with 0 (key 0x10) None), 3975) ∷ ((ref 0x01 16), (address_with 0 (key 0x01) None), 3595) ∷ []); accounts = (((key 0x14), 3, 800, None, (Some (drep.Registered (key 0x10)))) ∷ ((key 0x12), 0, 0, None, None) ∷ ((script 0x10), 3, 1, (Some (pool 0x50)), (Some (drep.Registered (key 0x10)))) ∷ ((key 0x11), 0, 67, (Some (pool 0x50)), (Some drep.Abstain)) ∷ ((key 0x10), 0, 67, (Some (pool 0x50)), (Some drep.Abstain)) ∷ ((key 0x30), 0, 0, (Some (pool 0x50)), (Some drep.NoConfidence)) ∷ ((key 0x15), 3, 0, None, (Some drep.NoConfidence)) ∷ ((script 0x13), 3, 67, None, (Some drep.Abstain)) ∷ []); pools = ((record { pool = (pool 0x50); deposit = 4; cost = 88; pledge = 0; margin = (share 1 9); account = (account_on 0 (key 0x14)); key = (Some (h32 0x08)) }) ∷ []); dreps = (((key 0x30), 5, 0) ∷ ((key 0x31), 5, 23) ∷ ((script 0x30), 5, 5) ∷ ((key 0x10), 6, 21) ∷ []) }))) ∷
+    (32, Read (records.Genesis (record { network = 0; slot = 50; epoch_length = 10; version = (12, 0); supply = 57031; reserves = 0; treasury = 100; params = (record base_params { max_collateral_inputs = 0; min_fee_a = 1; key_deposit = 0; min_pool_cost = 34; e_max = 0; collateral_percentage = 100; pool_voting_thresholds = ((share 67 100) ∷ (share 0 1) ∷ (share 1 1) ∷ (share 0 1) ∷ (share 0 1) ∷ []); drep_voting_thresholds = ((share 0 1) ∷ (share 0 1) ∷ (share 0 1) ∷ (share 0 1) ∷ (share 0 1) ∷ (share 0 1) ∷ (share 0 1) ∷ (share 0 1) ∷ (share 0 1) ∷ (share 0 1) ∷ []); gov_action_deposit = 100; drep_activity = 0 }); document = (h32 0x01); script = (Some (h28 0x98)); committee = (Some (record { threshold = (share 1 2); members = (((script 0x70), 5, (Some (key 0x81))) ∷ []) })); outputs = (((ref 0x01 0), (address_with 0 (key 0x02) (Some (key 0x12))), 1991, []) ∷ ((ref 0x01 1), (address_with 0 (script 0x03) None), 727, []) ∷ ((ref 0x09 2), (address_with 0 (script 0x03) None), 2748, []) ∷ ((ref 0x01 3), (address_with 0 (key 0x02) None), 3472, []) ∷ ((ref 0x01 4), (address_with 0 (key 0x02) None), 2486, []) ∷ ((ref 0x09 5), (address_with 0 (key 0x02) None), 1403, []) ∷ ((ref 0x09 6), (address_with 0 (key 0x01) None), 1533, []) ∷ ((ref 0x01 7), (address_with 0 (key 0x02) (Some (script 0x10))), 3889, []) ∷ ((ref 0x01 8), (address_with 0 (key 0x10) (Some (key 0x11))), 3368, []) ∷ ((ref 0x09 9), (address_with 0 (script 0x03) None), 4748, []) ∷ ((ref 0x01 10), (address_with 0 (key 0x01) None), 5320, []) ∷ ((ref 0x09 11), (address_with 0 (key 0x01) None), 5058, []) ∷ ((ref 0x09 12), (address_with 0 (key 0x02) (Some (key 0x10))), 5947, []) ∷ ((ref 0x01 13), (address_with 0 (script 0x03) (Some (key 0x12))), 3599, []) ∷ ((ref 0x01 14), (address_with 0 (script 0x03) None), 2033, []) ∷ ((ref 0x01 15), (address_with 0 (key 0x10) None), 3975, []) ∷ ((ref 0x01 16), (address_with 0 (key 0x01) None), 3595, []) ∷ []); accounts = (((key 0x14), 3, 800, None, (Some (drep.Registered (key 0x10)))) ∷ ((key 0x12), 0, 0, None, None) ∷ ((script 0x10), 3, 1, (Some (pool 0x50)), (Some (drep.Registered (key 0x10)))) ∷ ((key 0x11), 0, 67, (Some (pool 0x50)), (Some drep.Abstain)) ∷ ((key 0x10), 0, 67, (Some (pool 0x50)), (Some drep.Abstain)) ∷ ((key 0x30), 0, 0, (Some (pool 0x50)), (Some drep.NoConfidence)) ∷ ((key 0x15), 3, 0, None, (Some drep.NoConfidence)) ∷ ((script 0x13), 3, 67, None, (Some drep.Abstain)) ∷ []); pools = ((record { pool = (pool 0x50); deposit = 4; cost = 88; pledge = 0; margin = (share 1 9); account = (account_on 0 (key 0x14)); key = (Some (h32 0x08)) }) ∷ []); dreps = (((key 0x30), 5, 0) ∷ ((key 0x31), 5, 23) ∷ ((script 0x30), 5, 5) ∷ ((key 0x10), 6, 21) ∷ []) }))) ∷
     (33, Read (records.Tx (record (spend 0x28 320) { inputs = ((ref 0x15 0) ∷ []); outputs = ((paying (address_with 0 (key 0x02) None) 223 0) ∷ []); size = 96; treasury = (Some 100); withdrawals = (((account_on 0 (key 0x10)), 67) ∷ ((account_on 0 (script 0x10)), 0) ∷ []); certs = ((certs.DrepUpdate (key 0x31)) ∷ (certs.DrepUnreg (key 0x10) None) ∷ []); votes = ((voting (voter.Drep (key 0x30)) (action 0x16 0) vote.Yes) ∷ (voting (voter.Pool (pool 0x51)) (action 0x17 2) vote.Yes) ∷ (voting (voter.Pool (pool 0x51)) (action 0x12 0) vote.Abstain) ∷ (voting (voter.Drep (key 0x31)) (action 0x17 2) vote.Yes) ∷ (voting (voter.Drep (key 0x30)) (action 0x16 0) vote.Yes) ∷ (voting (voter.Drep (key 0x31)) (action 0x15 1) vote.Yes) ∷ []) }))) ∷
     (34, Read (records.Tx (record (spend 0x29 1135) { inputs = ((ref 0x10 1) ∷ []); outputs = ((paying (address_with 0 (key 0x01) (Some (key 0x10))) 1404 57) ∷ (paying (address_with 0 (script 0x03) None) 468 65) ∷ []); size = 194; script_fee = 5; from = (Some 66); until = (Some 68); certs = ((certs.Delegate (key 0x30) (Some (pool 0x50)) (Some (drep.Registered (key 0x30)))) ∷ (certs.AccountUnreg (script 0x10) None) ∷ (certs.DrepReg (script 0x30) (Some 5)) ∷ (certs.PoolReg (pool 0x52) 34 4 (share 1 2) (account_on 0 (key 0x10)) (Some (h32 0x07))) ∷ []); votes = ((voting (voter.Pool (pool 0x51)) (action 0x15 1) vote.Abstain) ∷ []) }))) ∷
     (35, Read (records.Tx (record (spend 0x30 122) { inputs = ((ref 0x23 2) ∷ (ref 0x01 14) ∷ []); outputs = ((paying (address_with 0 (key 0x02) (Some (key 0x11))) 1811 0) ∷ (paying (address_with 0 (script 0x03) None) 0 65) ∷ (paying (address_with 0 (key 0x01) None) 0 65) ∷ (paying (address_with 0 (key 0x01) None) 0 0) ∷ []); size = 122; from = (Some 66); certs = ((certs.AccountUnreg (key 0x11) (Some 0)) ∷ []); proposals = ((proposing 100 (account_on 0 (key 0x10)) (actions.TreasuryWithdrawals (((account_on 0 (script 0x13)), 5) ∷ ((account_on 0 (key 0x10)), 99) ∷ []) (Some (h28 0x98)))) ∷ []) }))) ∷
@@ -228,7 +228,7 @@ transactions_of_version_twelve_1 = refl
 
 abbrev transactions_of_version_twelve_2_input : List (ℕ × Reading)
 transactions_of_version_twelve_2_input =
-    (1, Read (records.Genesis (record { network = 1; slot = 5; epoch_length = 10; version = (12, 0); supply = 35614; reserves = 0; treasury = 100; params = (record base_params { max_collateral_inputs = 0; key_deposit = 0; pool_deposit = 0; min_pool_cost = 34; coins_per_utxo_byte = 1; collateral_percentage = 0; pool_voting_thresholds = ((share 67 100) ∷ (share 0 1) ∷ (share 0 1) ∷ (share 0 1) ∷ (share 0 1) ∷ []); drep_voting_thresholds = ((share 0 1) ∷ (share 0 1) ∷ (share 1 3) ∷ (share 1 2) ∷ (share 0 1) ∷ (share 0 1) ∷ (share 0 1) ∷ (share 0 1) ∷ (share 1 100) ∷ (share 0 1) ∷ []); gov_action_deposit = 0; drep_deposit = 50; committee_max_term_length = 9 }); document = (h32 0x01); script = None; committee = None; outputs = (((ref 0x09 0), (address_with 1 (key 0x10) None), 5168) ∷ ((ref 0x01 1), (address_with 1 (key 0x01) None), 1179) ∷ ((ref 0x09 2), (address_with 1 (script 0x03) None), 1248) ∷ ((ref 0x01 3), (address_with 1 (key 0x02) None), 3357) ∷ ((ref 0x01 4), (address_with 1 (script 0x03) (Some (key 0x11))), 2887) ∷ ((ref 0x09 5), (address_with 1 (key 0x10) None), 5038) ∷ ((ref 0x01 6), (address_with 1 (key 0x01) (Some (key 0x12))), 2251) ∷ ((ref 0x09 7), (address_with 1 (key 0x10) None), 2924) ∷ ((ref 0x09 8), (address_with 1 (key 0x10) (Some (key 0x11))), 3389) ∷ ((ref 0x01 9), (address_with 1 (script 0x03) None), 608) ∷ ((ref 0x01 10), (address_with 1 (key 0x10) None), 5682) ∷ []); accounts = (((key 0x14), 0, 0, None, None) ∷ ((key 0x10), 3, 800, (Some (pool 0x52)), (Some (drep.Registered (key 0x31)))) ∷ ((script 0x10), 0, 800, None, (Some (drep.Registered (script 0x30)))) ∷ ((key 0x12), 3, 0, None, (Some (drep.Registered (script 0x30)))) ∷ ((key 0x11), 0, 0, (Some (pool 0x52)), (Some (drep.Registered (key 0x30)))) ∷ ((key 0x15), 0, 0, None, (Some (drep.Registered (key 0x31)))) ∷ ((key 0x30), 0, 0, None, (Some (drep.Registered (script 0x30)))) ∷ ((script 0x13), 0, 67, (Some (pool 0x52)), None) ∷ []); pools = ((record { pool = (pool 0x52); deposit = 4; cost = 65; pledge = 0; margin = (share 1 9); account = (account_on 1 (key 0x15)); key = None }) ∷ []); dreps = (((key 0x31), 50, 0) ∷ ((key 0x30), 6, 13) ∷ ((script 0x30), 50, 22) ∷ []) }))) ∷
+    (1, Read (records.Genesis (record { network = 1; slot = 5; epoch_length = 10; version = (12, 0); supply = 35614; reserves = 0; treasury = 100; params = (record base_params { max_collateral_inputs = 0; key_deposit = 0; pool_deposit = 0; min_pool_cost = 34; coins_per_utxo_byte = 1; collateral_percentage = 0; pool_voting_thresholds = ((share 67 100) ∷ (share 0 1) ∷ (share 0 1) ∷ (share 0 1) ∷ (share 0 1) ∷ []); drep_voting_thresholds = ((share 0 1) ∷ (share 0 1) ∷ (share 1 3) ∷ (share 1 2) ∷ (share 0 1) ∷ (share 0 1) ∷ (share 0 1) ∷ (share 0 1) ∷ (share 1 100) ∷ (share 0 1) ∷ []); gov_action_deposit = 0; drep_deposit = 50; committee_max_term_length = 9 }); document = (h32 0x01); script = None; committee = None; outputs = (((ref 0x09 0), (address_with 1 (key 0x10) None), 5168, []) ∷ ((ref 0x01 1), (address_with 1 (key 0x01) None), 1179, []) ∷ ((ref 0x09 2), (address_with 1 (script 0x03) None), 1248, []) ∷ ((ref 0x01 3), (address_with 1 (key 0x02) None), 3357, []) ∷ ((ref 0x01 4), (address_with 1 (script 0x03) (Some (key 0x11))), 2887, []) ∷ ((ref 0x09 5), (address_with 1 (key 0x10) None), 5038, []) ∷ ((ref 0x01 6), (address_with 1 (key 0x01) (Some (key 0x12))), 2251, []) ∷ ((ref 0x09 7), (address_with 1 (key 0x10) None), 2924, []) ∷ ((ref 0x09 8), (address_with 1 (key 0x10) (Some (key 0x11))), 3389, []) ∷ ((ref 0x01 9), (address_with 1 (script 0x03) None), 608, []) ∷ ((ref 0x01 10), (address_with 1 (key 0x10) None), 5682, []) ∷ []); accounts = (((key 0x14), 0, 0, None, None) ∷ ((key 0x10), 3, 800, (Some (pool 0x52)), (Some (drep.Registered (key 0x31)))) ∷ ((script 0x10), 0, 800, None, (Some (drep.Registered (script 0x30)))) ∷ ((key 0x12), 3, 0, None, (Some (drep.Registered (script 0x30)))) ∷ ((key 0x11), 0, 0, (Some (pool 0x52)), (Some (drep.Registered (key 0x30)))) ∷ ((key 0x15), 0, 0, None, (Some (drep.Registered (key 0x31)))) ∷ ((key 0x30), 0, 0, None, (Some (drep.Registered (script 0x30)))) ∷ ((script 0x13), 0, 67, (Some (pool 0x52)), None) ∷ []); pools = ((record { pool = (pool 0x52); deposit = 4; cost = 65; pledge = 0; margin = (share 1 9); account = (account_on 1 (key 0x15)); key = None }) ∷ []); dreps = (((key 0x31), 50, 0) ∷ ((key 0x30), 6, 13) ∷ ((script 0x30), 50, 22) ∷ []) }))) ∷
     (2, Read (records.Tx (record (spend 0x10 14) { inputs = ((ref 0x01 9) ∷ []); outputs = ((paying (address_with 1 (key 0x01) (Some (key 0x15))) 594 57) ∷ []); size = 400; script_fee = 5; treasury = (Some 100); proposals = ((proposing 0 (account_on 1 (key 0x11)) (actions.TreasuryWithdrawals (((account_on 1 (script 0x10)), 99) ∷ ((account_on 1 (key 0x10)), 0) ∷ ((account_on 1 (key 0x30)), 0) ∷ []) None)) ∷ (proposing 0 (account_on 1 (key 0x14)) (actions.NoConfidence None)) ∷ []) }))) ∷
     (3, Read (records.Tx (record (spend 0x11 0) { inputs = ((ref 0x10 0) ∷ (ref 0x01 6) ∷ []); outputs = ((paying (address_with 1 (script 0x03) (Some (script 0x10))) 2845 29) ∷ []); size = 30; from = (Some 4); until = (Some 14); certs = ((certs.Delegate (key 0x14) (Some (pool 0x52)) (Some (drep.Registered (key 0x30)))) ∷ (certs.DrepReg (key 0x10) (Some 49)) ∷ []); proposals = ((proposing 0 (account_on 1 (script 0x13)) (actions.UpdateCommittee (Some (action 0x10 1)) ((script 0x70) ∷ []) [] (share 0 1))) ∷ (proposing 0 (account_on 1 (key 0x11)) (actions.NoConfidence (Some (action 0x10 1)))) ∷ []) }))) ∷
     (4, Read (records.Block 6 4294967295)) ∷
@@ -422,13 +422,13 @@ transactions_of_version_twelve_2 = refl
 
 abbrev transactions_over_a_fork_input : List (ℕ × Reading)
 transactions_over_a_fork_input =
-    (1, Read (records.Genesis (record { network = 1; slot = 50; epoch_length = 10; version = (10, 9); supply = 54909; reserves = 700; treasury = 100; params = (record base_params { max_tx_size = 400; max_collateral_inputs = 0; min_fee_b = 70; key_deposit = 0; pool_deposit = 50; min_pool_cost = 34; pool_voting_thresholds = ((share 2 4) ∷ (share 67 100) ∷ (share 2 3) ∷ (share 0 1) ∷ (share 1 100) ∷ []); drep_voting_thresholds = ((share 1 1) ∷ (share 1 2) ∷ (share 67 100) ∷ (share 0 1) ∷ (share 0 1) ∷ (share 2 3) ∷ (share 1 3) ∷ (share 67 100) ∷ (share 67 100) ∷ (share 0 1) ∷ []); drep_activity = 0; committee_max_term_length = 9 }); document = (h32 0x01); script = (Some (h28 0x98)); committee = (Some (record { threshold = (share 0 1); members = (((key 0x70), 0, (Some (key 0x30))) ∷ []) })); outputs = (((ref 0x09 0), (address_with 1 (key 0x01) (Some (key 0x30))), 5389) ∷ ((ref 0x09 1), (address_with 1 (script 0x03) None), 4507) ∷ ((ref 0x09 2), (address_with 1 (key 0x10) (Some (key 0x10))), 5991) ∷ ((ref 0x09 3), (address_with 1 (key 0x02) (Some (key 0x12))), 1920) ∷ ((ref 0x01 4), (address_with 1 (key 0x02) None), 5055) ∷ ((ref 0x09 5), (address_with 1 (key 0x10) None), 2129) ∷ ((ref 0x09 6), (address_with 1 (script 0x03) None), 3178) ∷ ((ref 0x01 7), (address_with 1 (key 0x10) None), 5563) ∷ ((ref 0x01 8), (address_with 1 (key 0x10) None), 1344) ∷ ((ref 0x01 9), (address_with 1 (key 0x10) None), 5597) ∷ ((ref 0x01 10), (address_with 1 (script 0x03) None), 1084) ∷ ((ref 0x01 11), (address_with 1 (key 0x01) None), 5353) ∷ ((ref 0x01 12), (address_with 1 (key 0x01) None), 1162) ∷ ((ref 0x01 13), (address_with 1 (script 0x03) (Some (script 0x10))), 1666) ∷ ((ref 0x09 14), (address_with 1 (key 0x01) (Some (key 0x15))), 1039) ∷ ((ref 0x01 15), (address_with 1 (script 0x03) None), 1920) ∷ ((ref 0x09 16), (address_with 1 (key 0x10) (Some (key 0x14))), 995) ∷ []); accounts = (((key 0x14), 0, 67, (Some (pool 0x10)), None) ∷ ((key 0x11), 0, 0, (Some (pool 0x51)), (Some drep.NoConfidence)) ∷ ((key 0x12), 3, 0, None, (Some drep.Abstain)) ∷ ((script 0x10), 3, 67, (Some (pool 0x50)), None) ∷ ((script 0x13), 3, 0, (Some (pool 0x10)), None) ∷ ((key 0x30), 3, 1, (Some (pool 0x10)), (Some (drep.Registered (key 0x31)))) ∷ ((key 0x10), 3, 0, (Some (pool 0x51)), None) ∷ []); pools = ((record { pool = (pool 0x10); deposit = 4; cost = 25; pledge = 0; margin = (share 1 9); account = (account_on 1 (key 0x10)); key = (Some (h32 0x09)) }) ∷ (record { pool = (pool 0x52); deposit = 4; cost = 66; pledge = 0; margin = (share 1 9); account = (account_on 1 (script 0x13)); key = None }) ∷ (record { pool = (pool 0x51); deposit = 4; cost = 44; pledge = 0; margin = (share 1 9); account = (account_on 1 (key 0x10)); key = (Some (h32 0x07)) }) ∷ (record { pool = (pool 0x50); deposit = 50; cost = 5; pledge = 0; margin = (share 1 9); account = (account_on 1 (key 0x12)); key = (Some (h32 0x08)) }) ∷ []); dreps = (((key 0x31), 5, 22) ∷ []) }))) ∷
+    (1, Read (records.Genesis (record { network = 1; slot = 50; epoch_length = 10; version = (10, 9); supply = 54909; reserves = 700; treasury = 100; params = (record base_params { max_tx_size = 400; max_collateral_inputs = 0; min_fee_b = 70; key_deposit = 0; pool_deposit = 50; min_pool_cost = 34; pool_voting_thresholds = ((share 2 4) ∷ (share 67 100) ∷ (share 2 3) ∷ (share 0 1) ∷ (share 1 100) ∷ []); drep_voting_thresholds = ((share 1 1) ∷ (share 1 2) ∷ (share 67 100) ∷ (share 0 1) ∷ (share 0 1) ∷ (share 2 3) ∷ (share 1 3) ∷ (share 67 100) ∷ (share 67 100) ∷ (share 0 1) ∷ []); drep_activity = 0; committee_max_term_length = 9 }); document = (h32 0x01); script = (Some (h28 0x98)); committee = (Some (record { threshold = (share 0 1); members = (((key 0x70), 0, (Some (key 0x30))) ∷ []) })); outputs = (((ref 0x09 0), (address_with 1 (key 0x01) (Some (key 0x30))), 5389, []) ∷ ((ref 0x09 1), (address_with 1 (script 0x03) None), 4507, []) ∷ ((ref 0x09 2), (address_with 1 (key 0x10) (Some (key 0x10))), 5991, []) ∷ ((ref 0x09 3), (address_with 1 (key 0x02) (Some (key 0x12))), 1920, []) ∷ ((ref 0x01 4), (address_with 1 (key 0x02) None), 5055, []) ∷ ((ref 0x09 5), (address_with 1 (key 0x10) None), 2129, []) ∷ ((ref 0x09 6), (address_with 1 (script 0x03) None), 3178, []) ∷ ((ref 0x01 7), (address_with 1 (key 0x10) None), 5563, []) ∷ ((ref 0x01 8), (address_with 1 (key 0x10) None), 1344, []) ∷ ((ref 0x01 9), (address_with 1 (key 0x10) None), 5597, []) ∷ ((ref 0x01 10), (address_with 1 (script 0x03) None), 1084, []) ∷ ((ref 0x01 11), (address_with 1 (key 0x01) None), 5353, []) ∷ ((ref 0x01 12), (address_with 1 (key 0x01) None), 1162, []) ∷ ((ref 0x01 13), (address_with 1 (script 0x03) (Some (script 0x10))), 1666, []) ∷ ((ref 0x09 14), (address_with 1 (key 0x01) (Some (key 0x15))), 1039, []) ∷ ((ref 0x01 15), (address_with 1 (script 0x03) None), 1920, []) ∷ ((ref 0x09 16), (address_with 1 (key 0x10) (Some (key 0x14))), 995, []) ∷ []); accounts = (((key 0x14), 0, 67, (Some (pool 0x10)), None) ∷ ((key 0x11), 0, 0, (Some (pool 0x51)), (Some drep.NoConfidence)) ∷ ((key 0x12), 3, 0, None, (Some drep.Abstain)) ∷ ((script 0x10), 3, 67, (Some (pool 0x50)), None) ∷ ((script 0x13), 3, 0, (Some (pool 0x10)), None) ∷ ((key 0x30), 3, 1, (Some (pool 0x10)), (Some (drep.Registered (key 0x31)))) ∷ ((key 0x10), 3, 0, (Some (pool 0x51)), None) ∷ []); pools = ((record { pool = (pool 0x10); deposit = 4; cost = 25; pledge = 0; margin = (share 1 9); account = (account_on 1 (key 0x10)); key = (Some (h32 0x09)) }) ∷ (record { pool = (pool 0x52); deposit = 4; cost = 66; pledge = 0; margin = (share 1 9); account = (account_on 1 (script 0x13)); key = None }) ∷ (record { pool = (pool 0x51); deposit = 4; cost = 44; pledge = 0; margin = (share 1 9); account = (account_on 1 (key 0x10)); key = (Some (h32 0x07)) }) ∷ (record { pool = (pool 0x50); deposit = 50; cost = 5; pledge = 0; margin = (share 1 9); account = (account_on 1 (key 0x12)); key = (Some (h32 0x08)) }) ∷ []); dreps = (((key 0x31), 5, 22) ∷ []) }))) ∷
     (2, Read (records.Block 60 1)) ∷
     (3, Read (records.Tx (record (spend 0x10 3400) { inputs = ((ref 0x09 1) ∷ (ref 0x01 7) ∷ []); outputs = ((paying (address_with 1 (script 0x03) None) 3330 0) ∷ (paying (address_with 1 (script 0x03) None) 3330 0) ∷ []); size = 6; proposals = ((proposing 10 (account_on 1 (key 0x12)) (actions.ParameterChange None (record no_update { max_tx_ex_units = (Some (1000, 1000)); min_pool_cost = (Some 9); e_max = (Some 9); committee_max_term_length = (Some 2) }) (Some (h28 0x98)))) ∷ []) }))) ∷
     (4, Read (records.Block 71 9)) ∷
     (5, Read (records.Tx (record (spend 0x11 75) { inputs = ((ref 0x10 1) ∷ (ref 0x09 14) ∷ (ref 0x01 11) ∷ []); outputs = ((paying (address_with 1 (script 0x03) None) 9647 0) ∷ []); size = 400; script_fee = 5; certs = ((certs.PoolReg (pool 0x10) 400 1 (share 0 1) (account_on 1 (key 0x30)) (Some (h32 0x09))) ∷ (certs.PoolReg (pool 0x10) 400 1 (share 0 1) (account_on 1 (key 0x30)) (Some (h32 0x08))) ∷ (certs.PoolReg (pool 0x51) 400 1 (share 0 1) (account_on 1 (key 0x30)) (Some (h32 0x09))) ∷ (certs.PoolReg (pool 0x10) 400 1 (share 0 1) (account_on 1 (key 0x30)) (Some (h32 0x09))) ∷ []); votes = ((voting (voter.Drep (key 0x31)) (action 0x10 0) vote.No) ∷ []) }))) ∷
     (6, Read (records.Tx (record (spend 0x12 70) { inputs = ((ref 0x09 3) ∷ (ref 0x01 13) ∷ []); outputs = ((paying (address_with 1 (script 0x03) None) 1168 29) ∷ (paying (address_with 1 (key 0x01) None) 1169 0) ∷ (paying (address_with 1 (script 0x03) None) 1169 29) ∷ []); size = 193; from = (Some 71); until = (Some 72); collateral = ((ref 0x01 9) ∷ []); certs = ((certs.PoolReg (pool 0x50) 400 1 (share 0 1) (account_on 1 (key 0x10)) None) ∷ (certs.PoolReg (pool 0x50) 500 1 (share 0 1) (account_on 1 (key 0x10)) None) ∷ (certs.PoolRetire (pool 0x50) 8) ∷ (certs.Delegate (key 0x10) (Some (pool 0x50)) None) ∷ (certs.PoolReg (pool 0x50) 400 1 (share 0 1) (account_on 1 (key 0x10)) None) ∷ []); proposals = ((proposing 10 (account_on 1 (key 0x10)) (actions.ParameterChange None (record no_update { a0 = (Some (share 0 1)) }) (Some (h28 0x98)))) ∷ []); votes = ((voting (voter.Committee (key 0x30)) (action 0x10 0) vote.Abstain) ∷ (voting (voter.Committee (key 0x30)) (action 0x10 0) vote.Abstain) ∷ (voting (voter.Committee (key 0x30)) (action 0x10 0) vote.Yes) ∷ (voting (voter.Committee (key 0x30)) (action 0x10 0) vote.Yes) ∷ (voting (voter.Committee (key 0x30)) (action 0x10 0) vote.Abstain) ∷ (voting (voter.Drep (key 0x31)) (action 0x10 0) vote.Abstain) ∷ []) }))) ∷
-    (7, Read (records.Genesis (record { network = 1; slot = 50; epoch_length = 10; version = (10, 9); supply = 54909; reserves = 700; treasury = 100; params = (record base_params { max_tx_size = 400; max_collateral_inputs = 0; min_fee_b = 70; key_deposit = 0; pool_deposit = 50; min_pool_cost = 34; pool_voting_thresholds = ((share 2 4) ∷ (share 67 100) ∷ (share 2 3) ∷ (share 0 1) ∷ (share 1 100) ∷ []); drep_voting_thresholds = ((share 1 1) ∷ (share 1 2) ∷ (share 67 100) ∷ (share 0 1) ∷ (share 0 1) ∷ (share 2 3) ∷ (share 1 3) ∷ (share 67 100) ∷ (share 67 100) ∷ (share 0 1) ∷ []); drep_activity = 0; committee_max_term_length = 9 }); document = (h32 0x01); script = (Some (h28 0x98)); committee = (Some (record { threshold = (share 0 1); members = (((key 0x70), 0, (Some (key 0x30))) ∷ []) })); outputs = (((ref 0x09 0), (address_with 1 (key 0x01) (Some (key 0x30))), 5389) ∷ ((ref 0x09 1), (address_with 1 (script 0x03) None), 4507) ∷ ((ref 0x09 2), (address_with 1 (key 0x10) (Some (key 0x10))), 5991) ∷ ((ref 0x09 3), (address_with 1 (key 0x02) (Some (key 0x12))), 1920) ∷ ((ref 0x01 4), (address_with 1 (key 0x02) None), 5055) ∷ ((ref 0x09 5), (address_with 1 (key 0x10) None), 2129) ∷ ((ref 0x09 6), (address_with 1 (script 0x03) None), 3178) ∷ ((ref 0x01 7), (address_with 1 (key 0x10) None), 5563) ∷ ((ref 0x01 8), (address_with 1 (key 0x10) None), 1344) ∷ ((ref 0x01 9), (address_with 1 (key 0x10) None), 5597) ∷ ((ref 0x01 10), (address_with 1 (script 0x03) None), 1084) ∷ ((ref 0x01 11), (address_with 1 (key 0x01) None), 5353) ∷ ((ref 0x01 12), (address_with 1 (key 0x01) None), 1162) ∷ ((ref 0x01 13), (address_with 1 (script 0x03) (Some (script 0x10))), 1666) ∷ ((ref 0x09 14), (address_with 1 (key 0x01) (Some (key 0x15))), 1039) ∷ ((ref 0x01 15), (address_with 1 (script 0x03) None), 1920) ∷ ((ref 0x09 16), (address_with 1 (key 0x10) (Some (key 0x14))), 995) ∷ []); accounts = (((key 0x14), 0, 67, (Some (pool 0x10)), None) ∷ ((key 0x11), 0, 0, (Some (pool 0x51)), (Some drep.NoConfidence)) ∷ ((key 0x12), 3, 0, None, (Some drep.Abstain)) ∷ ((script 0x10), 3, 67, (Some (pool 0x50)), None) ∷ ((script 0x13), 3, 0, (Some (pool 0x10)), None) ∷ ((key 0x30), 3, 1, (Some (pool 0x10)), (Some (drep.Registered (key 0x31)))) ∷ ((key 0x10), 3, 0, (Some (pool 0x51)), None) ∷ []); pools = ((record { pool = (pool 0x10); deposit = 4; cost = 25; pledge = 0; margin = (share 1 9); account = (account_on 1 (key 0x10)); key = (Some (h32 0x09)) }) ∷ (record { pool = (pool 0x52); deposit = 4; cost = 66; pledge = 0; margin = (share 1 9); account = (account_on 1 (script 0x13)); key = None }) ∷ (record { pool = (pool 0x51); deposit = 4; cost = 44; pledge = 0; margin = (share 1 9); account = (account_on 1 (key 0x10)); key = (Some (h32 0x07)) }) ∷ (record { pool = (pool 0x50); deposit = 50; cost = 5; pledge = 0; margin = (share 1 9); account = (account_on 1 (key 0x12)); key = (Some (h32 0x08)) }) ∷ []); dreps = (((key 0x31), 5, 22) ∷ []) }))) ∷
+    (7, Read (records.Genesis (record { network = 1; slot = 50; epoch_length = 10; version = (10, 9); supply = 54909; reserves = 700; treasury = 100; params = (record base_params { max_tx_size = 400; max_collateral_inputs = 0; min_fee_b = 70; key_deposit = 0; pool_deposit = 50; min_pool_cost = 34; pool_voting_thresholds = ((share 2 4) ∷ (share 67 100) ∷ (share 2 3) ∷ (share 0 1) ∷ (share 1 100) ∷ []); drep_voting_thresholds = ((share 1 1) ∷ (share 1 2) ∷ (share 67 100) ∷ (share 0 1) ∷ (share 0 1) ∷ (share 2 3) ∷ (share 1 3) ∷ (share 67 100) ∷ (share 67 100) ∷ (share 0 1) ∷ []); drep_activity = 0; committee_max_term_length = 9 }); document = (h32 0x01); script = (Some (h28 0x98)); committee = (Some (record { threshold = (share 0 1); members = (((key 0x70), 0, (Some (key 0x30))) ∷ []) })); outputs = (((ref 0x09 0), (address_with 1 (key 0x01) (Some (key 0x30))), 5389, []) ∷ ((ref 0x09 1), (address_with 1 (script 0x03) None), 4507, []) ∷ ((ref 0x09 2), (address_with 1 (key 0x10) (Some (key 0x10))), 5991, []) ∷ ((ref 0x09 3), (address_with 1 (key 0x02) (Some (key 0x12))), 1920, []) ∷ ((ref 0x01 4), (address_with 1 (key 0x02) None), 5055, []) ∷ ((ref 0x09 5), (address_with 1 (key 0x10) None), 2129, []) ∷ ((ref 0x09 6), (address_with 1 (script 0x03) None), 3178, []) ∷ ((ref 0x01 7), (address_with 1 (key 0x10) None), 5563, []) ∷ ((ref 0x01 8), (address_with 1 (key 0x10) None), 1344, []) ∷ ((ref 0x01 9), (address_with 1 (key 0x10) None), 5597, []) ∷ ((ref 0x01 10), (address_with 1 (script 0x03) None), 1084, []) ∷ ((ref 0x01 11), (address_with 1 (key 0x01) None), 5353, []) ∷ ((ref 0x01 12), (address_with 1 (key 0x01) None), 1162, []) ∷ ((ref 0x01 13), (address_with 1 (script 0x03) (Some (script 0x10))), 1666, []) ∷ ((ref 0x09 14), (address_with 1 (key 0x01) (Some (key 0x15))), 1039, []) ∷ ((ref 0x01 15), (address_with 1 (script 0x03) None), 1920, []) ∷ ((ref 0x09 16), (address_with 1 (key 0x10) (Some (key 0x14))), 995, []) ∷ []); accounts = (((key 0x14), 0, 67, (Some (pool 0x10)), None) ∷ ((key 0x11), 0, 0, (Some (pool 0x51)), (Some drep.NoConfidence)) ∷ ((key 0x12), 3, 0, None, (Some drep.Abstain)) ∷ ((script 0x10), 3, 67, (Some (pool 0x50)), None) ∷ ((script 0x13), 3, 0, (Some (pool 0x10)), None) ∷ ((key 0x30), 3, 1, (Some (pool 0x10)), (Some (drep.Registered (key 0x31)))) ∷ ((key 0x10), 3, 0, (Some (pool 0x51)), None) ∷ []); pools = ((record { pool = (pool 0x10); deposit = 4; cost = 25; pledge = 0; margin = (share 1 9); account = (account_on 1 (key 0x10)); key = (Some (h32 0x09)) }) ∷ (record { pool = (pool 0x52); deposit = 4; cost = 66; pledge = 0; margin = (share 1 9); account = (account_on 1 (script 0x13)); key = None }) ∷ (record { pool = (pool 0x51); deposit = 4; cost = 44; pledge = 0; margin = (share 1 9); account = (account_on 1 (key 0x10)); key = (Some (h32 0x07)) }) ∷ (record { pool = (pool 0x50); deposit = 50; cost = 5; pledge = 0; margin = (share 1 9); account = (account_on 1 (key 0x12)); key = (Some (h32 0x08)) }) ∷ []); dreps = (((key 0x31), 5, 22) ∷ []) }))) ∷
     (8, Read (records.Tx (record (spend 0x13 4172) { inputs = ((ref 0x09 6) ∷ (ref 0x01 12) ∷ (ref 0x09 3) ∷ []); outputs = ((paying (address_with 1 (script 0x03) None) 2048 65) ∷ []); size = 400; script_fee = 5; donation = 30; proposals = ((proposing 10 (account_on 1 (key 0x30)) (actions.NewConstitution None (h32 0x05) (Some (h28 0x98)))) ∷ []); votes = ((voting (voter.Drep (key 0x31)) (action 0x10 0) vote.Yes) ∷ []) }))) ∷
     (9, Read (records.Print what.Pots)) ∷
     (10, Read (records.Tx (record (spend 0x14 75) { inputs = ((ref 0x09 16) ∷ []); outputs = ((paying (address_with 1 (script 0x03) (Some (script 0x10))) 920 29) ∷ (paying (address_with 1 (key 0x02) None) 0 57) ∷ []); size = 400; script_fee = 5; until = (Some 72); treasury = (Some 100); certs = ((certs.AccountReg (key 0x15) None (Some (pool 0x52)) (Some drep.Abstain)) ∷ (certs.PoolRetire (pool 0x10) 25) ∷ (certs.Delegate (key 0x10) (Some (pool 0x52)) (Some (drep.Registered (key 0x31)))) ∷ (certs.Delegate (key 0x11) (Some (pool 0x51)) (Some drep.NoConfidence)) ∷ []); votes = ((voting (voter.Committee (key 0x30)) (action 0x10 0) vote.Abstain) ∷ (voting (voter.Drep (key 0x31)) (action 0x10 0) vote.Abstain) ∷ (voting (voter.Committee (key 0x30)) (action 0x10 0) vote.Yes) ∷ (voting (voter.Committee (key 0x30)) (action 0x10 0) vote.Yes) ∷ (voting (voter.Committee (key 0x30)) (action 0x10 0) vote.Yes) ∷ (voting (voter.Drep (key 0x31)) (action 0x10 0) vote.Yes) ∷ []) }))) ∷

@@ -16,7 +16,7 @@ use Rattle.ledger_rows.proofs.Base.{h28, h32, key, script, pool, account_on, add
 
 abbrev transactions_of_all_parts_1_input : List (ℕ × Reading)
 transactions_of_all_parts_1_input =
-    (1, Read (records.Genesis (record { network = 1; slot = 50; epoch_length = 10; version = (11, 2); supply = 62357; reserves = 700; treasury = 5000; params = (record base_params { max_collateral_inputs = 0; min_fee_a = 1; min_fee_b = 70; key_deposit = 0; min_pool_cost = 340; coins_per_utxo_byte = 1; gov_action_lifetime = 6; drep_deposit = 50 }); document = (h32 0x01); script = (Some (h28 0x98)); committee = (Some (record { threshold = (share 1 2); members = [] })); outputs = (((ref 0x01 0), (address_with 1 (key 0x01) None), 1856) ∷ ((ref 0x09 1), (address_with 1 (script 0x03) (Some (script 0x10))), 5117) ∷ ((ref 0x09 2), (address_with 1 (key 0x10) (Some (script 0x13))), 3017) ∷ ((ref 0x01 3), (address_with 1 (key 0x02) (Some (key 0x12))), 2753) ∷ ((ref 0x01 4), (address_with 1 (key 0x02) None), 1048) ∷ ((ref 0x09 5), (address_with 1 (key 0x02) None), 1375) ∷ ((ref 0x09 6), (address_with 1 (key 0x01) None), 4315) ∷ ((ref 0x09 7), (address_with 1 (key 0x02) None), 3852) ∷ ((ref 0x09 8), (address_with 1 (key 0x02) None), 1346) ∷ ((ref 0x01 9), (address_with 1 (key 0x01) None), 1285) ∷ ((ref 0x09 10), (address_with 1 (key 0x01) (Some (script 0x13))), 2372) ∷ ((ref 0x01 11), (address_with 1 (script 0x03) None), 2686) ∷ ((ref 0x09 12), (address_with 1 (key 0x02) None), 5286) ∷ ((ref 0x01 13), (address_with 1 (key 0x01) None), 5530) ∷ ((ref 0x09 14), (address_with 1 (key 0x02) None), 1650) ∷ ((ref 0x01 15), (address_with 1 (key 0x02) None), 3008) ∷ ((ref 0x09 16), (address_with 1 (key 0x10) None), 2763) ∷ ((ref 0x01 17), (address_with 1 (key 0x01) (Some (key 0x10))), 3882) ∷ ((ref 0x09 18), (address_with 1 (key 0x02) None), 2430) ∷ []); accounts = (((key 0x12), 0, 67, None, (Some (drep.Registered (key 0x10)))) ∷ ((script 0x10), 0, 1, None, (Some drep.Abstain)) ∷ ((key 0x11), 3, 800, (Some (pool 0x50)), (Some (drep.Registered (key 0x10)))) ∷ ((key 0x10), 3, 67, (Some (pool 0x52)), (Some (drep.Registered (script 0x30)))) ∷ ((script 0x13), 3, 1, None, None) ∷ ((key 0x14), 3, 67, (Some (pool 0x10)), None) ∷ ((key 0x15), 0, 0, (Some (pool 0x50)), (Some drep.Abstain)) ∷ ((key 0x30), 3, 0, None, (Some drep.NoConfidence)) ∷ []); pools = ((record { pool = (pool 0x52); deposit = 4; cost = 5; pledge = 0; margin = (share 1 9); account = (account_on 1 (key 0x12)); key = None }) ∷ (record { pool = (pool 0x10); deposit = 4; cost = 9; pledge = 0; margin = (share 1 9); account = (account_on 1 (script 0x13)); key = None }) ∷ (record { pool = (pool 0x50); deposit = 4; cost = 5; pledge = 0; margin = (share 1 9); account = (account_on 1 (key 0x14)); key = None }) ∷ []); dreps = (((key 0x10), 50, 4) ∷ ((script 0x30), 6, 17) ∷ []) }))) ∷
+    (1, Read (records.Genesis (record { network = 1; slot = 50; epoch_length = 10; version = (11, 2); supply = 62357; reserves = 700; treasury = 5000; params = (record base_params { max_collateral_inputs = 0; min_fee_a = 1; min_fee_b = 70; key_deposit = 0; min_pool_cost = 340; coins_per_utxo_byte = 1; gov_action_lifetime = 6; drep_deposit = 50 }); document = (h32 0x01); script = (Some (h28 0x98)); committee = (Some (record { threshold = (share 1 2); members = [] })); outputs = (((ref 0x01 0), (address_with 1 (key 0x01) None), 1856, []) ∷ ((ref 0x09 1), (address_with 1 (script 0x03) (Some (script 0x10))), 5117, []) ∷ ((ref 0x09 2), (address_with 1 (key 0x10) (Some (script 0x13))), 3017, []) ∷ ((ref 0x01 3), (address_with 1 (key 0x02) (Some (key 0x12))), 2753, []) ∷ ((ref 0x01 4), (address_with 1 (key 0x02) None), 1048, []) ∷ ((ref 0x09 5), (address_with 1 (key 0x02) None), 1375, []) ∷ ((ref 0x09 6), (address_with 1 (key 0x01) None), 4315, []) ∷ ((ref 0x09 7), (address_with 1 (key 0x02) None), 3852, []) ∷ ((ref 0x09 8), (address_with 1 (key 0x02) None), 1346, []) ∷ ((ref 0x01 9), (address_with 1 (key 0x01) None), 1285, []) ∷ ((ref 0x09 10), (address_with 1 (key 0x01) (Some (script 0x13))), 2372, []) ∷ ((ref 0x01 11), (address_with 1 (script 0x03) None), 2686, []) ∷ ((ref 0x09 12), (address_with 1 (key 0x02) None), 5286, []) ∷ ((ref 0x01 13), (address_with 1 (key 0x01) None), 5530, []) ∷ ((ref 0x09 14), (address_with 1 (key 0x02) None), 1650, []) ∷ ((ref 0x01 15), (address_with 1 (key 0x02) None), 3008, []) ∷ ((ref 0x09 16), (address_with 1 (key 0x10) None), 2763, []) ∷ ((ref 0x01 17), (address_with 1 (key 0x01) (Some (key 0x10))), 3882, []) ∷ ((ref 0x09 18), (address_with 1 (key 0x02) None), 2430, []) ∷ []); accounts = (((key 0x12), 0, 67, None, (Some (drep.Registered (key 0x10)))) ∷ ((script 0x10), 0, 1, None, (Some drep.Abstain)) ∷ ((key 0x11), 3, 800, (Some (pool 0x50)), (Some (drep.Registered (key 0x10)))) ∷ ((key 0x10), 3, 67, (Some (pool 0x52)), (Some (drep.Registered (script 0x30)))) ∷ ((script 0x13), 3, 1, None, None) ∷ ((key 0x14), 3, 67, (Some (pool 0x10)), None) ∷ ((key 0x15), 0, 0, (Some (pool 0x50)), (Some drep.Abstain)) ∷ ((key 0x30), 3, 0, None, (Some drep.NoConfidence)) ∷ []); pools = ((record { pool = (pool 0x52); deposit = 4; cost = 5; pledge = 0; margin = (share 1 9); account = (account_on 1 (key 0x12)); key = None }) ∷ (record { pool = (pool 0x10); deposit = 4; cost = 9; pledge = 0; margin = (share 1 9); account = (account_on 1 (script 0x13)); key = None }) ∷ (record { pool = (pool 0x50); deposit = 4; cost = 5; pledge = 0; margin = (share 1 9); account = (account_on 1 (key 0x14)); key = None }) ∷ []); dreps = (((key 0x10), 50, 4) ∷ ((script 0x30), 6, 17) ∷ []) }))) ∷
     (2, Read (records.Print what.Pots)) ∷
     (3, Read (records.Tx (record (spend 0x10 287) { inputs = ((ref 0x01 0) ∷ (ref 0x09 1) ∷ (ref 0x09 6) ∷ []); outputs = ((paying (address_with 1 (key 0x02) None) 11068 57) ∷ []); size = 217; until = (Some 59); treasury = (Some 5000); withdrawals = (((account_on 1 (key 0x30)), 0) ∷ ((account_on 1 (key 0x12)), 67) ∷ []); certs = ((certs.AccountUnreg (key 0x12) (Some 0)) ∷ (certs.HotAuth (key 0x71) (key 0x80)) ∷ []) }))) ∷
     (4, Read (records.Tx (record (spend 0x11 110) { inputs = ((ref 0x01 17) ∷ (ref 0x09 2) ∷ (ref 0x01 3) ∷ []); outputs = ((paying (address_with 1 (script 0x03) None) 9554 65) ∷ []); size = 40; treasury = (Some 5000); withdrawals = (((account_on 1 (key 0x15)), 0) ∷ ((account_on 1 (key 0x10)), 67) ∷ []); certs = ((certs.PoolRetire (pool 0x52) 7) ∷ (certs.Delegate (key 0x15) None (Some (drep.Registered (script 0x30)))) ∷ (certs.PoolReg (pool 0x51) 340 7 (share 0 1) (account_on 1 (key 0x14)) None) ∷ (certs.DrepReg (key 0x30) None) ∷ []); proposals = ((proposing 10 (account_on 1 (key 0x11)) (actions.UpdateCommittee None ((script 0x70) ∷ (key 0x70) ∷ []) (((key 0x72), 10) ∷ ((script 0x70), 6) ∷ ((key 0x71), 6) ∷ []) (share 2 3))) ∷ []) }))) ∷
@@ -175,7 +175,7 @@ transactions_of_all_parts_1 = refl
 
 abbrev transactions_of_all_parts_2_input : List (ℕ × Reading)
 transactions_of_all_parts_2_input =
-    (1, Read (records.Genesis (record { network = 1; slot = 50; epoch_length = 10; version = (11, 1); supply = 54822; reserves = 0; treasury = 5000; params = (record base_params { min_fee_b = 70; key_deposit = 0; pool_deposit = 0; min_pool_cost = 340; coins_per_utxo_byte = 1; e_max = 1; gov_action_lifetime = 6; drep_activity = 0 }); document = (h32 0x01); script = (Some (h28 0x99)); committee = (Some (record { threshold = (share 1 2); members = (((key 0x71), 3, (Some (key 0x70))) ∷ ((script 0x70), 5, None) ∷ ((key 0x72), 7, (Some (script 0x80))) ∷ ((key 0x70), 3, (Some (key 0x81))) ∷ []) })); outputs = (((ref 0x01 0), (address_with 1 (key 0x02) (Some (key 0x15))), 4993) ∷ ((ref 0x01 1), (address_with 1 (key 0x01) (Some (key 0x10))), 5301) ∷ ((ref 0x01 2), (address_with 1 (script 0x03) None), 2881) ∷ ((ref 0x01 3), (address_with 1 (script 0x03) None), 780) ∷ ((ref 0x09 4), (address_with 1 (key 0x02) None), 5021) ∷ ((ref 0x09 5), (address_with 1 (script 0x03) None), 2422) ∷ ((ref 0x01 6), (address_with 1 (key 0x02) (Some (script 0x10))), 608) ∷ ((ref 0x01 7), (address_with 1 (key 0x02) (Some (key 0x15))), 4443) ∷ ((ref 0x01 8), (address_with 1 (key 0x01) None), 5175) ∷ ((ref 0x01 9), (address_with 1 (key 0x02) None), 4224) ∷ ((ref 0x09 10), (address_with 1 (script 0x03) None), 3791) ∷ ((ref 0x01 11), (address_with 1 (script 0x03) None), 4415) ∷ ((ref 0x09 12), (address_with 1 (key 0x10) None), 5737) ∷ []); accounts = (((key 0x14), 0, 0, None, (Some (drep.Registered (key 0x30)))) ∷ ((key 0x11), 0, 1, (Some (pool 0x10)), None) ∷ ((key 0x10), 0, 0, (Some (pool 0x51)), (Some drep.NoConfidence)) ∷ []); pools = ((record { pool = (pool 0x10); deposit = 4; cost = 60; pledge = 0; margin = (share 1 9); account = (account_on 1 (script 0x10)); key = None }) ∷ (record { pool = (pool 0x51); deposit = 4; cost = 40; pledge = 0; margin = (share 1 9); account = (account_on 1 (key 0x12)); key = None }) ∷ []); dreps = (((key 0x31), 5, 25) ∷ ((key 0x30), 6, 18) ∷ ((key 0x10), 6, 24) ∷ ((script 0x30), 5, 24) ∷ []) }))) ∷
+    (1, Read (records.Genesis (record { network = 1; slot = 50; epoch_length = 10; version = (11, 1); supply = 54822; reserves = 0; treasury = 5000; params = (record base_params { min_fee_b = 70; key_deposit = 0; pool_deposit = 0; min_pool_cost = 340; coins_per_utxo_byte = 1; e_max = 1; gov_action_lifetime = 6; drep_activity = 0 }); document = (h32 0x01); script = (Some (h28 0x99)); committee = (Some (record { threshold = (share 1 2); members = (((key 0x71), 3, (Some (key 0x70))) ∷ ((script 0x70), 5, None) ∷ ((key 0x72), 7, (Some (script 0x80))) ∷ ((key 0x70), 3, (Some (key 0x81))) ∷ []) })); outputs = (((ref 0x01 0), (address_with 1 (key 0x02) (Some (key 0x15))), 4993, []) ∷ ((ref 0x01 1), (address_with 1 (key 0x01) (Some (key 0x10))), 5301, []) ∷ ((ref 0x01 2), (address_with 1 (script 0x03) None), 2881, []) ∷ ((ref 0x01 3), (address_with 1 (script 0x03) None), 780, []) ∷ ((ref 0x09 4), (address_with 1 (key 0x02) None), 5021, []) ∷ ((ref 0x09 5), (address_with 1 (script 0x03) None), 2422, []) ∷ ((ref 0x01 6), (address_with 1 (key 0x02) (Some (script 0x10))), 608, []) ∷ ((ref 0x01 7), (address_with 1 (key 0x02) (Some (key 0x15))), 4443, []) ∷ ((ref 0x01 8), (address_with 1 (key 0x01) None), 5175, []) ∷ ((ref 0x01 9), (address_with 1 (key 0x02) None), 4224, []) ∷ ((ref 0x09 10), (address_with 1 (script 0x03) None), 3791, []) ∷ ((ref 0x01 11), (address_with 1 (script 0x03) None), 4415, []) ∷ ((ref 0x09 12), (address_with 1 (key 0x10) None), 5737, []) ∷ []); accounts = (((key 0x14), 0, 0, None, (Some (drep.Registered (key 0x30)))) ∷ ((key 0x11), 0, 1, (Some (pool 0x10)), None) ∷ ((key 0x10), 0, 0, (Some (pool 0x51)), (Some drep.NoConfidence)) ∷ []); pools = ((record { pool = (pool 0x10); deposit = 4; cost = 60; pledge = 0; margin = (share 1 9); account = (account_on 1 (script 0x10)); key = None }) ∷ (record { pool = (pool 0x51); deposit = 4; cost = 40; pledge = 0; margin = (share 1 9); account = (account_on 1 (key 0x12)); key = None }) ∷ []); dreps = (((key 0x31), 5, 25) ∷ ((key 0x30), 6, 18) ∷ ((key 0x10), 6, 24) ∷ ((script 0x30), 5, 24) ∷ []) }))) ∷
     (2, Read (records.Tx (record (spend 0x10 79) { inputs = ((ref 0x09 5) ∷ (ref 0x01 2) ∷ (ref 0x01 8) ∷ []); outputs = ((paying (address_with 1 (key 0x01) (Some (key 0x15))) 5195 0) ∷ (paying (address_with 1 (key 0x01) (Some (script 0x10))) 5195 0) ∷ []); size = 17; script_fee = 18446744073709551615; from = (Some 50); until = (Some 59); withdrawals = (((account_on 1 (key 0x30)), 7) ∷ []); certs = ((certs.DrepUnreg (key 0x30) None) ∷ (certs.DrepReg (key 0x30) None) ∷ []); proposals = ((proposing 10 (account_on 1 (key 0x10)) (actions.HardForkInitiation None (11, 2))) ∷ []) }))) ∷
     (3, Read (records.Tx (record (spend 0x11 2606) { inputs = ((ref 0x01 8) ∷ (ref 0x01 6) ∷ []); outputs = ((paying (address_with 1 (key 0x01) None) 1901 65) ∷ (paying (address_with 1 (key 0x10) (Some (script 0x10))) 1267 29) ∷ []); size = 322; certs = ((certs.PoolReg (pool 0x10) 345 7 (share 1 2) (account_on 1 (key 0x14)) None) ∷ (certs.DrepUpdate (key 0x10)) ∷ (certs.DrepUnreg (key 0x10) (Some 6)) ∷ (certs.HotAuth (key 0x70) (key 0x70)) ∷ (certs.DrepReg (key 0x10) (Some 5)) ∷ (certs.HotResign (key 0x71)) ∷ (certs.HotResign (key 0x72)) ∷ []); proposals = ((proposing 10 (account_on 1 (key 0x14)) (actions.TreasuryWithdrawals (((account_on 1 (key 0x10)), 99) ∷ ((account_on 1 (key 0x11)), 0) ∷ []) (Some (h28 0x99)))) ∷ []) }))) ∷
     (4, Read (records.Tx (record (spend 0x12 79) { inputs = ((ref 0x09 12) ∷ (ref 0x01 9) ∷ (ref 0x09 10) ∷ []); outputs = ((paying (address_with 1 (script 0x03) None) 4557 57) ∷ (paying (address_with 1 (key 0x02) None) 4558 65) ∷ (paying (address_with 1 (key 0x02) None) 2279 29) ∷ (paying (address_with 1 (key 0x02) None) 2279 65) ∷ []); size = 257; from = (Some 50); until = (Some 51); certs = ((certs.PoolReg (pool 0x51) 340 5 (share 0 1) (account_on 1 (key 0x15)) None) ∷ (certs.HotAuth (key 0x70) (key 0x30)) ∷ (certs.AccountUnreg (key 0x10) (Some 0)) ∷ (certs.HotAuth (key 0x70) (script 0x80)) ∷ []) }))) ∷
@@ -309,7 +309,7 @@ transactions_of_all_parts_2 = refl
 
 abbrev transactions_of_all_parts_3_input : List (ℕ × Reading)
 transactions_of_all_parts_3_input =
-    (1, Read (records.Genesis (record { network = 1; slot = 50; epoch_length = 10; version = (10, 2); supply = 20218; reserves = 700; treasury = 0; params = (record base_params { min_fee_b = 7; pool_deposit = 50; min_pool_cost = 340; e_max = 0; collateral_percentage = 100; gov_action_lifetime = 6; gov_action_deposit = 0; drep_deposit = 0 }); document = (h32 0x01); script = (Some (h28 0x98)); committee = (Some (record { threshold = (share 1 2); members = (((key 0x70), 0, (Some (key 0x30))) ∷ []) })); outputs = (((ref 0x09 0), (address_with 1 (script 0x03) (Some (key 0x12))), 1248) ∷ ((ref 0x09 1), (address_with 1 (key 0x10) None), 1167) ∷ ((ref 0x01 2), (address_with 1 (key 0x02) None), 1166) ∷ ((ref 0x01 3), (address_with 1 (script 0x03) None), 1643) ∷ ((ref 0x01 4), (address_with 1 (key 0x01) (Some (key 0x11))), 864) ∷ ((ref 0x09 5), (address_with 1 (key 0x10) (Some (script 0x10))), 5976) ∷ ((ref 0x01 6), (address_with 1 (script 0x03) (Some (key 0x14))), 2066) ∷ ((ref 0x01 7), (address_with 1 (key 0x01) (Some (script 0x13))), 1652) ∷ ((ref 0x09 8), (address_with 1 (key 0x10) None), 1925) ∷ []); accounts = (((key 0x30), 2, 800, (Some (pool 0x10)), (Some (drep.Registered (script 0x30)))) ∷ ((key 0x12), 3, 0, None, (Some (drep.Registered (key 0x10)))) ∷ ((key 0x10), 3, 0, None, (Some drep.Abstain)) ∷ ((key 0x11), 3, 0, None, (Some drep.NoConfidence)) ∷ ((key 0x15), 3, 800, (Some (pool 0x51)), (Some drep.Abstain)) ∷ ((key 0x14), 3, 0, (Some (pool 0x51)), (Some (drep.Registered (key 0x30)))) ∷ ((script 0x13), 3, 67, (Some (pool 0x51)), (Some (drep.Registered (script 0x30)))) ∷ []); pools = ((record { pool = (pool 0x51); deposit = 50; cost = 23; pledge = 0; margin = (share 1 9); account = (account_on 1 (key 0x14)); key = None }) ∷ (record { pool = (pool 0x10); deposit = 50; cost = 43; pledge = 0; margin = (share 1 9); account = (account_on 1 (key 0x15)); key = None }) ∷ []); dreps = (((script 0x30), 6, 14) ∷ ((key 0x30), 6, 0) ∷ ((key 0x31), 6, 28) ∷ ((key 0x10), 6, 17) ∷ []) }))) ∷
+    (1, Read (records.Genesis (record { network = 1; slot = 50; epoch_length = 10; version = (10, 2); supply = 20218; reserves = 700; treasury = 0; params = (record base_params { min_fee_b = 7; pool_deposit = 50; min_pool_cost = 340; e_max = 0; collateral_percentage = 100; gov_action_lifetime = 6; gov_action_deposit = 0; drep_deposit = 0 }); document = (h32 0x01); script = (Some (h28 0x98)); committee = (Some (record { threshold = (share 1 2); members = (((key 0x70), 0, (Some (key 0x30))) ∷ []) })); outputs = (((ref 0x09 0), (address_with 1 (script 0x03) (Some (key 0x12))), 1248, []) ∷ ((ref 0x09 1), (address_with 1 (key 0x10) None), 1167, []) ∷ ((ref 0x01 2), (address_with 1 (key 0x02) None), 1166, []) ∷ ((ref 0x01 3), (address_with 1 (script 0x03) None), 1643, []) ∷ ((ref 0x01 4), (address_with 1 (key 0x01) (Some (key 0x11))), 864, []) ∷ ((ref 0x09 5), (address_with 1 (key 0x10) (Some (script 0x10))), 5976, []) ∷ ((ref 0x01 6), (address_with 1 (script 0x03) (Some (key 0x14))), 2066, []) ∷ ((ref 0x01 7), (address_with 1 (key 0x01) (Some (script 0x13))), 1652, []) ∷ ((ref 0x09 8), (address_with 1 (key 0x10) None), 1925, []) ∷ []); accounts = (((key 0x30), 2, 800, (Some (pool 0x10)), (Some (drep.Registered (script 0x30)))) ∷ ((key 0x12), 3, 0, None, (Some (drep.Registered (key 0x10)))) ∷ ((key 0x10), 3, 0, None, (Some drep.Abstain)) ∷ ((key 0x11), 3, 0, None, (Some drep.NoConfidence)) ∷ ((key 0x15), 3, 800, (Some (pool 0x51)), (Some drep.Abstain)) ∷ ((key 0x14), 3, 0, (Some (pool 0x51)), (Some (drep.Registered (key 0x30)))) ∷ ((script 0x13), 3, 67, (Some (pool 0x51)), (Some (drep.Registered (script 0x30)))) ∷ []); pools = ((record { pool = (pool 0x51); deposit = 50; cost = 23; pledge = 0; margin = (share 1 9); account = (account_on 1 (key 0x14)); key = None }) ∷ (record { pool = (pool 0x10); deposit = 50; cost = 43; pledge = 0; margin = (share 1 9); account = (account_on 1 (key 0x15)); key = None }) ∷ []); dreps = (((script 0x30), 6, 14) ∷ ((key 0x30), 6, 0) ∷ ((key 0x31), 6, 28) ∷ ((key 0x10), 6, 17) ∷ []) }))) ∷
     (2, Read (records.Tx (record (spend 0x10 553) { inputs = ((ref 0x01 3) ∷ []); outputs = ((paying (address_with 1 (key 0x01) None) 818 0) ∷ (paying (address_with 1 (key 0x10) (Some (key 0x10))) 272 57) ∷ []); size = 96; from = (Some 50); withdrawals = (((account_on 1 (key 0x14)), 0) ∷ []) }))) ∷
     (3, Read (records.Tx (record (spend 0x11 1507) { inputs = ((ref 0x10 0) ∷ (ref 0x09 0) ∷ (ref 0x01 4) ∷ []); outputs = ((paying (address_with 1 (key 0x10) None) 1490 29) ∷ []); size = 11; collateral = ((ref 0x01 2) ∷ []); treasury = (Some 0); withdrawals = (((account_on 1 (script 0x13)), 67) ∷ []); proposals = ((proposing 0 (account_on 1 (key 0x10)) (actions.Info)) ∷ (proposing 0 (account_on 1 (script 0x10)) (actions.HardForkInitiation (Some (action 0x10 0)) (11, 3))) ∷ []) }))) ∷
     (4, Read (records.Tx (record (spend 0x12 7) { inputs = ((ref 0x09 1) ∷ []); outputs = ((paying (address_with 1 (key 0x10) None) 1227 57) ∷ (paying (address_with 1 (script 0x03) None) 0 57) ∷ []); size = 374; until = (Some 59); withdrawals = (((account_on 1 (script 0x13)), 67) ∷ ((account_on 1 (key 0x11)), 0) ∷ []); proposals = ((proposing 0 (account_on 1 (key 0x11)) (actions.NewConstitution None (h32 0x05) None)) ∷ []) }))) ∷
@@ -436,7 +436,7 @@ transactions_of_all_parts_3 = refl
 
 abbrev transactions_of_all_parts_4_input : List (ℕ × Reading)
 transactions_of_all_parts_4_input =
-    (1, Read (records.Genesis (record { network = 1; slot = 50; epoch_length = 10; version = (10, 0); supply = 31168; reserves = 700; treasury = 0; params = (record base_params { max_tx_size = 400; max_collateral_inputs = 0; min_fee_b = 70; pool_deposit = 50; coins_per_utxo_byte = 1; gov_action_lifetime = 6; drep_deposit = 0 }); document = (h32 0x01); script = (Some (h28 0x99)); committee = (Some (record { threshold = (share 1 2); members = (((key 0x70), 6, (Some (script 0x80))) ∷ ((key 0x72), 3, (Some (key 0x80))) ∷ ((key 0x71), 1, None) ∷ ((script 0x70), 2, (Some (key 0x81))) ∷ []) })); outputs = (((ref 0x01 0), (address_with 1 (key 0x02) None), 5081) ∷ ((ref 0x01 1), (address_with 1 (key 0x02) None), 3543) ∷ ((ref 0x09 2), (address_with 1 (key 0x10) None), 3355) ∷ ((ref 0x09 3), (address_with 1 (key 0x10) None), 4600) ∷ ((ref 0x01 4), (address_with 1 (key 0x02) None), 596) ∷ ((ref 0x09 5), (address_with 1 (key 0x01) None), 1217) ∷ ((ref 0x01 6), (address_with 1 (script 0x03) (Some (script 0x10))), 3742) ∷ ((ref 0x09 7), (address_with 1 (key 0x01) None), 419) ∷ ((ref 0x09 8), (address_with 1 (key 0x01) None), 1273) ∷ ((ref 0x01 9), (address_with 1 (script 0x03) None), 2189) ∷ ((ref 0x09 10), (address_with 1 (key 0x10) (Some (script 0x10))), 4416) ∷ []); accounts = (((script 0x13), 3, 0, None, (Some (drep.Registered (script 0x30)))) ∷ ((key 0x30), 3, 0, None, (Some drep.NoConfidence)) ∷ ((key 0x11), 3, 0, None, (Some drep.Abstain)) ∷ ((key 0x12), 2, 0, (Some (pool 0x52)), (Some drep.NoConfidence)) ∷ []); pools = ((record { pool = (pool 0x10); deposit = 4; cost = 62; pledge = 0; margin = (share 1 9); account = (account_on 1 (key 0x30)); key = None }) ∷ (record { pool = (pool 0x52); deposit = 4; cost = 82; pledge = 0; margin = (share 1 9); account = (account_on 1 (key 0x10)); key = None }) ∷ []); dreps = (((key 0x10), 6, 1) ∷ ((script 0x30), 6, 15) ∷ ((key 0x31), 6, 26) ∷ []) }))) ∷
+    (1, Read (records.Genesis (record { network = 1; slot = 50; epoch_length = 10; version = (10, 0); supply = 31168; reserves = 700; treasury = 0; params = (record base_params { max_tx_size = 400; max_collateral_inputs = 0; min_fee_b = 70; pool_deposit = 50; coins_per_utxo_byte = 1; gov_action_lifetime = 6; drep_deposit = 0 }); document = (h32 0x01); script = (Some (h28 0x99)); committee = (Some (record { threshold = (share 1 2); members = (((key 0x70), 6, (Some (script 0x80))) ∷ ((key 0x72), 3, (Some (key 0x80))) ∷ ((key 0x71), 1, None) ∷ ((script 0x70), 2, (Some (key 0x81))) ∷ []) })); outputs = (((ref 0x01 0), (address_with 1 (key 0x02) None), 5081, []) ∷ ((ref 0x01 1), (address_with 1 (key 0x02) None), 3543, []) ∷ ((ref 0x09 2), (address_with 1 (key 0x10) None), 3355, []) ∷ ((ref 0x09 3), (address_with 1 (key 0x10) None), 4600, []) ∷ ((ref 0x01 4), (address_with 1 (key 0x02) None), 596, []) ∷ ((ref 0x09 5), (address_with 1 (key 0x01) None), 1217, []) ∷ ((ref 0x01 6), (address_with 1 (script 0x03) (Some (script 0x10))), 3742, []) ∷ ((ref 0x09 7), (address_with 1 (key 0x01) None), 419, []) ∷ ((ref 0x09 8), (address_with 1 (key 0x01) None), 1273, []) ∷ ((ref 0x01 9), (address_with 1 (script 0x03) None), 2189, []) ∷ ((ref 0x09 10), (address_with 1 (key 0x10) (Some (script 0x10))), 4416, []) ∷ []); accounts = (((script 0x13), 3, 0, None, (Some (drep.Registered (script 0x30)))) ∷ ((key 0x30), 3, 0, None, (Some drep.NoConfidence)) ∷ ((key 0x11), 3, 0, None, (Some drep.Abstain)) ∷ ((key 0x12), 2, 0, (Some (pool 0x52)), (Some drep.NoConfidence)) ∷ []); pools = ((record { pool = (pool 0x10); deposit = 4; cost = 62; pledge = 0; margin = (share 1 9); account = (account_on 1 (key 0x30)); key = None }) ∷ (record { pool = (pool 0x52); deposit = 4; cost = 82; pledge = 0; margin = (share 1 9); account = (account_on 1 (key 0x10)); key = None }) ∷ []); dreps = (((key 0x10), 6, 1) ∷ ((script 0x30), 6, 15) ∷ ((key 0x31), 6, 26) ∷ []) }))) ∷
     (2, Read (records.Tx (record (spend 0x10 70) { inputs = ((ref 0x09 7) ∷ (ref 0x09 3) ∷ []); outputs = ((paying (address_with 1 (key 0x10) (Some (key 0x11))) 4945 0) ∷ []); size = 135; until = (Some 51); treasury = (Some 0); certs = ((certs.DrepUnreg (key 0x31) None) ∷ (certs.DrepReg (key 0x31) None) ∷ (certs.PoolRetire (pool 0x52) 23) ∷ (certs.HotAuth (key 0x70) (key 0x80)) ∷ []); proposals = ((proposing 10 (account_on 1 (script 0x13)) (actions.NoConfidence None)) ∷ []) }))) ∷
     (3, Read (records.Print what.Pots)) ∷
     (4, Read (records.Tx (record (spend 0x11 75) { inputs = ((ref 0x01 0) ∷ (ref 0x09 5) ∷ []); outputs = ((paying (address_with 1 (key 0x10) None) 6143 65) ∷ []); size = 9; script_fee = 5; from = (Some 50); certs = ((certs.PoolReg (pool 0x51) 0 6 (share 0 1) (account_on 1 (key 0x14)) None) ∷ []); proposals = ((proposing 10 (account_on 1 (key 0x12)) (actions.HardForkInitiation None (10, 1))) ∷ (proposing 10 (account_on 1 (script 0x13)) (actions.Info)) ∷ (proposing 10 (account_on 0 (script 0x10)) (actions.TreasuryWithdrawals (((account_on 1 (script 0x10)), 0) ∷ ((account_on 1 (key 0x30)), 0) ∷ []) (Some (h28 0x99)))) ∷ (proposing 10 (account_on 1 (key 0x12)) (actions.NewConstitution None (h32 0x07) (Some (h28 0x99)))) ∷ []); votes = ((voting (voter.Pool (pool 0x52)) (action 0x10 0) vote.Yes) ∷ []) }))) ∷

@@ -16,7 +16,7 @@ use Rattle.ledger_rows.proofs.Base.{h28, h32, key, script, pool, account_on, add
 
 abbrev transactions_of_all_parts_5_input : List (ℕ × Reading)
 transactions_of_all_parts_5_input =
-    (1, Read (records.Genesis (record { network = 1; slot = 5; epoch_length = 10; version = (11, 1); supply = 63556; reserves = 0; treasury = 0; params = (record base_params { max_tx_size = 400; min_fee_b = 70; key_deposit = 20; pool_deposit = 50; min_pool_cost = 340; coins_per_utxo_byte = 1; e_max = 0; collateral_percentage = 0; gov_action_lifetime = 0; gov_action_deposit = 0 }); document = (h32 0x01); script = None; committee = (Some (record { threshold = (share 1 2); members = (((script 0x70), 7, (Some (key 0x80))) ∷ ((key 0x72), 7, (Some (key 0x80))) ∷ ((key 0x70), 4, (Some (key 0x70))) ∷ []) })); outputs = (((ref 0x09 0), (address_with 1 (script 0x03) None), 5295) ∷ ((ref 0x09 1), (address_with 1 (script 0x03) None), 5393) ∷ ((ref 0x01 2), (address_with 1 (key 0x01) None), 3984) ∷ ((ref 0x01 3), (address_with 1 (key 0x02) None), 1477) ∷ ((ref 0x09 4), (address_with 1 (script 0x03) (Some (key 0x10))), 2136) ∷ ((ref 0x01 5), (address_with 1 (script 0x03) (Some (script 0x10))), 4058) ∷ ((ref 0x01 6), (address_with 1 (key 0x01) None), 2676) ∷ ((ref 0x01 7), (address_with 1 (key 0x10) None), 1591) ∷ ((ref 0x01 8), (address_with 1 (script 0x03) None), 1670) ∷ ((ref 0x01 9), (address_with 1 (key 0x01) None), 1237) ∷ ((ref 0x09 10), (address_with 1 (key 0x01) None), 3046) ∷ ((ref 0x09 11), (address_with 1 (key 0x01) (Some (script 0x13))), 5302) ∷ ((ref 0x01 12), (address_with 1 (key 0x01) (Some (key 0x11))), 2764) ∷ ((ref 0x09 13), (address_with 1 (key 0x01) None), 4192) ∷ ((ref 0x09 14), (address_with 1 (key 0x01) None), 3091) ∷ ((ref 0x09 15), (address_with 1 (key 0x10) None), 817) ∷ ((ref 0x01 16), (address_with 1 (key 0x02) (Some (script 0x13))), 4438) ∷ ((ref 0x01 17), (address_with 1 (key 0x02) (Some (key 0x11))), 4320) ∷ ((ref 0x09 18), (address_with 1 (key 0x10) None), 5913) ∷ []); accounts = (((key 0x15), 3, 0, (Some (pool 0x51)), (Some drep.NoConfidence)) ∷ ((key 0x11), 3, 67, None, (Some (drep.Registered (key 0x31)))) ∷ ((script 0x10), 3, 1, None, None) ∷ ((key 0x14), 3, 67, (Some (pool 0x51)), (Some drep.Abstain)) ∷ []); pools = ((record { pool = (pool 0x51); deposit = 4; cost = 11; pledge = 0; margin = (share 1 9); account = (account_on 1 (key 0x10)); key = None }) ∷ []); dreps = (((key 0x31), 5, 8) ∷ []) }))) ∷
+    (1, Read (records.Genesis (record { network = 1; slot = 5; epoch_length = 10; version = (11, 1); supply = 63556; reserves = 0; treasury = 0; params = (record base_params { max_tx_size = 400; min_fee_b = 70; key_deposit = 20; pool_deposit = 50; min_pool_cost = 340; coins_per_utxo_byte = 1; e_max = 0; collateral_percentage = 0; gov_action_lifetime = 0; gov_action_deposit = 0 }); document = (h32 0x01); script = None; committee = (Some (record { threshold = (share 1 2); members = (((script 0x70), 7, (Some (key 0x80))) ∷ ((key 0x72), 7, (Some (key 0x80))) ∷ ((key 0x70), 4, (Some (key 0x70))) ∷ []) })); outputs = (((ref 0x09 0), (address_with 1 (script 0x03) None), 5295, []) ∷ ((ref 0x09 1), (address_with 1 (script 0x03) None), 5393, []) ∷ ((ref 0x01 2), (address_with 1 (key 0x01) None), 3984, []) ∷ ((ref 0x01 3), (address_with 1 (key 0x02) None), 1477, []) ∷ ((ref 0x09 4), (address_with 1 (script 0x03) (Some (key 0x10))), 2136, []) ∷ ((ref 0x01 5), (address_with 1 (script 0x03) (Some (script 0x10))), 4058, []) ∷ ((ref 0x01 6), (address_with 1 (key 0x01) None), 2676, []) ∷ ((ref 0x01 7), (address_with 1 (key 0x10) None), 1591, []) ∷ ((ref 0x01 8), (address_with 1 (script 0x03) None), 1670, []) ∷ ((ref 0x01 9), (address_with 1 (key 0x01) None), 1237, []) ∷ ((ref 0x09 10), (address_with 1 (key 0x01) None), 3046, []) ∷ ((ref 0x09 11), (address_with 1 (key 0x01) (Some (script 0x13))), 5302, []) ∷ ((ref 0x01 12), (address_with 1 (key 0x01) (Some (key 0x11))), 2764, []) ∷ ((ref 0x09 13), (address_with 1 (key 0x01) None), 4192, []) ∷ ((ref 0x09 14), (address_with 1 (key 0x01) None), 3091, []) ∷ ((ref 0x09 15), (address_with 1 (key 0x10) None), 817, []) ∷ ((ref 0x01 16), (address_with 1 (key 0x02) (Some (script 0x13))), 4438, []) ∷ ((ref 0x01 17), (address_with 1 (key 0x02) (Some (key 0x11))), 4320, []) ∷ ((ref 0x09 18), (address_with 1 (key 0x10) None), 5913, []) ∷ []); accounts = (((key 0x15), 3, 0, (Some (pool 0x51)), (Some drep.NoConfidence)) ∷ ((key 0x11), 3, 67, None, (Some (drep.Registered (key 0x31)))) ∷ ((script 0x10), 3, 1, None, None) ∷ ((key 0x14), 3, 67, (Some (pool 0x51)), (Some drep.Abstain)) ∷ []); pools = ((record { pool = (pool 0x51); deposit = 4; cost = 11; pledge = 0; margin = (share 1 9); account = (account_on 1 (key 0x10)); key = None }) ∷ []); dreps = (((key 0x31), 5, 8) ∷ []) }))) ∷
     (2, Read (records.Tx (record (spend 0x10 306) { inputs = ((ref 0x09 4) ∷ []); outputs = ((paying (address_with 1 (script 0x03) (Some (key 0x30))) 1017 65) ∷ (paying (address_with 1 (key 0x02) (Some (key 0x11))) 339 65) ∷ (paying (address_with 1 (key 0x10) None) 226 29) ∷ (paying (address_with 1 (key 0x01) None) 226 65) ∷ []); size = 119; until = (Some 6); certs = ((certs.HotResign (script 0x70)) ∷ (certs.DrepReg (script 0x30) (Some 5)) ∷ (certs.AccountReg (script 0x13) None None (Some drep.NoConfidence)) ∷ (certs.PoolReg (pool 0x51) 345 0 (share 1 2) (account_on 1 (key 0x12)) None) ∷ (certs.HotAuth (key 0x72) (key 0x81)) ∷ (certs.AccountUnreg (key 0x15) None) ∷ (certs.HotResign (key 0x70)) ∷ []); proposals = ((proposing 0 (account_on 1 (key 0x11)) (actions.Info)) ∷ []) }))) ∷
     (3, Read (records.Tx (record (spend 0x11 79) { inputs = ((ref 0x09 1) ∷ (ref 0x01 2) ∷ []); outputs = ((paying (address_with 1 (key 0x02) (Some (key 0x15))) 4657 65) ∷ (paying (address_with 1 (script 0x03) None) 2329 29) ∷ (paying (address_with 1 (key 0x01) None) 2329 29) ∷ []); size = 237; until = (Some 14); withdrawals = (((account_on 1 (key 0x14)), 67) ∷ []); certs = ((certs.DrepUpdate (key 0x31)) ∷ (certs.DrepReg (key 0x10) None) ∷ (certs.DrepUnreg (script 0x30) None) ∷ (certs.PoolReg (pool 0x10) 340 4 (share 0 1) (account_on 1 (key 0x11)) None) ∷ []); proposals = ((proposing 0 (account_on 1 (script 0x10)) (actions.UpdateCommittee None ((script 0x70) ∷ []) (((script 0x70), 0) ∷ ((key 0x71), 9) ∷ []) (share 0 1))) ∷ []) }))) ∷
     (4, Read (records.Tx (record (spend 0x12 18446744073709551615) { inputs = ((ref 0x10 1) ∷ []); size = 338; script_fee = 5; scripts = scripts.Failed; until = (Some 14); collateral = ((ref 0x09 10) ∷ (ref 0x09 13) ∷ (ref 0x10 1) ∷ []); withdrawals = (((account_on 1 (key 0x11)), 67) ∷ []); certs = ((certs.HotResign (key 0x72)) ∷ (certs.DrepUpdate (script 0x30)) ∷ (certs.PoolReg (pool 0x10) 340 3 (share 0 1) (account_on 1 (key 0x14)) None) ∷ (certs.DrepReg (key 0x30) None) ∷ (certs.PoolReg (pool 0x10) 340 2 (share 1 2) (account_on 1 (script 0x10)) None) ∷ (certs.Delegate (script 0x13) None (Some (drep.Registered (script 0x30)))) ∷ (certs.DrepUnreg (key 0x30) None) ∷ []); proposals = ((proposing 0 (account_on 1 (script 0x13)) (actions.TreasuryWithdrawals (((account_on 1 (script 0x13)), 5) ∷ []) None)) ∷ (proposing 0 (account_on 1 (key 0x14)) (actions.NoConfidence None)) ∷ []); votes = ((voting (voter.Drep (key 0x31)) (action 0x10 0) vote.No) ∷ []) }))) ∷
@@ -161,7 +161,7 @@ transactions_of_all_parts_5 = refl
 
 abbrev transactions_of_all_parts_6_input : List (ℕ × Reading)
 transactions_of_all_parts_6_input =
-    (1, Read (records.Genesis (record { network = 1; slot = 0; epoch_length = 10; version = (10, 0); supply = 46483; reserves = 700; treasury = 5000; params = (record base_params { min_fee_a = 1; collateral_percentage = 0; gov_action_deposit = 0; drep_activity = 0 }); document = (h32 0x01); script = (Some (h28 0x99)); committee = (Some (record { threshold = (share 1 2); members = (((key 0x72), 8, (Some (key 0x80))) ∷ ((key 0x71), 3, None) ∷ ((key 0x70), 3, None) ∷ ((script 0x70), 7, (Some (key 0x70))) ∷ []) })); outputs = (((ref 0x09 0), (address_with 1 (key 0x10) (Some (key 0x30))), 791) ∷ ((ref 0x09 1), (address_with 1 (key 0x01) None), 4534) ∷ ((ref 0x01 2), (address_with 1 (key 0x02) None), 2253) ∷ ((ref 0x01 3), (address_with 1 (script 0x03) None), 2314) ∷ ((ref 0x09 4), (address_with 1 (script 0x03) None), 5931) ∷ ((ref 0x09 5), (address_with 1 (key 0x02) None), 1787) ∷ ((ref 0x01 6), (address_with 1 (key 0x02) (Some (key 0x11))), 570) ∷ ((ref 0x09 7), (address_with 1 (key 0x10) None), 1828) ∷ ((ref 0x01 8), (address_with 1 (key 0x01) (Some (key 0x11))), 3497) ∷ ((ref 0x01 9), (address_with 1 (key 0x10) None), 3134) ∷ ((ref 0x01 10), (address_with 1 (key 0x02) (Some (key 0x12))), 5821) ∷ ((ref 0x09 11), (address_with 1 (key 0x01) None), 1017) ∷ ((ref 0x09 12), (address_with 1 (key 0x01) (Some (key 0x10))), 5582) ∷ []); accounts = (((key 0x14), 3, 800, (Some (pool 0x50)), (Some (drep.Registered (key 0x31)))) ∷ ((key 0x12), 2, 0, (Some (pool 0x50)), (Some (drep.Registered (key 0x10)))) ∷ ((key 0x11), 2, 0, None, None) ∷ ((script 0x10), 3, 67, (Some (pool 0x52)), (Some drep.NoConfidence)) ∷ ((key 0x15), 2, 1, None, (Some drep.Abstain)) ∷ ((key 0x30), 3, 800, None, (Some (drep.Registered (script 0x30)))) ∷ ((script 0x13), 3, 0, (Some (pool 0x52)), (Some drep.Abstain)) ∷ ((key 0x10), 3, 0, (Some (pool 0x52)), (Some (drep.Registered (script 0x30)))) ∷ []); pools = ((record { pool = (pool 0x10); deposit = 5; cost = 5; pledge = 0; margin = (share 1 9); account = (account_on 1 (key 0x11)); key = None }) ∷ (record { pool = (pool 0x51); deposit = 5; cost = 91; pledge = 0; margin = (share 1 9); account = (account_on 1 (key 0x10)); key = None }) ∷ (record { pool = (pool 0x52); deposit = 4; cost = 22; pledge = 0; margin = (share 1 9); account = (account_on 1 (script 0x10)); key = None }) ∷ (record { pool = (pool 0x50); deposit = 4; cost = 91; pledge = 0; margin = (share 1 9); account = (account_on 1 (key 0x12)); key = None }) ∷ []); dreps = (((key 0x10), 6, 12) ∷ ((script 0x30), 6, 4) ∷ ((key 0x31), 5, 22) ∷ []) }))) ∷
+    (1, Read (records.Genesis (record { network = 1; slot = 0; epoch_length = 10; version = (10, 0); supply = 46483; reserves = 700; treasury = 5000; params = (record base_params { min_fee_a = 1; collateral_percentage = 0; gov_action_deposit = 0; drep_activity = 0 }); document = (h32 0x01); script = (Some (h28 0x99)); committee = (Some (record { threshold = (share 1 2); members = (((key 0x72), 8, (Some (key 0x80))) ∷ ((key 0x71), 3, None) ∷ ((key 0x70), 3, None) ∷ ((script 0x70), 7, (Some (key 0x70))) ∷ []) })); outputs = (((ref 0x09 0), (address_with 1 (key 0x10) (Some (key 0x30))), 791, []) ∷ ((ref 0x09 1), (address_with 1 (key 0x01) None), 4534, []) ∷ ((ref 0x01 2), (address_with 1 (key 0x02) None), 2253, []) ∷ ((ref 0x01 3), (address_with 1 (script 0x03) None), 2314, []) ∷ ((ref 0x09 4), (address_with 1 (script 0x03) None), 5931, []) ∷ ((ref 0x09 5), (address_with 1 (key 0x02) None), 1787, []) ∷ ((ref 0x01 6), (address_with 1 (key 0x02) (Some (key 0x11))), 570, []) ∷ ((ref 0x09 7), (address_with 1 (key 0x10) None), 1828, []) ∷ ((ref 0x01 8), (address_with 1 (key 0x01) (Some (key 0x11))), 3497, []) ∷ ((ref 0x01 9), (address_with 1 (key 0x10) None), 3134, []) ∷ ((ref 0x01 10), (address_with 1 (key 0x02) (Some (key 0x12))), 5821, []) ∷ ((ref 0x09 11), (address_with 1 (key 0x01) None), 1017, []) ∷ ((ref 0x09 12), (address_with 1 (key 0x01) (Some (key 0x10))), 5582, []) ∷ []); accounts = (((key 0x14), 3, 800, (Some (pool 0x50)), (Some (drep.Registered (key 0x31)))) ∷ ((key 0x12), 2, 0, (Some (pool 0x50)), (Some (drep.Registered (key 0x10)))) ∷ ((key 0x11), 2, 0, None, None) ∷ ((script 0x10), 3, 67, (Some (pool 0x52)), (Some drep.NoConfidence)) ∷ ((key 0x15), 2, 1, None, (Some drep.Abstain)) ∷ ((key 0x30), 3, 800, None, (Some (drep.Registered (script 0x30)))) ∷ ((script 0x13), 3, 0, (Some (pool 0x52)), (Some drep.Abstain)) ∷ ((key 0x10), 3, 0, (Some (pool 0x52)), (Some (drep.Registered (script 0x30)))) ∷ []); pools = ((record { pool = (pool 0x10); deposit = 5; cost = 5; pledge = 0; margin = (share 1 9); account = (account_on 1 (key 0x11)); key = None }) ∷ (record { pool = (pool 0x51); deposit = 5; cost = 91; pledge = 0; margin = (share 1 9); account = (account_on 1 (key 0x10)); key = None }) ∷ (record { pool = (pool 0x52); deposit = 4; cost = 22; pledge = 0; margin = (share 1 9); account = (account_on 1 (script 0x10)); key = None }) ∷ (record { pool = (pool 0x50); deposit = 4; cost = 91; pledge = 0; margin = (share 1 9); account = (account_on 1 (key 0x12)); key = None }) ∷ []); dreps = (((key 0x10), 6, 12) ∷ ((script 0x30), 6, 4) ∷ ((key 0x31), 5, 22) ∷ []) }))) ∷
     (2, Read (records.Tx (record (spend 0x10 2109) { inputs = ((ref 0x09 1) ∷ []); outputs = ((paying (address_with 1 (key 0x10) None) 1455 0) ∷ (paying (address_with 1 (script 0x03) None) 970 57) ∷ []); size = 163; script_fee = 5; proposals = ((proposing 0 (account_on 1 (script 0x13)) (actions.HardForkInitiation None (11, 0))) ∷ (proposing 0 (account_on 1 (script 0x10)) (actions.TreasuryWithdrawals (((account_on 0 (script 0x10)), 5) ∷ []) (Some (h28 0x99)))) ∷ []) }))) ∷
     (3, Read (records.Tx (record (spend 0x11 70) { inputs = ((ref 0x09 5) ∷ (ref 0x09 1) ∷ []); outputs = ((paying (address_with 1 (key 0x01) (Some (script 0x10))) 7027 29) ∷ (paying (address_with 1 (key 0x10) None) 0 0) ∷ []); size = 61; donation = 30; withdrawals = (((account_on 1 (key 0x30)), 800) ∷ []); certs = ((certs.DrepUpdate (key 0x31)) ∷ (certs.HotResign (key 0x72)) ∷ (certs.DrepUnreg (key 0x10) None) ∷ (certs.PoolRetire (pool 0x52) 18) ∷ []); votes = ((voting (voter.Committee (key 0x70)) (action 0x09 2) vote.Yes) ∷ []) }))) ∷
     (4, Read (records.Tx (record (spend 0x12 12) { inputs = ((ref 0x09 7) ∷ []); outputs = ((paying (address_with 1 (script 0x03) (Some (key 0x12))) 595 0) ∷ (paying (address_with 1 (key 0x02) None) 1191 65) ∷ (paying (address_with 1 (key 0x10) None) 0 57) ∷ []); size = 12; from = (Some 0); until = (Some 9); donation = 30; certs = ((certs.AccountUnreg (key 0x12) None) ∷ (certs.AccountReg (key 0x12) None None None) ∷ []); proposals = ((proposing 0 (account_on 1 (key 0x30)) (actions.NewConstitution None (h32 0x01) (Some (h28 0x99)))) ∷ (proposing 0 (account_on 0 (key 0x15)) (actions.UpdateCommittee None ((key 0x70) ∷ (script 0x70) ∷ []) (((key 0x72), 0) ∷ ((key 0x71), 0) ∷ []) (share 0 1))) ∷ []) }))) ∷
@@ -315,7 +315,7 @@ transactions_of_all_parts_6 = refl
 
 abbrev transactions_of_all_parts_7_input : List (ℕ × Reading)
 transactions_of_all_parts_7_input =
-    (1, Read (records.Genesis (record { network = 1; slot = 50; epoch_length = 10; version = (10, 0); supply = 75786; reserves = 0; treasury = 5000; params = (record base_params { min_fee_a = 1; key_deposit = 20; pool_deposit = 50; coins_per_utxo_byte = 1; e_max = 1; gov_action_lifetime = 0; gov_action_deposit = 100; drep_deposit = 50 }); document = (h32 0x01); script = (Some (h28 0x99)); committee = (Some (record { threshold = (share 1 2); members = (((script 0x70), 7, (Some (key 0x80))) ∷ []) })); outputs = (((ref 0x09 0), (address_with 1 (script 0x03) None), 4835) ∷ ((ref 0x09 1), (address_with 1 (key 0x10) None), 5250) ∷ ((ref 0x01 2), (address_with 1 (script 0x03) None), 5771) ∷ ((ref 0x01 3), (address_with 1 (key 0x02) None), 4250) ∷ ((ref 0x09 4), (address_with 1 (key 0x10) None), 5942) ∷ ((ref 0x01 5), (address_with 1 (key 0x02) None), 1642) ∷ ((ref 0x09 6), (address_with 1 (key 0x02) (Some (key 0x15))), 843) ∷ ((ref 0x09 7), (address_with 1 (script 0x03) None), 2017) ∷ ((ref 0x01 8), (address_with 1 (key 0x10) None), 4351) ∷ ((ref 0x01 9), (address_with 1 (key 0x01) None), 1477) ∷ ((ref 0x09 10), (address_with 1 (key 0x02) None), 5285) ∷ ((ref 0x09 11), (address_with 1 (key 0x10) None), 1050) ∷ ((ref 0x01 12), (address_with 1 (key 0x02) None), 947) ∷ ((ref 0x01 13), (address_with 1 (key 0x10) None), 5231) ∷ ((ref 0x09 14), (address_with 1 (key 0x01) (Some (script 0x13))), 2188) ∷ ((ref 0x09 15), (address_with 1 (key 0x01) None), 4926) ∷ ((ref 0x09 16), (address_with 1 (key 0x10) None), 4940) ∷ ((ref 0x09 17), (address_with 1 (script 0x03) None), 5936) ∷ ((ref 0x01 18), (address_with 1 (script 0x03) (Some (key 0x14))), 2836) ∷ []); accounts = (((key 0x15), 20, 0, (Some (pool 0x51)), (Some (drep.Registered (key 0x10)))) ∷ ((key 0x30), 3, 800, (Some (pool 0x51)), (Some (drep.Registered (key 0x31)))) ∷ ((key 0x14), 20, 67, (Some (pool 0x51)), (Some (drep.Registered (key 0x30)))) ∷ ((key 0x11), 3, 0, (Some (pool 0x51)), (Some (drep.Registered (key 0x30)))) ∷ []); pools = ((record { pool = (pool 0x51); deposit = 50; cost = 53; pledge = 0; margin = (share 1 9); account = (account_on 1 (key 0x11)); key = None }) ∷ []); dreps = (((key 0x10), 6, 8) ∷ ((key 0x31), 50, 23) ∷ ((key 0x30), 50, 0) ∷ []) }))) ∷
+    (1, Read (records.Genesis (record { network = 1; slot = 50; epoch_length = 10; version = (10, 0); supply = 75786; reserves = 0; treasury = 5000; params = (record base_params { min_fee_a = 1; key_deposit = 20; pool_deposit = 50; coins_per_utxo_byte = 1; e_max = 1; gov_action_lifetime = 0; gov_action_deposit = 100; drep_deposit = 50 }); document = (h32 0x01); script = (Some (h28 0x99)); committee = (Some (record { threshold = (share 1 2); members = (((script 0x70), 7, (Some (key 0x80))) ∷ []) })); outputs = (((ref 0x09 0), (address_with 1 (script 0x03) None), 4835, []) ∷ ((ref 0x09 1), (address_with 1 (key 0x10) None), 5250, []) ∷ ((ref 0x01 2), (address_with 1 (script 0x03) None), 5771, []) ∷ ((ref 0x01 3), (address_with 1 (key 0x02) None), 4250, []) ∷ ((ref 0x09 4), (address_with 1 (key 0x10) None), 5942, []) ∷ ((ref 0x01 5), (address_with 1 (key 0x02) None), 1642, []) ∷ ((ref 0x09 6), (address_with 1 (key 0x02) (Some (key 0x15))), 843, []) ∷ ((ref 0x09 7), (address_with 1 (script 0x03) None), 2017, []) ∷ ((ref 0x01 8), (address_with 1 (key 0x10) None), 4351, []) ∷ ((ref 0x01 9), (address_with 1 (key 0x01) None), 1477, []) ∷ ((ref 0x09 10), (address_with 1 (key 0x02) None), 5285, []) ∷ ((ref 0x09 11), (address_with 1 (key 0x10) None), 1050, []) ∷ ((ref 0x01 12), (address_with 1 (key 0x02) None), 947, []) ∷ ((ref 0x01 13), (address_with 1 (key 0x10) None), 5231, []) ∷ ((ref 0x09 14), (address_with 1 (key 0x01) (Some (script 0x13))), 2188, []) ∷ ((ref 0x09 15), (address_with 1 (key 0x01) None), 4926, []) ∷ ((ref 0x09 16), (address_with 1 (key 0x10) None), 4940, []) ∷ ((ref 0x09 17), (address_with 1 (script 0x03) None), 5936, []) ∷ ((ref 0x01 18), (address_with 1 (script 0x03) (Some (key 0x14))), 2836, []) ∷ []); accounts = (((key 0x15), 20, 0, (Some (pool 0x51)), (Some (drep.Registered (key 0x10)))) ∷ ((key 0x30), 3, 800, (Some (pool 0x51)), (Some (drep.Registered (key 0x31)))) ∷ ((key 0x14), 20, 67, (Some (pool 0x51)), (Some (drep.Registered (key 0x30)))) ∷ ((key 0x11), 3, 0, (Some (pool 0x51)), (Some (drep.Registered (key 0x30)))) ∷ []); pools = ((record { pool = (pool 0x51); deposit = 50; cost = 53; pledge = 0; margin = (share 1 9); account = (account_on 1 (key 0x11)); key = None }) ∷ []); dreps = (((key 0x10), 6, 8) ∷ ((key 0x31), 50, 23) ∷ ((key 0x30), 50, 0) ∷ []) }))) ∷
     (2, Read (records.Tx (record (spend 0x10 24) { inputs = ((ref 0x01 12) ∷ []); outputs = ((paying (address_with 1 (key 0x10) None) 846 65) ∷ []); size = 15; until = (Some 51); withdrawals = (((account_on 1 (key 0x11)), 0) ∷ ((account_on 1 (key 0x14)), 67) ∷ []); certs = ((certs.DrepUnreg (key 0x10) None) ∷ (certs.DrepReg (key 0x10) None) ∷ (certs.DrepUpdate (key 0x10)) ∷ []); proposals = ((proposing 100 (account_on 1 (key 0x14)) (actions.NewConstitution None (h32 0x04) (Some (h28 0x99)))) ∷ []) }))) ∷
     (3, Read (records.Tx (record (spend 0x11 3187) { inputs = ((ref 0x09 11) ∷ (ref 0x09 4) ∷ (ref 0x09 7) ∷ []); outputs = ((paying (address_with 1 (key 0x02) (Some (key 0x10))) 2896 57) ∷ (paying (address_with 1 (key 0x02) (Some (key 0x30))) 2896 57) ∷ []); size = 282; from = (Some 49); until = (Some 51); treasury = (Some 5000); donation = 30; certs = ((certs.DrepUpdate (key 0x31)) ∷ (certs.HotAuth (script 0x70) (key 0x70)) ∷ []); proposals = ((proposing 100 (account_on 0 (key 0x30)) (actions.NewConstitution (Some (action 0x10 0)) (h32 0x07) (Some (h28 0x99)))) ∷ []) }))) ∷
     (4, Read (records.Print what.Pots)) ∷
@@ -473,7 +473,7 @@ transactions_of_all_parts_7 = refl
 
 abbrev transactions_of_all_parts_8_input : List (ℕ × Reading)
 transactions_of_all_parts_8_input =
-    (1, Read (records.Genesis (record { network = 1; slot = 0; epoch_length = 10; version = (10, 0); supply = 31779; reserves = 0; treasury = 0; params = (record base_params { max_collateral_inputs = 1; min_fee_b = 70; min_pool_cost = 340; e_max = 1; collateral_percentage = 100; gov_action_deposit = 100; drep_deposit = 50; drep_activity = 0 }); document = (h32 0x01); script = (Some (h28 0x99)); committee = (Some (record { threshold = (share 1 2); members = (((key 0x70), 3, (Some (key 0x30))) ∷ []) })); outputs = (((ref 0x01 0), (address_with 1 (key 0x10) (Some (key 0x10))), 2659) ∷ ((ref 0x09 1), (address_with 1 (script 0x03) None), 2826) ∷ ((ref 0x09 2), (address_with 1 (script 0x03) None), 609) ∷ ((ref 0x01 3), (address_with 1 (key 0x02) (Some (script 0x13))), 1517) ∷ ((ref 0x09 4), (address_with 1 (script 0x03) (Some (key 0x11))), 1865) ∷ ((ref 0x09 5), (address_with 1 (script 0x03) None), 1946) ∷ ((ref 0x01 6), (address_with 1 (key 0x10) None), 703) ∷ ((ref 0x09 7), (address_with 1 (key 0x10) None), 3045) ∷ ((ref 0x01 8), (address_with 1 (key 0x01) None), 1823) ∷ ((ref 0x09 9), (address_with 1 (key 0x10) (Some (key 0x11))), 1692) ∷ ((ref 0x09 10), (address_with 1 (key 0x01) (Some (key 0x15))), 2007) ∷ ((ref 0x01 11), (address_with 1 (key 0x10) (Some (key 0x14))), 2102) ∷ ((ref 0x01 12), (address_with 1 (script 0x03) None), 5079) ∷ ((ref 0x01 13), (address_with 1 (key 0x02) None), 2898) ∷ []); accounts = (((script 0x13), 3, 67, (Some (pool 0x10)), (Some drep.NoConfidence)) ∷ ((key 0x12), 2, 800, (Some (pool 0x51)), (Some drep.Abstain)) ∷ ((key 0x11), 2, 67, (Some (pool 0x51)), (Some (drep.Registered (key 0x30)))) ∷ ((key 0x10), 2, 0, (Some (pool 0x51)), None) ∷ []); pools = ((record { pool = (pool 0x10); deposit = 5; cost = 37; pledge = 0; margin = (share 1 9); account = (account_on 1 (key 0x15)); key = None }) ∷ (record { pool = (pool 0x51); deposit = 4; cost = 48; pledge = 0; margin = (share 1 9); account = (account_on 1 (key 0x11)); key = None }) ∷ []); dreps = (((key 0x30), 50, 14) ∷ ((key 0x31), 6, 4) ∷ []) }))) ∷
+    (1, Read (records.Genesis (record { network = 1; slot = 0; epoch_length = 10; version = (10, 0); supply = 31779; reserves = 0; treasury = 0; params = (record base_params { max_collateral_inputs = 1; min_fee_b = 70; min_pool_cost = 340; e_max = 1; collateral_percentage = 100; gov_action_deposit = 100; drep_deposit = 50; drep_activity = 0 }); document = (h32 0x01); script = (Some (h28 0x99)); committee = (Some (record { threshold = (share 1 2); members = (((key 0x70), 3, (Some (key 0x30))) ∷ []) })); outputs = (((ref 0x01 0), (address_with 1 (key 0x10) (Some (key 0x10))), 2659, []) ∷ ((ref 0x09 1), (address_with 1 (script 0x03) None), 2826, []) ∷ ((ref 0x09 2), (address_with 1 (script 0x03) None), 609, []) ∷ ((ref 0x01 3), (address_with 1 (key 0x02) (Some (script 0x13))), 1517, []) ∷ ((ref 0x09 4), (address_with 1 (script 0x03) (Some (key 0x11))), 1865, []) ∷ ((ref 0x09 5), (address_with 1 (script 0x03) None), 1946, []) ∷ ((ref 0x01 6), (address_with 1 (key 0x10) None), 703, []) ∷ ((ref 0x09 7), (address_with 1 (key 0x10) None), 3045, []) ∷ ((ref 0x01 8), (address_with 1 (key 0x01) None), 1823, []) ∷ ((ref 0x09 9), (address_with 1 (key 0x10) (Some (key 0x11))), 1692, []) ∷ ((ref 0x09 10), (address_with 1 (key 0x01) (Some (key 0x15))), 2007, []) ∷ ((ref 0x01 11), (address_with 1 (key 0x10) (Some (key 0x14))), 2102, []) ∷ ((ref 0x01 12), (address_with 1 (script 0x03) None), 5079, []) ∷ ((ref 0x01 13), (address_with 1 (key 0x02) None), 2898, []) ∷ []); accounts = (((script 0x13), 3, 67, (Some (pool 0x10)), (Some drep.NoConfidence)) ∷ ((key 0x12), 2, 800, (Some (pool 0x51)), (Some drep.Abstain)) ∷ ((key 0x11), 2, 67, (Some (pool 0x51)), (Some (drep.Registered (key 0x30)))) ∷ ((key 0x10), 2, 0, (Some (pool 0x51)), None) ∷ []); pools = ((record { pool = (pool 0x10); deposit = 5; cost = 37; pledge = 0; margin = (share 1 9); account = (account_on 1 (key 0x15)); key = None }) ∷ (record { pool = (pool 0x51); deposit = 4; cost = 48; pledge = 0; margin = (share 1 9); account = (account_on 1 (key 0x11)); key = None }) ∷ []); dreps = (((key 0x30), 50, 14) ∷ ((key 0x31), 6, 4) ∷ []) }))) ∷
     (2, Read (records.Tx (record (spend 0x10 188) { inputs = ((ref 0x01 6) ∷ []); outputs = ((paying (address_with 1 (key 0x02) None) 177 65) ∷ (paying (address_with 1 (key 0x02) (Some (script 0x13))) 177 65) ∷ (paying (address_with 1 (script 0x03) None) 59 29) ∷ []); size = 11; from = (Some 0); until = (Some 1); certs = ((certs.AccountReg (key 0x14) None None None) ∷ (certs.AccountUnreg (key 0x14) None) ∷ (certs.AccountReg (key 0x14) None None None) ∷ []); proposals = ((proposing 100 (account_on 1 (key 0x14)) (actions.ParameterChange None (record no_update { gov_action_deposit = (Some 2) }) (Some (h28 0x99)))) ∷ []) }))) ∷
     (3, Read (records.Tx (record (spend 0x11 79) { inputs = ((ref 0x09 4) ∷ []); outputs = ((paying (address_with 1 (key 0x02) None) 1686 0) ∷ (paying (address_with 1 (script 0x03) None) 0 65) ∷ (paying (address_with 1 (key 0x02) (Some (key 0x15))) 0 29) ∷ []); size = 36; until = (Some 9); certs = ((certs.DrepUpdate (key 0x10)) ∷ (certs.DrepUpdate (key 0x31)) ∷ (certs.HotResign (key 0x70)) ∷ []); proposals = ((proposing 100 (account_on 1 (script 0x13)) (actions.UpdateCommittee None ((key 0x70) ∷ (script 0x70) ∷ []) (((script 0x70), 0) ∷ []) (share 2 3))) ∷ (proposing 100 (account_on 1 (key 0x10)) (actions.ParameterChange (Some (action 0x10 0)) (record no_update { key_deposit = (Some 1) }) (Some (h28 0x99)))) ∷ (proposing 100 (account_on 1 (script 0x13)) (actions.HardForkInitiation None (10, 1))) ∷ []); votes = ((voting (voter.Pool (pool 0x51)) (action 0x10 0) vote.Abstain) ∷ (voting (voter.Drep (key 0x30)) (action 0x10 0) vote.Abstain) ∷ (voting (voter.Drep (key 0x31)) (action 0x10 0) vote.Yes) ∷ []) }))) ∷
     (4, Read (records.Print what.Pots)) ∷

@@ -15,7 +15,7 @@ use Rattle.ledger_rows.proofs.Base.{h28, h32, key, script, pool, account_on, add
 
 abbrev members_at_the_end_of_their_terms_input : List (ℕ × Reading)
 members_at_the_end_of_their_terms_input =
-    (1, Read (records.Genesis (record { network = 1; slot = 0; epoch_length = 10; version = (10, 0); supply = 1000; reserves = 539; treasury = 100; params = (record base_params { drep_voting_thresholds = ((share 0 1) ∷ (share 0 1) ∷ (share 0 1) ∷ (share 0 1) ∷ (share 0 1) ∷ (share 0 1) ∷ (share 0 1) ∷ (share 0 1) ∷ (share 0 1) ∷ (share 0 1) ∷ []); gov_action_lifetime = 9; committee_min_size = 3 }); document = (h32 0x01); script = None; committee = (Some (record { threshold = (share 1 2); members = (((key 0x70), 4, (Some (key 0x80))) ∷ ((key 0x71), 5, (Some (key 0x81))) ∷ ((key 0x72), 9, (Some (key 0x81))) ∷ ((key 0x73), 9, None) ∷ ((key 0x74), 9, (Some (key 0x84))) ∷ ((script 0x74), 9, (Some (key 0x85))) ∷ []) })); outputs = (((ref 0x01 2), (address_with 1 (key 0x01) None), 40) ∷ ((ref 0x01 3), (address_with 1 (key 0x01) None), 40) ∷ ((ref 0x01 4), (address_with 1 (key 0x01) None), 40) ∷ ((ref 0x01 5), (address_with 1 (key 0x01) None), 40) ∷ ((ref 0x01 6), (address_with 1 (key 0x01) None), 40) ∷ ((ref 0x01 7), (address_with 1 (key 0x01) None), 40) ∷ []); accounts = (((key 0x10), 2, 67, None, (Some (drep.Registered (key 0x30)))) ∷ ((key 0x11), 2, 33, None, (Some (drep.Registered (key 0x31)))) ∷ ((key 0x12), 2, 0, None, None) ∷ []); pools = ((record { pool = (pool 0x50); deposit = 5; cost = 0; pledge = 0; margin = (share 0 1); account = (account_on 1 (key 0x12)); key = None }) ∷ []); dreps = (((key 0x30), 5, 20) ∷ ((key 0x31), 5, 20) ∷ []) }))) ∷
+    (1, Read (records.Genesis (record { network = 1; slot = 0; epoch_length = 10; version = (10, 0); supply = 1000; reserves = 539; treasury = 100; params = (record base_params { drep_voting_thresholds = ((share 0 1) ∷ (share 0 1) ∷ (share 0 1) ∷ (share 0 1) ∷ (share 0 1) ∷ (share 0 1) ∷ (share 0 1) ∷ (share 0 1) ∷ (share 0 1) ∷ (share 0 1) ∷ []); gov_action_lifetime = 9; committee_min_size = 3 }); document = (h32 0x01); script = None; committee = (Some (record { threshold = (share 1 2); members = (((key 0x70), 4, (Some (key 0x80))) ∷ ((key 0x71), 5, (Some (key 0x81))) ∷ ((key 0x72), 9, (Some (key 0x81))) ∷ ((key 0x73), 9, None) ∷ ((key 0x74), 9, (Some (key 0x84))) ∷ ((script 0x74), 9, (Some (key 0x85))) ∷ []) })); outputs = (((ref 0x01 2), (address_with 1 (key 0x01) None), 40, []) ∷ ((ref 0x01 3), (address_with 1 (key 0x01) None), 40, []) ∷ ((ref 0x01 4), (address_with 1 (key 0x01) None), 40, []) ∷ ((ref 0x01 5), (address_with 1 (key 0x01) None), 40, []) ∷ ((ref 0x01 6), (address_with 1 (key 0x01) None), 40, []) ∷ ((ref 0x01 7), (address_with 1 (key 0x01) None), 40, []) ∷ []); accounts = (((key 0x10), 2, 67, None, (Some (drep.Registered (key 0x30)))) ∷ ((key 0x11), 2, 33, None, (Some (drep.Registered (key 0x31)))) ∷ ((key 0x12), 2, 0, None, None) ∷ []); pools = ((record { pool = (pool 0x50); deposit = 5; cost = 0; pledge = 0; margin = (share 0 1); account = (account_on 1 (key 0x12)); key = None }) ∷ []); dreps = (((key 0x30), 5, 20) ∷ ((key 0x31), 5, 20) ∷ []) }))) ∷
     (2, Read (records.Tx (record (spend 0x02 20) { certs = ((certs.HotResign (key 0x74)) ∷ []); proposals = ((proposing 10 (account_on 1 (key 0x12)) (actions.NewConstitution None (h32 0x02) (Some (h28 0x99)))) ∷ (proposing 10 (account_on 1 (key 0x12)) (actions.TreasuryWithdrawals (((account_on 1 (key 0x12)), 1) ∷ []) None)) ∷ []) }))) ∷
     (3, Read (records.Tx (record (spend 0x03 40) { votes = ((voting (voter.Committee (key 0x80)) (action 0x02 0) vote.Yes) ∷ (voting (voter.Committee (key 0x81)) (action 0x02 0) vote.No) ∷ (voting (voter.Committee (key 0x80)) (action 0x02 1) vote.Yes) ∷ (voting (voter.Committee (key 0x85)) (action 0x02 0) vote.Abstain) ∷ []) }))) ∷
     (4, Read (records.Block 10 1)) ∷
@@ -140,7 +140,7 @@ members_at_the_end_of_their_terms = refl
 
 abbrev needs_with_a_committee_input : List (ℕ × Reading)
 needs_with_a_committee_input =
-    (1, Read (records.Genesis (record { network = 1; slot = 0; epoch_length = 10; version = (10, 0); supply = 1000; reserves = 379; treasury = 100; params = (record base_params { pool_voting_thresholds = ((share 11 60) ∷ (share 12 60) ∷ (share 13 60) ∷ (share 14 60) ∷ (share 15 60) ∷ []); drep_voting_thresholds = ((share 1 50) ∷ (share 2 50) ∷ (share 3 50) ∷ (share 4 50) ∷ (share 5 50) ∷ (share 6 50) ∷ (share 7 50) ∷ (share 8 50) ∷ (share 9 50) ∷ (share 10 50) ∷ []) }); document = (h32 0x01); script = None; committee = (Some (record { threshold = (share 3 4); members = (((key 0x70), 100, (Some (key 0x71))) ∷ []) })); outputs = (((ref 0x01 2), (address_with 1 (key 0x01) None), 200) ∷ ((ref 0x01 3), (address_with 1 (key 0x01) None), 200) ∷ []); accounts = (((key 0x10), 2, 67, None, (Some (drep.Registered (key 0x30)))) ∷ ((key 0x11), 2, 33, None, (Some (drep.Registered (key 0x31)))) ∷ ((key 0x12), 2, 0, None, None) ∷ []); pools = ((record { pool = (pool 0x50); deposit = 5; cost = 0; pledge = 0; margin = (share 0 1); account = (account_on 1 (key 0x12)); key = None }) ∷ []); dreps = (((key 0x30), 5, 20) ∷ ((key 0x31), 5, 20) ∷ []) }))) ∷
+    (1, Read (records.Genesis (record { network = 1; slot = 0; epoch_length = 10; version = (10, 0); supply = 1000; reserves = 379; treasury = 100; params = (record base_params { pool_voting_thresholds = ((share 11 60) ∷ (share 12 60) ∷ (share 13 60) ∷ (share 14 60) ∷ (share 15 60) ∷ []); drep_voting_thresholds = ((share 1 50) ∷ (share 2 50) ∷ (share 3 50) ∷ (share 4 50) ∷ (share 5 50) ∷ (share 6 50) ∷ (share 7 50) ∷ (share 8 50) ∷ (share 9 50) ∷ (share 10 50) ∷ []) }); document = (h32 0x01); script = None; committee = (Some (record { threshold = (share 3 4); members = (((key 0x70), 100, (Some (key 0x71))) ∷ []) })); outputs = (((ref 0x01 2), (address_with 1 (key 0x01) None), 200, []) ∷ ((ref 0x01 3), (address_with 1 (key 0x01) None), 200, []) ∷ []); accounts = (((key 0x10), 2, 67, None, (Some (drep.Registered (key 0x30)))) ∷ ((key 0x11), 2, 33, None, (Some (drep.Registered (key 0x31)))) ∷ ((key 0x12), 2, 0, None, None) ∷ []); pools = ((record { pool = (pool 0x50); deposit = 5; cost = 0; pledge = 0; margin = (share 0 1); account = (account_on 1 (key 0x12)); key = None }) ∷ []); dreps = (((key 0x30), 5, 20) ∷ ((key 0x31), 5, 20) ∷ []) }))) ∷
     (2, Read (records.Tx (record (spend 0x02 80) { proposals = ((proposing 10 (account_on 1 (key 0x12)) (actions.UpdateCommittee None [] (((key 0x60), 50) ∷ []) (share 1 3))) ∷ (proposing 10 (account_on 1 (key 0x12)) (actions.NoConfidence None)) ∷ (proposing 10 (account_on 1 (key 0x12)) (actions.NewConstitution None (h32 0x02) None)) ∷ (proposing 10 (account_on 1 (key 0x12)) (actions.HardForkInitiation None (10, 1))) ∷ (proposing 10 (account_on 1 (key 0x12)) (actions.TreasuryWithdrawals (((account_on 1 (key 0x12)), 5) ∷ []) None)) ∷ (proposing 10 (account_on 1 (key 0x12)) (actions.Info)) ∷ (proposing 10 (account_on 1 (key 0x12)) (actions.ParameterChange None (record no_update { max_tx_ex_units = (Some (1, 2)) }) None)) ∷ (proposing 10 (account_on 1 (key 0x12)) (actions.ParameterChange None (record no_update { key_deposit = (Some 3) }) None)) ∷ (proposing 10 (account_on 1 (key 0x12)) (actions.ParameterChange None (record no_update { a0 = (Some (share 1 2)) }) None)) ∷ (proposing 10 (account_on 1 (key 0x12)) (actions.ParameterChange None (record no_update { drep_activity = (Some 9) }) None)) ∷ (proposing 10 (account_on 1 (key 0x12)) (actions.ParameterChange None (record no_update { max_tx_size = (Some 9) }) None)) ∷ (proposing 10 (account_on 1 (key 0x12)) (actions.ParameterChange None (record no_update { max_tx_ex_units = (Some (3, 4)); key_deposit = (Some 3); a0 = (Some (share 1 2)) }) None)) ∷ []) }))) ∷
     (3, Read (records.Block 10 1)) ∷
     (4, Read (records.Block 20 1)) ∷
@@ -177,7 +177,7 @@ needs_with_a_committee = refl
 
 abbrev needs_without_a_committee_input : List (ℕ × Reading)
 needs_without_a_committee_input =
-    (1, Read (records.Genesis (record { network = 1; slot = 0; epoch_length = 10; version = (10, 0); supply = 1000; reserves = 379; treasury = 100; params = (record base_params { pool_voting_thresholds = ((share 11 60) ∷ (share 12 60) ∷ (share 13 60) ∷ (share 14 60) ∷ (share 15 60) ∷ []); drep_voting_thresholds = ((share 1 50) ∷ (share 2 50) ∷ (share 3 50) ∷ (share 4 50) ∷ (share 5 50) ∷ (share 6 50) ∷ (share 7 50) ∷ (share 8 50) ∷ (share 9 50) ∷ (share 10 50) ∷ []) }); document = (h32 0x01); script = None; committee = None; outputs = (((ref 0x01 2), (address_with 1 (key 0x01) None), 200) ∷ ((ref 0x01 3), (address_with 1 (key 0x01) None), 200) ∷ []); accounts = (((key 0x10), 2, 67, None, (Some (drep.Registered (key 0x30)))) ∷ ((key 0x11), 2, 33, None, (Some (drep.Registered (key 0x31)))) ∷ ((key 0x12), 2, 0, None, None) ∷ []); pools = ((record { pool = (pool 0x50); deposit = 5; cost = 0; pledge = 0; margin = (share 0 1); account = (account_on 1 (key 0x12)); key = None }) ∷ []); dreps = (((key 0x30), 5, 20) ∷ ((key 0x31), 5, 20) ∷ []) }))) ∷
+    (1, Read (records.Genesis (record { network = 1; slot = 0; epoch_length = 10; version = (10, 0); supply = 1000; reserves = 379; treasury = 100; params = (record base_params { pool_voting_thresholds = ((share 11 60) ∷ (share 12 60) ∷ (share 13 60) ∷ (share 14 60) ∷ (share 15 60) ∷ []); drep_voting_thresholds = ((share 1 50) ∷ (share 2 50) ∷ (share 3 50) ∷ (share 4 50) ∷ (share 5 50) ∷ (share 6 50) ∷ (share 7 50) ∷ (share 8 50) ∷ (share 9 50) ∷ (share 10 50) ∷ []) }); document = (h32 0x01); script = None; committee = None; outputs = (((ref 0x01 2), (address_with 1 (key 0x01) None), 200, []) ∷ ((ref 0x01 3), (address_with 1 (key 0x01) None), 200, []) ∷ []); accounts = (((key 0x10), 2, 67, None, (Some (drep.Registered (key 0x30)))) ∷ ((key 0x11), 2, 33, None, (Some (drep.Registered (key 0x31)))) ∷ ((key 0x12), 2, 0, None, None) ∷ []); pools = ((record { pool = (pool 0x50); deposit = 5; cost = 0; pledge = 0; margin = (share 0 1); account = (account_on 1 (key 0x12)); key = None }) ∷ []); dreps = (((key 0x30), 5, 20) ∷ ((key 0x31), 5, 20) ∷ []) }))) ∷
     (2, Read (records.Tx (record (spend 0x02 80) { proposals = ((proposing 10 (account_on 1 (key 0x12)) (actions.UpdateCommittee None [] (((key 0x60), 50) ∷ []) (share 1 3))) ∷ (proposing 10 (account_on 1 (key 0x12)) (actions.NoConfidence None)) ∷ (proposing 10 (account_on 1 (key 0x12)) (actions.NewConstitution None (h32 0x02) None)) ∷ (proposing 10 (account_on 1 (key 0x12)) (actions.HardForkInitiation None (10, 1))) ∷ (proposing 10 (account_on 1 (key 0x12)) (actions.TreasuryWithdrawals (((account_on 1 (key 0x12)), 5) ∷ []) None)) ∷ (proposing 10 (account_on 1 (key 0x12)) (actions.Info)) ∷ (proposing 10 (account_on 1 (key 0x12)) (actions.ParameterChange None (record no_update { max_tx_ex_units = (Some (1, 2)) }) None)) ∷ (proposing 10 (account_on 1 (key 0x12)) (actions.ParameterChange None (record no_update { key_deposit = (Some 3) }) None)) ∷ (proposing 10 (account_on 1 (key 0x12)) (actions.ParameterChange None (record no_update { a0 = (Some (share 1 2)) }) None)) ∷ (proposing 10 (account_on 1 (key 0x12)) (actions.ParameterChange None (record no_update { drep_activity = (Some 9) }) None)) ∷ (proposing 10 (account_on 1 (key 0x12)) (actions.ParameterChange None (record no_update { max_tx_size = (Some 9) }) None)) ∷ (proposing 10 (account_on 1 (key 0x12)) (actions.ParameterChange None (record no_update { max_tx_ex_units = (Some (3, 4)); key_deposit = (Some 3); a0 = (Some (share 1 2)) }) None)) ∷ []) }))) ∷
     (3, Read (records.Block 10 1)) ∷
     (4, Read (records.Block 20 1)) ∷
@@ -214,7 +214,7 @@ needs_without_a_committee = refl
 
 abbrev groups_of_the_parameters_network_input : List (ℕ × Reading)
 groups_of_the_parameters_network_input =
-    (1, Read (records.Genesis (record { network = 1; slot = 0; epoch_length = 10; version = (10, 0); supply = 1000; reserves = 698; treasury = 100; params = (record base_params { pool_voting_thresholds = ((share 11 60) ∷ (share 12 60) ∷ (share 13 60) ∷ (share 14 60) ∷ (share 15 60) ∷ []); drep_voting_thresholds = ((share 1 50) ∷ (share 2 50) ∷ (share 3 50) ∷ (share 4 50) ∷ (share 5 50) ∷ (share 6 50) ∷ (share 7 50) ∷ (share 8 50) ∷ (share 9 50) ∷ (share 10 50) ∷ []) }); document = (h32 0x01); script = None; committee = (Some (record { threshold = (share 0 1); members = (((key 0x70), 100, (Some (key 0x71))) ∷ []) })); outputs = (((ref 0x01 2), (address_with 1 (key 0x01) None), 200) ∷ []); accounts = (((key 0x12), 2, 0, None, None) ∷ []); pools = []; dreps = [] }))) ∷
+    (1, Read (records.Genesis (record { network = 1; slot = 0; epoch_length = 10; version = (10, 0); supply = 1000; reserves = 698; treasury = 100; params = (record base_params { pool_voting_thresholds = ((share 11 60) ∷ (share 12 60) ∷ (share 13 60) ∷ (share 14 60) ∷ (share 15 60) ∷ []); drep_voting_thresholds = ((share 1 50) ∷ (share 2 50) ∷ (share 3 50) ∷ (share 4 50) ∷ (share 5 50) ∷ (share 6 50) ∷ (share 7 50) ∷ (share 8 50) ∷ (share 9 50) ∷ (share 10 50) ∷ []) }); document = (h32 0x01); script = None; committee = (Some (record { threshold = (share 0 1); members = (((key 0x70), 100, (Some (key 0x71))) ∷ []) })); outputs = (((ref 0x01 2), (address_with 1 (key 0x01) None), 200, []) ∷ []); accounts = (((key 0x12), 2, 0, None, None) ∷ []); pools = []; dreps = [] }))) ∷
     (2, Read (records.Tx (record (spend 0x02 100) { proposals = ((proposing 10 (account_on 1 (key 0x12)) (actions.ParameterChange None (record no_update { max_block_body_size = (Some 7) }) None)) ∷ (proposing 10 (account_on 1 (key 0x12)) (actions.ParameterChange None (record no_update { max_tx_size = (Some 7) }) None)) ∷ (proposing 10 (account_on 1 (key 0x12)) (actions.ParameterChange None (record no_update { max_block_header_size = (Some 7) }) None)) ∷ (proposing 10 (account_on 1 (key 0x12)) (actions.ParameterChange None (record no_update { max_value_size = (Some 7) }) None)) ∷ (proposing 10 (account_on 1 (key 0x12)) (actions.ParameterChange None (record no_update { max_tx_ex_units = (Some (7, 8)) }) None)) ∷ (proposing 10 (account_on 1 (key 0x12)) (actions.ParameterChange None (record no_update { max_block_ex_units = (Some (9, 7)) }) None)) ∷ (proposing 10 (account_on 1 (key 0x12)) (actions.ParameterChange None (record no_update { max_collateral_inputs = (Some 7) }) None)) ∷ (proposing 10 (account_on 1 (key 0x12)) (actions.ParameterChange None (record no_update { min_fee_a = (Some 7) }) None)) ∷ (proposing 10 (account_on 1 (key 0x12)) (actions.ParameterChange None (record no_update { min_fee_b = (Some 7) }) None)) ∷ (proposing 10 (account_on 1 (key 0x12)) (actions.ParameterChange None (record no_update { key_deposit = (Some 7) }) None)) ∷ []) }))) ∷
     (3, Read (records.Block 10 1)) ∷
     (4, Read (records.Block 20 1)) ∷
@@ -245,7 +245,7 @@ groups_of_the_parameters_network = refl
 
 abbrev groups_of_the_parameters_economic_input : List (ℕ × Reading)
 groups_of_the_parameters_economic_input =
-    (1, Read (records.Genesis (record { network = 1; slot = 0; epoch_length = 10; version = (10, 0); supply = 1000; reserves = 698; treasury = 100; params = (record base_params { pool_voting_thresholds = ((share 11 60) ∷ (share 12 60) ∷ (share 13 60) ∷ (share 14 60) ∷ (share 15 60) ∷ []); drep_voting_thresholds = ((share 1 50) ∷ (share 2 50) ∷ (share 3 50) ∷ (share 4 50) ∷ (share 5 50) ∷ (share 6 50) ∷ (share 7 50) ∷ (share 8 50) ∷ (share 9 50) ∷ (share 10 50) ∷ []) }); document = (h32 0x01); script = None; committee = (Some (record { threshold = (share 0 1); members = (((key 0x70), 100, (Some (key 0x71))) ∷ []) })); outputs = (((ref 0x01 2), (address_with 1 (key 0x01) None), 200) ∷ []); accounts = (((key 0x12), 2, 0, None, None) ∷ []); pools = []; dreps = [] }))) ∷
+    (1, Read (records.Genesis (record { network = 1; slot = 0; epoch_length = 10; version = (10, 0); supply = 1000; reserves = 698; treasury = 100; params = (record base_params { pool_voting_thresholds = ((share 11 60) ∷ (share 12 60) ∷ (share 13 60) ∷ (share 14 60) ∷ (share 15 60) ∷ []); drep_voting_thresholds = ((share 1 50) ∷ (share 2 50) ∷ (share 3 50) ∷ (share 4 50) ∷ (share 5 50) ∷ (share 6 50) ∷ (share 7 50) ∷ (share 8 50) ∷ (share 9 50) ∷ (share 10 50) ∷ []) }); document = (h32 0x01); script = None; committee = (Some (record { threshold = (share 0 1); members = (((key 0x70), 100, (Some (key 0x71))) ∷ []) })); outputs = (((ref 0x01 2), (address_with 1 (key 0x01) None), 200, []) ∷ []); accounts = (((key 0x12), 2, 0, None, None) ∷ []); pools = []; dreps = [] }))) ∷
     (2, Read (records.Tx (record (spend 0x02 100) { proposals = ((proposing 10 (account_on 1 (key 0x12)) (actions.ParameterChange None (record no_update { pool_deposit = (Some 7) }) None)) ∷ (proposing 10 (account_on 1 (key 0x12)) (actions.ParameterChange None (record no_update { rho = (Some (share 1 7)) }) None)) ∷ (proposing 10 (account_on 1 (key 0x12)) (actions.ParameterChange None (record no_update { tau = (Some (share 2 7)) }) None)) ∷ (proposing 10 (account_on 1 (key 0x12)) (actions.ParameterChange None (record no_update { min_pool_cost = (Some 7) }) None)) ∷ (proposing 10 (account_on 1 (key 0x12)) (actions.ParameterChange None (record no_update { coins_per_utxo_byte = (Some 7) }) None)) ∷ (proposing 10 (account_on 1 (key 0x12)) (actions.ParameterChange None (record no_update { prices = (Some ((share 1 7), (share 2 9))) }) None)) ∷ (proposing 10 (account_on 1 (key 0x12)) (actions.ParameterChange None (record no_update { min_fee_ref_script_cost_per_byte = (Some (share 3 7)) }) None)) ∷ (proposing 10 (account_on 1 (key 0x12)) (actions.ParameterChange None (record no_update { a0 = (Some (share 4 7)) }) None)) ∷ (proposing 10 (account_on 1 (key 0x12)) (actions.ParameterChange None (record no_update { e_max = (Some 7) }) None)) ∷ (proposing 10 (account_on 1 (key 0x12)) (actions.ParameterChange None (record no_update { n_opt = (Some 7) }) None)) ∷ []) }))) ∷
     (3, Read (records.Block 10 1)) ∷
     (4, Read (records.Block 20 1)) ∷
@@ -276,7 +276,7 @@ groups_of_the_parameters_economic = refl
 
 abbrev groups_of_the_parameters_governance_input : List (ℕ × Reading)
 groups_of_the_parameters_governance_input =
-    (1, Read (records.Genesis (record { network = 1; slot = 0; epoch_length = 10; version = (10, 0); supply = 1000; reserves = 698; treasury = 100; params = (record base_params { pool_voting_thresholds = ((share 11 60) ∷ (share 12 60) ∷ (share 13 60) ∷ (share 14 60) ∷ (share 15 60) ∷ []); drep_voting_thresholds = ((share 1 50) ∷ (share 2 50) ∷ (share 3 50) ∷ (share 4 50) ∷ (share 5 50) ∷ (share 6 50) ∷ (share 7 50) ∷ (share 8 50) ∷ (share 9 50) ∷ (share 10 50) ∷ []) }); document = (h32 0x01); script = None; committee = (Some (record { threshold = (share 0 1); members = (((key 0x70), 100, (Some (key 0x71))) ∷ []) })); outputs = (((ref 0x01 2), (address_with 1 (key 0x01) None), 200) ∷ []); accounts = (((key 0x12), 2, 0, None, None) ∷ []); pools = []; dreps = [] }))) ∷
+    (1, Read (records.Genesis (record { network = 1; slot = 0; epoch_length = 10; version = (10, 0); supply = 1000; reserves = 698; treasury = 100; params = (record base_params { pool_voting_thresholds = ((share 11 60) ∷ (share 12 60) ∷ (share 13 60) ∷ (share 14 60) ∷ (share 15 60) ∷ []); drep_voting_thresholds = ((share 1 50) ∷ (share 2 50) ∷ (share 3 50) ∷ (share 4 50) ∷ (share 5 50) ∷ (share 6 50) ∷ (share 7 50) ∷ (share 8 50) ∷ (share 9 50) ∷ (share 10 50) ∷ []) }); document = (h32 0x01); script = None; committee = (Some (record { threshold = (share 0 1); members = (((key 0x70), 100, (Some (key 0x71))) ∷ []) })); outputs = (((ref 0x01 2), (address_with 1 (key 0x01) None), 200, []) ∷ []); accounts = (((key 0x12), 2, 0, None, None) ∷ []); pools = []; dreps = [] }))) ∷
     (2, Read (records.Tx (record (spend 0x02 100) { proposals = ((proposing 10 (account_on 1 (key 0x12)) (actions.ParameterChange None (record no_update { cost_models = (Some (0xab ∷ 0xab ∷ 0xab ∷ 0xab ∷ 0xab ∷ 0xab ∷ 0xab ∷ 0xab ∷ 0xab ∷ 0xab ∷ 0xab ∷ 0xab ∷ 0xab ∷ 0xab ∷ 0xab ∷ 0xab ∷ 0xab ∷ 0xab ∷ 0xab ∷ 0xab ∷ 0xab ∷ 0xab ∷ 0xab ∷ 0xab ∷ 0xab ∷ 0xab ∷ 0xab ∷ 0xab ∷ 0xab ∷ 0xab ∷ 0xab ∷ 0xab ∷ [])) }) None)) ∷ (proposing 10 (account_on 1 (key 0x12)) (actions.ParameterChange None (record no_update { collateral_percentage = (Some 7) }) None)) ∷ (proposing 10 (account_on 1 (key 0x12)) (actions.ParameterChange None (record no_update { pool_voting_thresholds = (Some ((share 1 7) ∷ (share 2 7) ∷ (share 3 7) ∷ (share 4 7) ∷ (share 5 7) ∷ [])) }) None)) ∷ (proposing 10 (account_on 1 (key 0x12)) (actions.ParameterChange None (record no_update { drep_voting_thresholds = (Some ((share 1 11) ∷ (share 2 11) ∷ (share 3 11) ∷ (share 4 11) ∷ (share 5 11) ∷ (share 6 11) ∷ (share 7 11) ∷ (share 8 11) ∷ (share 9 11) ∷ (share 10 11) ∷ [])) }) None)) ∷ (proposing 10 (account_on 1 (key 0x12)) (actions.ParameterChange None (record no_update { gov_action_lifetime = (Some 7) }) None)) ∷ (proposing 10 (account_on 1 (key 0x12)) (actions.ParameterChange None (record no_update { gov_action_deposit = (Some 7) }) None)) ∷ (proposing 10 (account_on 1 (key 0x12)) (actions.ParameterChange None (record no_update { drep_deposit = (Some 7) }) None)) ∷ (proposing 10 (account_on 1 (key 0x12)) (actions.ParameterChange None (record no_update { drep_activity = (Some 7) }) None)) ∷ (proposing 10 (account_on 1 (key 0x12)) (actions.ParameterChange None (record no_update { committee_min_size = (Some 7) }) None)) ∷ (proposing 10 (account_on 1 (key 0x12)) (actions.ParameterChange None (record no_update { committee_max_term_length = (Some 7) }) None)) ∷ []) }))) ∷
     (3, Read (records.Block 10 1)) ∷
     (4, Read (records.Block 20 1)) ∷
@@ -307,7 +307,7 @@ groups_of_the_parameters_governance = refl
 
 abbrev silent_pools_on_a_hard_fork_input : List (ℕ × Reading)
 silent_pools_on_a_hard_fork_input =
-    (1, Read (records.Genesis (record { network = 1; slot = 0; epoch_length = 10; version = (10, 0); supply = 1000; reserves = 545; treasury = 100; params = base_params; document = (h32 0x01); script = None; committee = (Some (record { threshold = (share 0 1); members = (((key 0x70), 100, (Some (key 0x71))) ∷ []) })); outputs = (((ref 0x01 2), (address_with 1 (key 0x01) None), 80) ∷ ((ref 0x01 3), (address_with 1 (key 0x01) None), 80) ∷ ((ref 0x01 4), (address_with 1 (key 0x01) None), 80) ∷ []); accounts = (((key 0x10), 2, 1, (Some (pool 0x50)), (Some drep.Abstain)) ∷ ((key 0x11), 2, 2, (Some (pool 0x51)), (Some drep.NoConfidence)) ∷ ((key 0x12), 2, 4, (Some (pool 0x52)), (Some (drep.Registered (key 0x30)))) ∷ ((key 0x13), 2, 8, (Some (pool 0x53)), None) ∷ ((key 0x14), 2, 16, (Some (pool 0x54)), (Some drep.Abstain)) ∷ ((key 0x15), 2, 32, (Some (pool 0x55)), None) ∷ []); pools = ((record { pool = (pool 0x50); deposit = 5; cost = 0; pledge = 0; margin = (share 0 1); account = (account_on 1 (key 0x10)); key = None }) ∷ (record { pool = (pool 0x51); deposit = 5; cost = 0; pledge = 0; margin = (share 0 1); account = (account_on 1 (key 0x11)); key = None }) ∷ (record { pool = (pool 0x52); deposit = 5; cost = 0; pledge = 0; margin = (share 0 1); account = (account_on 1 (key 0x12)); key = None }) ∷ (record { pool = (pool 0x53); deposit = 5; cost = 0; pledge = 0; margin = (share 0 1); account = (account_on 1 (key 0x13)); key = None }) ∷ (record { pool = (pool 0x54); deposit = 5; cost = 0; pledge = 0; margin = (share 0 1); account = (account_on 1 (key 0x20)); key = None }) ∷ (record { pool = (pool 0x55); deposit = 5; cost = 0; pledge = 0; margin = (share 0 1); account = (account_on 1 (key 0x14)); key = None }) ∷ []); dreps = (((key 0x30), 5, 20) ∷ ((key 0x31), 5, 20) ∷ []) }))) ∷
+    (1, Read (records.Genesis (record { network = 1; slot = 0; epoch_length = 10; version = (10, 0); supply = 1000; reserves = 545; treasury = 100; params = base_params; document = (h32 0x01); script = None; committee = (Some (record { threshold = (share 0 1); members = (((key 0x70), 100, (Some (key 0x71))) ∷ []) })); outputs = (((ref 0x01 2), (address_with 1 (key 0x01) None), 80, []) ∷ ((ref 0x01 3), (address_with 1 (key 0x01) None), 80, []) ∷ ((ref 0x01 4), (address_with 1 (key 0x01) None), 80, []) ∷ []); accounts = (((key 0x10), 2, 1, (Some (pool 0x50)), (Some drep.Abstain)) ∷ ((key 0x11), 2, 2, (Some (pool 0x51)), (Some drep.NoConfidence)) ∷ ((key 0x12), 2, 4, (Some (pool 0x52)), (Some (drep.Registered (key 0x30)))) ∷ ((key 0x13), 2, 8, (Some (pool 0x53)), None) ∷ ((key 0x14), 2, 16, (Some (pool 0x54)), (Some drep.Abstain)) ∷ ((key 0x15), 2, 32, (Some (pool 0x55)), None) ∷ []); pools = ((record { pool = (pool 0x50); deposit = 5; cost = 0; pledge = 0; margin = (share 0 1); account = (account_on 1 (key 0x10)); key = None }) ∷ (record { pool = (pool 0x51); deposit = 5; cost = 0; pledge = 0; margin = (share 0 1); account = (account_on 1 (key 0x11)); key = None }) ∷ (record { pool = (pool 0x52); deposit = 5; cost = 0; pledge = 0; margin = (share 0 1); account = (account_on 1 (key 0x12)); key = None }) ∷ (record { pool = (pool 0x53); deposit = 5; cost = 0; pledge = 0; margin = (share 0 1); account = (account_on 1 (key 0x13)); key = None }) ∷ (record { pool = (pool 0x54); deposit = 5; cost = 0; pledge = 0; margin = (share 0 1); account = (account_on 1 (key 0x20)); key = None }) ∷ (record { pool = (pool 0x55); deposit = 5; cost = 0; pledge = 0; margin = (share 0 1); account = (account_on 1 (key 0x14)); key = None }) ∷ []); dreps = (((key 0x30), 5, 20) ∷ ((key 0x31), 5, 20) ∷ []) }))) ∷
     (2, Read (records.Tx (record (spend 0x02 40) { proposals = ((proposing 10 (account_on 1 (key 0x10)) (actions.HardForkInitiation None (10, 1))) ∷ (proposing 10 (account_on 1 (key 0x11)) (actions.NoConfidence None)) ∷ (proposing 10 (account_on 1 (key 0x12)) (actions.UpdateCommittee None [] (((key 0x60), 50) ∷ []) (share 1 2))) ∷ (proposing 10 (account_on 1 (key 0x13)) (actions.Info)) ∷ []) }))) ∷
     (3, Read (records.Tx (record (spend 0x03 80) { votes = ((voting (voter.Pool (pool 0x54)) (action 0x02 0) vote.Yes) ∷ (voting (voter.Pool (pool 0x55)) (action 0x02 1) vote.No) ∷ (voting (voter.Pool (pool 0x55)) (action 0x02 2) vote.Abstain) ∷ (voting (voter.Pool (pool 0x53)) (action 0x02 2) vote.Yes) ∷ []) }))) ∷
     (4, Read (records.Block 10 1)) ∷
@@ -420,7 +420,7 @@ silent_pools_on_a_hard_fork = refl
 
 abbrev votes_of_pools_input : List (ℕ × Reading)
 votes_of_pools_input =
-    (1, Read (records.Genesis (record { network = 1; slot = 0; epoch_length = 10; version = (10, 0); supply = 1000; reserves = 545; treasury = 100; params = (record base_params { gov_action_lifetime = 5 }); document = (h32 0x01); script = None; committee = (Some (record { threshold = (share 0 1); members = (((key 0x70), 100, (Some (key 0x71))) ∷ []) })); outputs = (((ref 0x01 2), (address_with 1 (key 0x01) None), 60) ∷ ((ref 0x01 3), (address_with 1 (key 0x01) None), 60) ∷ ((ref 0x01 4), (address_with 1 (key 0x01) None), 60) ∷ ((ref 0x01 5), (address_with 1 (key 0x01) None), 60) ∷ []); accounts = (((key 0x10), 2, 1, (Some (pool 0x50)), (Some drep.Abstain)) ∷ ((key 0x11), 2, 2, (Some (pool 0x51)), (Some drep.NoConfidence)) ∷ ((key 0x12), 2, 4, (Some (pool 0x52)), (Some (drep.Registered (key 0x30)))) ∷ ((key 0x13), 2, 8, (Some (pool 0x53)), None) ∷ ((key 0x14), 2, 16, (Some (pool 0x54)), (Some drep.Abstain)) ∷ ((key 0x15), 2, 32, (Some (pool 0x55)), None) ∷ []); pools = ((record { pool = (pool 0x50); deposit = 5; cost = 0; pledge = 0; margin = (share 0 1); account = (account_on 1 (key 0x10)); key = None }) ∷ (record { pool = (pool 0x51); deposit = 5; cost = 0; pledge = 0; margin = (share 0 1); account = (account_on 1 (key 0x11)); key = None }) ∷ (record { pool = (pool 0x52); deposit = 5; cost = 0; pledge = 0; margin = (share 0 1); account = (account_on 1 (key 0x12)); key = None }) ∷ (record { pool = (pool 0x53); deposit = 5; cost = 0; pledge = 0; margin = (share 0 1); account = (account_on 1 (key 0x13)); key = None }) ∷ (record { pool = (pool 0x54); deposit = 5; cost = 0; pledge = 0; margin = (share 0 1); account = (account_on 1 (key 0x20)); key = None }) ∷ (record { pool = (pool 0x55); deposit = 5; cost = 0; pledge = 0; margin = (share 0 1); account = (account_on 1 (key 0x14)); key = None }) ∷ []); dreps = (((key 0x30), 5, 20) ∷ ((key 0x31), 5, 20) ∷ []) }))) ∷
+    (1, Read (records.Genesis (record { network = 1; slot = 0; epoch_length = 10; version = (10, 0); supply = 1000; reserves = 545; treasury = 100; params = (record base_params { gov_action_lifetime = 5 }); document = (h32 0x01); script = None; committee = (Some (record { threshold = (share 0 1); members = (((key 0x70), 100, (Some (key 0x71))) ∷ []) })); outputs = (((ref 0x01 2), (address_with 1 (key 0x01) None), 60, []) ∷ ((ref 0x01 3), (address_with 1 (key 0x01) None), 60, []) ∷ ((ref 0x01 4), (address_with 1 (key 0x01) None), 60, []) ∷ ((ref 0x01 5), (address_with 1 (key 0x01) None), 60, []) ∷ []); accounts = (((key 0x10), 2, 1, (Some (pool 0x50)), (Some drep.Abstain)) ∷ ((key 0x11), 2, 2, (Some (pool 0x51)), (Some drep.NoConfidence)) ∷ ((key 0x12), 2, 4, (Some (pool 0x52)), (Some (drep.Registered (key 0x30)))) ∷ ((key 0x13), 2, 8, (Some (pool 0x53)), None) ∷ ((key 0x14), 2, 16, (Some (pool 0x54)), (Some drep.Abstain)) ∷ ((key 0x15), 2, 32, (Some (pool 0x55)), None) ∷ []); pools = ((record { pool = (pool 0x50); deposit = 5; cost = 0; pledge = 0; margin = (share 0 1); account = (account_on 1 (key 0x10)); key = None }) ∷ (record { pool = (pool 0x51); deposit = 5; cost = 0; pledge = 0; margin = (share 0 1); account = (account_on 1 (key 0x11)); key = None }) ∷ (record { pool = (pool 0x52); deposit = 5; cost = 0; pledge = 0; margin = (share 0 1); account = (account_on 1 (key 0x12)); key = None }) ∷ (record { pool = (pool 0x53); deposit = 5; cost = 0; pledge = 0; margin = (share 0 1); account = (account_on 1 (key 0x13)); key = None }) ∷ (record { pool = (pool 0x54); deposit = 5; cost = 0; pledge = 0; margin = (share 0 1); account = (account_on 1 (key 0x20)); key = None }) ∷ (record { pool = (pool 0x55); deposit = 5; cost = 0; pledge = 0; margin = (share 0 1); account = (account_on 1 (key 0x14)); key = None }) ∷ []); dreps = (((key 0x30), 5, 20) ∷ ((key 0x31), 5, 20) ∷ []) }))) ∷
     (2, Read (records.Tx (record (spend 0x02 40) { proposals = ((proposing 10 (account_on 1 (key 0x12)) (actions.ParameterChange None (record no_update { max_tx_size = (Some 9) }) None)) ∷ (proposing 10 (account_on 1 (key 0x12)) (actions.NoConfidence None)) ∷ []) }))) ∷
     (3, Read (records.Tx (record (spend 0x03 60) { certs = ((certs.PoolRetire (pool 0x55) 1) ∷ []); votes = ((voting (voter.Pool (pool 0x50)) (action 0x02 0) vote.No) ∷ (voting (voter.Pool (pool 0x51)) (action 0x02 0) vote.Yes) ∷ (voting (voter.Pool (pool 0x52)) (action 0x02 0) vote.Abstain) ∷ (voting (voter.Pool (pool 0x55)) (action 0x02 0) vote.Yes) ∷ []) }))) ∷
     (4, Read (records.Block 10 1)) ∷
@@ -461,7 +461,7 @@ votes_of_pools = refl
 
 abbrev needs_by_what_was_enacted_before_input : List (ℕ × Reading)
 needs_by_what_was_enacted_before_input =
-    (1, Read (records.Genesis (record { network = 1; slot = 0; epoch_length = 10; version = (10, 0); supply = 1000; reserves = 459; treasury = 100; params = (record base_params { drep_voting_thresholds = ((share 0 1) ∷ (share 0 1) ∷ (share 0 1) ∷ (share 0 1) ∷ (share 0 1) ∷ (share 0 1) ∷ (share 0 1) ∷ (share 0 1) ∷ (share 0 1) ∷ (share 1 1) ∷ []); gov_action_lifetime = 9 }); document = (h32 0x01); script = None; committee = (Some (record { threshold = (share 0 1); members = (((key 0x70), 100, (Some (key 0x71))) ∷ []) })); outputs = (((ref 0x01 2), (address_with 1 (key 0x01) None), 80) ∷ ((ref 0x01 3), (address_with 1 (key 0x01) None), 80) ∷ ((ref 0x01 4), (address_with 1 (key 0x01) None), 80) ∷ ((ref 0x01 5), (address_with 1 (key 0x01) None), 80) ∷ []); accounts = (((key 0x10), 2, 67, None, (Some (drep.Registered (key 0x30)))) ∷ ((key 0x11), 2, 33, None, (Some (drep.Registered (key 0x31)))) ∷ ((key 0x12), 2, 0, None, None) ∷ []); pools = ((record { pool = (pool 0x50); deposit = 5; cost = 0; pledge = 0; margin = (share 0 1); account = (account_on 1 (key 0x12)); key = None }) ∷ []); dreps = (((key 0x30), 5, 20) ∷ ((key 0x31), 5, 20) ∷ []) }))) ∷
+    (1, Read (records.Genesis (record { network = 1; slot = 0; epoch_length = 10; version = (10, 0); supply = 1000; reserves = 459; treasury = 100; params = (record base_params { drep_voting_thresholds = ((share 0 1) ∷ (share 0 1) ∷ (share 0 1) ∷ (share 0 1) ∷ (share 0 1) ∷ (share 0 1) ∷ (share 0 1) ∷ (share 0 1) ∷ (share 0 1) ∷ (share 1 1) ∷ []); gov_action_lifetime = 9 }); document = (h32 0x01); script = None; committee = (Some (record { threshold = (share 0 1); members = (((key 0x70), 100, (Some (key 0x71))) ∷ []) })); outputs = (((ref 0x01 2), (address_with 1 (key 0x01) None), 80, []) ∷ ((ref 0x01 3), (address_with 1 (key 0x01) None), 80, []) ∷ ((ref 0x01 4), (address_with 1 (key 0x01) None), 80, []) ∷ ((ref 0x01 5), (address_with 1 (key 0x01) None), 80, []) ∷ []); accounts = (((key 0x10), 2, 67, None, (Some (drep.Registered (key 0x30)))) ∷ ((key 0x11), 2, 33, None, (Some (drep.Registered (key 0x31)))) ∷ ((key 0x12), 2, 0, None, None) ∷ []); pools = ((record { pool = (pool 0x50); deposit = 5; cost = 0; pledge = 0; margin = (share 0 1); account = (account_on 1 (key 0x12)); key = None }) ∷ []); dreps = (((key 0x30), 5, 20) ∷ ((key 0x31), 5, 20) ∷ []) }))) ∷
     (2, Read (records.Tx (record (spend 0x02 60) { proposals = ((proposing 10 (account_on 1 (key 0x12)) (actions.TreasuryWithdrawals (((account_on 1 (key 0x12)), 7) ∷ []) None)) ∷ (proposing 10 (account_on 1 (key 0x12)) (actions.ParameterChange None (record no_update { drep_voting_thresholds = (Some ((share 1 1) ∷ (share 1 1) ∷ (share 1 1) ∷ (share 1 1) ∷ (share 1 1) ∷ (share 1 1) ∷ (share 1 1) ∷ (share 1 1) ∷ (share 1 1) ∷ (share 1 3) ∷ [])); drep_activity = (Some 5); committee_min_size = (Some 0) }) None)) ∷ []) }))) ∷
     (3, Read (records.Tx (record (spend 0x03 80) { votes = ((voting (voter.Drep (key 0x31)) (action 0x02 0) vote.Yes) ∷ []) }))) ∷
     (4, Read (records.Block 10 1)) ∷
@@ -543,7 +543,7 @@ needs_by_what_was_enacted_before = refl
 
 abbrev thresholds_met_exactly_input : List (ℕ × Reading)
 thresholds_met_exactly_input =
-    (1, Read (records.Genesis (record { network = 1; slot = 0; epoch_length = 10; version = (10, 0); supply = 1000; reserves = 619; treasury = 100; params = (record base_params { drep_voting_thresholds = ((share 67 100) ∷ (share 1 2) ∷ (share 1 2) ∷ (share 33 100) ∷ (share 34 100) ∷ (share 1 2) ∷ (share 2 4) ∷ (share 3 6) ∷ (share 1 3) ∷ (share 67 100) ∷ []) }); document = (h32 0x01); script = None; committee = (Some (record { threshold = (share 0 1); members = (((key 0x70), 100, (Some (key 0x71))) ∷ []) })); outputs = (((ref 0x01 2), (address_with 1 (key 0x01) None), 40) ∷ ((ref 0x01 3), (address_with 1 (key 0x01) None), 40) ∷ ((ref 0x01 4), (address_with 1 (key 0x01) None), 40) ∷ ((ref 0x01 5), (address_with 1 (key 0x01) None), 40) ∷ []); accounts = (((key 0x10), 2, 67, None, (Some (drep.Registered (key 0x30)))) ∷ ((key 0x11), 2, 33, None, (Some (drep.Registered (key 0x31)))) ∷ ((key 0x12), 2, 0, None, None) ∷ []); pools = ((record { pool = (pool 0x50); deposit = 5; cost = 0; pledge = 0; margin = (share 0 1); account = (account_on 1 (key 0x12)); key = None }) ∷ []); dreps = (((key 0x30), 5, 20) ∷ ((key 0x31), 5, 20) ∷ []) }))) ∷
+    (1, Read (records.Genesis (record { network = 1; slot = 0; epoch_length = 10; version = (10, 0); supply = 1000; reserves = 619; treasury = 100; params = (record base_params { drep_voting_thresholds = ((share 67 100) ∷ (share 1 2) ∷ (share 1 2) ∷ (share 33 100) ∷ (share 34 100) ∷ (share 1 2) ∷ (share 2 4) ∷ (share 3 6) ∷ (share 1 3) ∷ (share 67 100) ∷ []) }); document = (h32 0x01); script = None; committee = (Some (record { threshold = (share 0 1); members = (((key 0x70), 100, (Some (key 0x71))) ∷ []) })); outputs = (((ref 0x01 2), (address_with 1 (key 0x01) None), 40, []) ∷ ((ref 0x01 3), (address_with 1 (key 0x01) None), 40, []) ∷ ((ref 0x01 4), (address_with 1 (key 0x01) None), 40, []) ∷ ((ref 0x01 5), (address_with 1 (key 0x01) None), 40, []) ∷ []); accounts = (((key 0x10), 2, 67, None, (Some (drep.Registered (key 0x30)))) ∷ ((key 0x11), 2, 33, None, (Some (drep.Registered (key 0x31)))) ∷ ((key 0x12), 2, 0, None, None) ∷ []); pools = ((record { pool = (pool 0x50); deposit = 5; cost = 0; pledge = 0; margin = (share 0 1); account = (account_on 1 (key 0x12)); key = None }) ∷ []); dreps = (((key 0x30), 5, 20) ∷ ((key 0x31), 5, 20) ∷ []) }))) ∷
     (2, Read (records.Tx (record (spend 0x02 20) { proposals = ((proposing 10 (account_on 1 (key 0x12)) (actions.ParameterChange None (record no_update { max_tx_ex_units = (Some (1, 1)); key_deposit = (Some 1); a0 = (Some (share 1 2)) }) None)) ∷ (proposing 10 (account_on 1 (key 0x12)) (actions.ParameterChange None (record no_update { key_deposit = (Some 1); a0 = (Some (share 1 2)); drep_activity = (Some 3) }) None)) ∷ []) }))) ∷
     (3, Read (records.Tx (record (spend 0x03 10) { proposals = ((proposing 10 (account_on 1 (key 0x12)) (actions.NewConstitution None (h32 0x02) None)) ∷ (proposing 10 (account_on 1 (key 0x12)) (actions.HardForkInitiation None (10, 1))) ∷ (proposing 10 (account_on 1 (key 0x12)) (actions.Info)) ∷ []) }))) ∷
     (4, Read (records.Tx (record (spend 0x04 40) { votes = ((voting (voter.Drep (key 0x31)) (action 0x03 0) vote.Yes) ∷ (voting (voter.Drep (key 0x31)) (action 0x03 1) vote.Yes) ∷ (voting (voter.Drep (key 0x30)) (action 0x02 0) vote.Yes) ∷ []) }))) ∷

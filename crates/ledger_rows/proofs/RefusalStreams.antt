@@ -17,7 +17,7 @@ use Rattle.ledger_rows.proofs.Base.{h28, h32, key, script, pool, account_on, add
 
 abbrev first_of_the_broken_rules_on_outputs_input : List (ℕ × Reading)
 first_of_the_broken_rules_on_outputs_input =
-    (1, Read (records.Genesis (record { network = 1; slot = 7; epoch_length = 10; version = (10, 0); supply = 3000; reserves = 2699; treasury = 100; params = (record base_params { min_fee_a = 1; coins_per_utxo_byte = 1 }); document = (h32 0x01); script = None; committee = (Some (record { threshold = (share 0 1); members = (((key 0x70), 100, (Some (key 0x71))) ∷ []) })); outputs = (((ref 0x01 2), (address_with 1 (key 0x01) None), 20) ∷ ((ref 0x01 3), (address_with 1 (key 0x01) None), 20) ∷ ((ref 0x01 4), (address_with 1 (key 0x01) None), 20) ∷ ((ref 0x01 5), (address_with 1 (key 0x01) None), 20) ∷ []); accounts = (((key 0x10), 2, 67, None, (Some (drep.Registered (key 0x30)))) ∷ ((key 0x11), 2, 33, None, (Some (drep.Registered (key 0x31)))) ∷ ((key 0x12), 2, 0, None, None) ∷ []); pools = ((record { pool = (pool 0x50); deposit = 5; cost = 0; pledge = 0; margin = (share 0 1); account = (account_on 1 (key 0x12)); key = None }) ∷ []); dreps = (((key 0x30), 5, 20) ∷ ((key 0x31), 5, 20) ∷ []) }))) ∷
+    (1, Read (records.Genesis (record { network = 1; slot = 7; epoch_length = 10; version = (10, 0); supply = 3000; reserves = 2699; treasury = 100; params = (record base_params { min_fee_a = 1; coins_per_utxo_byte = 1 }); document = (h32 0x01); script = None; committee = (Some (record { threshold = (share 0 1); members = (((key 0x70), 100, (Some (key 0x71))) ∷ []) })); outputs = (((ref 0x01 2), (address_with 1 (key 0x01) None), 20, []) ∷ ((ref 0x01 3), (address_with 1 (key 0x01) None), 20, []) ∷ ((ref 0x01 4), (address_with 1 (key 0x01) None), 20, []) ∷ ((ref 0x01 5), (address_with 1 (key 0x01) None), 20, []) ∷ []); accounts = (((key 0x10), 2, 67, None, (Some (drep.Registered (key 0x30)))) ∷ ((key 0x11), 2, 33, None, (Some (drep.Registered (key 0x31)))) ∷ ((key 0x12), 2, 0, None, None) ∷ []); pools = ((record { pool = (pool 0x50); deposit = 5; cost = 0; pledge = 0; margin = (share 0 1); account = (account_on 1 (key 0x12)); key = None }) ∷ []); dreps = (((key 0x30), 5, 20) ∷ ((key 0x31), 5, 20) ∷ []) }))) ∷
     (2, Read (records.Tx (record (spend 0x01 1) { inputs = []; outputs = ((paying (address_with 0 (key 0x01) None) 0 0) ∷ []); size = 17000; witnessed = false; scripts = scripts.Passed; from = (Some 99); collateral = ((ref 0x01 3) ∷ (ref 0x01 3) ∷ (ref 0x01 3) ∷ (ref 0x01 3) ∷ []) }))) ∷
     (3, Read (records.Tx (record (spend 0x09 1) { inputs = []; outputs = ((paying (address_with 0 (key 0x01) None) 0 0) ∷ []); size = 17000; witnessed = false; scripts = scripts.Passed; from = (Some 99); collateral = ((ref 0x01 3) ∷ (ref 0x01 3) ∷ (ref 0x01 3) ∷ (ref 0x01 3) ∷ []) }))) ∷
     (4, Read (records.Tx (record (spend 0x09 1) { inputs = []; outputs = ((paying (address_with 0 (key 0x01) None) 0 0) ∷ []); size = 17000; scripts = scripts.Passed; from = (Some 99); collateral = ((ref 0x01 3) ∷ (ref 0x01 3) ∷ (ref 0x01 3) ∷ (ref 0x01 3) ∷ []) }))) ∷
@@ -58,7 +58,7 @@ first_of_the_broken_rules_on_outputs = refl
 
 abbrev first_of_the_broken_rules_on_what_follows_input : List (ℕ × Reading)
 first_of_the_broken_rules_on_what_follows_input =
-    (1, Read (records.Genesis (record { network = 1; slot = 20; epoch_length = 10; version = (10, 0); supply = 1000; reserves = 459; treasury = 100; params = (record base_params { min_pool_cost = 3 }); document = (h32 0x01); script = None; committee = (Some (record { threshold = (share 0 1); members = (((key 0x70), 100, (Some (key 0x71))) ∷ []) })); outputs = (((ref 0x01 2), (address_with 1 (key 0x01) None), 40) ∷ ((ref 0x01 3), (address_with 1 (key 0x01) None), 40) ∷ ((ref 0x01 4), (address_with 1 (key 0x01) None), 40) ∷ ((ref 0x01 5), (address_with 1 (key 0x01) None), 40) ∷ ((ref 0x01 6), (address_with 1 (key 0x01) None), 40) ∷ ((ref 0x01 7), (address_with 1 (key 0x01) None), 40) ∷ ((ref 0x01 8), (address_with 1 (key 0x01) None), 40) ∷ ((ref 0x01 9), (address_with 1 (key 0x01) None), 40) ∷ []); accounts = (((key 0x10), 2, 67, None, (Some (drep.Registered (key 0x30)))) ∷ ((key 0x11), 2, 33, None, (Some (drep.Registered (key 0x31)))) ∷ ((key 0x12), 2, 0, None, None) ∷ []); pools = ((record { pool = (pool 0x50); deposit = 5; cost = 0; pledge = 0; margin = (share 0 1); account = (account_on 1 (key 0x12)); key = None }) ∷ []); dreps = (((key 0x30), 5, 20) ∷ ((key 0x31), 5, 20) ∷ []) }))) ∷
+    (1, Read (records.Genesis (record { network = 1; slot = 20; epoch_length = 10; version = (10, 0); supply = 1000; reserves = 459; treasury = 100; params = (record base_params { min_pool_cost = 3 }); document = (h32 0x01); script = None; committee = (Some (record { threshold = (share 0 1); members = (((key 0x70), 100, (Some (key 0x71))) ∷ []) })); outputs = (((ref 0x01 2), (address_with 1 (key 0x01) None), 40, []) ∷ ((ref 0x01 3), (address_with 1 (key 0x01) None), 40, []) ∷ ((ref 0x01 4), (address_with 1 (key 0x01) None), 40, []) ∷ ((ref 0x01 5), (address_with 1 (key 0x01) None), 40, []) ∷ ((ref 0x01 6), (address_with 1 (key 0x01) None), 40, []) ∷ ((ref 0x01 7), (address_with 1 (key 0x01) None), 40, []) ∷ ((ref 0x01 8), (address_with 1 (key 0x01) None), 40, []) ∷ ((ref 0x01 9), (address_with 1 (key 0x01) None), 40, []) ∷ []); accounts = (((key 0x10), 2, 67, None, (Some (drep.Registered (key 0x30)))) ∷ ((key 0x11), 2, 33, None, (Some (drep.Registered (key 0x31)))) ∷ ((key 0x12), 2, 0, None, None) ∷ []); pools = ((record { pool = (pool 0x50); deposit = 5; cost = 0; pledge = 0; margin = (share 0 1); account = (account_on 1 (key 0x12)); key = None }) ∷ []); dreps = (((key 0x30), 5, 20) ∷ ((key 0x31), 5, 20) ∷ []) }))) ∷
     (2, Read (records.Tx (record (spend 0x09 1) { inputs = ((ref 0x01 2) ∷ []); withdrawals = (((account_on 0 (key 0x13)), 1) ∷ []); certs = ((certs.AccountReg (key 0x10) None None None) ∷ []) }))) ∷
     (3, Read (records.Tx (record (spend 0x09 1) { inputs = ((ref 0x01 2) ∷ []); withdrawals = (((account_on 1 (key 0x13)), 1) ∷ ((account_on 0 (key 0x10)), 1) ∷ []); certs = ((certs.AccountReg (key 0x10) None None None) ∷ []) }))) ∷
     (4, Read (records.Tx (record (spend 0x09 1) { inputs = ((ref 0x01 2) ∷ []); withdrawals = (((account_on 1 (key 0x12)), 1) ∷ []); certs = ((certs.AccountReg (key 0x10) None None None) ∷ []) }))) ∷
@@ -165,7 +165,7 @@ first_of_the_broken_rules_on_what_follows = refl
 
 abbrev refusals_of_outputs_at_the_second_place_input : List (ℕ × Reading)
 refusals_of_outputs_at_the_second_place_input =
-    (1, Read (records.Genesis (record { network = 1; slot = 5; epoch_length = 10; version = (10, 0); supply = 10000; reserves = 6249; treasury = 100; params = (record base_params { max_tx_size = 10; max_collateral_inputs = 2; min_fee_a = 2; min_fee_b = 3; coins_per_utxo_byte = 1 }); document = (h32 0x01); script = None; committee = (Some (record { threshold = (share 0 1); members = (((key 0x70), 100, (Some (key 0x71))) ∷ []) })); outputs = (((ref 0x01 2), (address_with 1 (key 0x01) None), 400) ∷ ((ref 0x01 3), (address_with 1 (key 0x01) None), 400) ∷ ((ref 0x01 4), (address_with 1 (key 0x01) None), 400) ∷ ((ref 0x01 5), (address_with 1 (key 0x01) None), 400) ∷ ((ref 0x01 6), (address_with 1 (key 0x01) None), 400) ∷ ((ref 0x01 7), (address_with 1 (key 0x01) None), 400) ∷ ((ref 0x01 8), (address_with 1 (key 0x01) None), 400) ∷ ((ref 0x01 9), (address_with 1 (key 0x01) None), 400) ∷ ((ref 0x01 20), (address_with 1 (script 0x01) None), 300) ∷ ((ref 0x01 21), (address_with 1 (key 0x01) None), 30) ∷ []); accounts = (((key 0x10), 2, 67, None, (Some (drep.Registered (key 0x30)))) ∷ ((key 0x11), 2, 33, None, (Some (drep.Registered (key 0x31)))) ∷ ((key 0x12), 2, 0, None, None) ∷ []); pools = ((record { pool = (pool 0x50); deposit = 5; cost = 0; pledge = 0; margin = (share 0 1); account = (account_on 1 (key 0x12)); key = None }) ∷ []); dreps = (((key 0x30), 5, 20) ∷ ((key 0x31), 5, 20) ∷ []) }))) ∷
+    (1, Read (records.Genesis (record { network = 1; slot = 5; epoch_length = 10; version = (10, 0); supply = 10000; reserves = 6249; treasury = 100; params = (record base_params { max_tx_size = 10; max_collateral_inputs = 2; min_fee_a = 2; min_fee_b = 3; coins_per_utxo_byte = 1 }); document = (h32 0x01); script = None; committee = (Some (record { threshold = (share 0 1); members = (((key 0x70), 100, (Some (key 0x71))) ∷ []) })); outputs = (((ref 0x01 2), (address_with 1 (key 0x01) None), 400, []) ∷ ((ref 0x01 3), (address_with 1 (key 0x01) None), 400, []) ∷ ((ref 0x01 4), (address_with 1 (key 0x01) None), 400, []) ∷ ((ref 0x01 5), (address_with 1 (key 0x01) None), 400, []) ∷ ((ref 0x01 6), (address_with 1 (key 0x01) None), 400, []) ∷ ((ref 0x01 7), (address_with 1 (key 0x01) None), 400, []) ∷ ((ref 0x01 8), (address_with 1 (key 0x01) None), 400, []) ∷ ((ref 0x01 9), (address_with 1 (key 0x01) None), 400, []) ∷ ((ref 0x01 20), (address_with 1 (script 0x01) None), 300, []) ∷ ((ref 0x01 21), (address_with 1 (key 0x01) None), 30, []) ∷ []); accounts = (((key 0x10), 2, 67, None, (Some (drep.Registered (key 0x30)))) ∷ ((key 0x11), 2, 33, None, (Some (drep.Registered (key 0x31)))) ∷ ((key 0x12), 2, 0, None, None) ∷ []); pools = ((record { pool = (pool 0x50); deposit = 5; cost = 0; pledge = 0; margin = (share 0 1); account = (account_on 1 (key 0x12)); key = None }) ∷ []); dreps = (((key 0x30), 5, 20) ∷ ((key 0x31), 5, 20) ∷ []) }))) ∷
     (2, Read (records.Tx (record (spend 0x02 0) { inputs = ((ref 0x01 2) ∷ (ref 0x01 99) ∷ []) }))) ∷
     (3, Read (records.Tx (record (spend 0x02 0) { inputs = ((ref 0x01 2) ∷ (ref 0x01 3) ∷ (ref 0x01 2) ∷ []) }))) ∷
     (4, Read (records.Tx (record (spend 0x02 0) { inputs = [] }))) ∷
@@ -286,7 +286,7 @@ refusals_of_outputs_at_the_second_place = refl
 
 abbrev refusals_of_withdrawals_at_the_second_place_input : List (ℕ × Reading)
 refusals_of_withdrawals_at_the_second_place_input =
-    (1, Read (records.Genesis (record { network = 1; slot = 0; epoch_length = 10; version = (10, 0); supply = 1000; reserves = 712; treasury = 100; params = base_params; document = (h32 0x01); script = None; committee = (Some (record { threshold = (share 0 1); members = (((key 0x70), 100, (Some (key 0x71))) ∷ []) })); outputs = (((ref 0x01 2), (address_with 1 (key 0x01) None), 20) ∷ ((ref 0x01 3), (address_with 1 (key 0x01) None), 20) ∷ ((ref 0x01 4), (address_with 1 (key 0x01) None), 20) ∷ []); accounts = (((key 0x10), 2, 67, None, (Some (drep.Registered (key 0x30)))) ∷ ((key 0x11), 2, 33, None, None) ∷ ((script 0x12), 2, 5, None, None) ∷ ((key 0x12), 2, 0, None, (Some drep.Abstain)) ∷ []); pools = ((record { pool = (pool 0x50); deposit = 5; cost = 0; pledge = 0; margin = (share 0 1); account = (account_on 1 (key 0x12)); key = None }) ∷ []); dreps = (((key 0x30), 5, 20) ∷ ((key 0x31), 5, 20) ∷ []) }))) ∷
+    (1, Read (records.Genesis (record { network = 1; slot = 0; epoch_length = 10; version = (10, 0); supply = 1000; reserves = 712; treasury = 100; params = base_params; document = (h32 0x01); script = None; committee = (Some (record { threshold = (share 0 1); members = (((key 0x70), 100, (Some (key 0x71))) ∷ []) })); outputs = (((ref 0x01 2), (address_with 1 (key 0x01) None), 20, []) ∷ ((ref 0x01 3), (address_with 1 (key 0x01) None), 20, []) ∷ ((ref 0x01 4), (address_with 1 (key 0x01) None), 20, []) ∷ []); accounts = (((key 0x10), 2, 67, None, (Some (drep.Registered (key 0x30)))) ∷ ((key 0x11), 2, 33, None, None) ∷ ((script 0x12), 2, 5, None, None) ∷ ((key 0x12), 2, 0, None, (Some drep.Abstain)) ∷ []); pools = ((record { pool = (pool 0x50); deposit = 5; cost = 0; pledge = 0; margin = (share 0 1); account = (account_on 1 (key 0x12)); key = None }) ∷ []); dreps = (((key 0x30), 5, 20) ∷ ((key 0x31), 5, 20) ∷ []) }))) ∷
     (2, Read (records.Tx (record (spend 0x02 0) { withdrawals = (((account_on 1 (key 0x10)), 67) ∷ ((account_on 0 (key 0x12)), 0) ∷ []) }))) ∷
     (3, Read (records.Tx (record (spend 0x02 0) { withdrawals = (((account_on 1 (key 0x10)), 67) ∷ ((account_on 1 (key 0x13)), 0) ∷ []) }))) ∷
     (4, Read (records.Tx (record (spend 0x02 0) { withdrawals = (((account_on 1 (key 0x10)), 67) ∷ ((account_on 1 (key 0x11)), 33) ∷ []) }))) ∷
@@ -358,7 +358,7 @@ refusals_of_withdrawals_at_the_second_place = refl
 
 abbrev refusals_of_certificates_at_the_second_place_input : List (ℕ × Reading)
 refusals_of_certificates_at_the_second_place_input =
-    (1, Read (records.Genesis (record { network = 1; slot = 20; epoch_length = 10; version = (10, 0); supply = 1000; reserves = 759; treasury = 100; params = (record base_params { min_pool_cost = 3; e_max = 4 }); document = (h32 0x01); script = None; committee = (Some (record { threshold = (share 0 1); members = (((key 0x70), 100, (Some (key 0x71))) ∷ []) })); outputs = (((ref 0x01 2), (address_with 1 (key 0x01) None), 20) ∷ []); accounts = (((key 0x10), 2, 67, None, (Some (drep.Registered (key 0x30)))) ∷ ((key 0x11), 2, 33, None, (Some (drep.Registered (key 0x31)))) ∷ ((key 0x12), 2, 0, None, None) ∷ []); pools = ((record { pool = (pool 0x50); deposit = 5; cost = 0; pledge = 0; margin = (share 0 1); account = (account_on 1 (key 0x12)); key = None }) ∷ []); dreps = (((key 0x30), 5, 20) ∷ ((key 0x31), 5, 20) ∷ []) }))) ∷
+    (1, Read (records.Genesis (record { network = 1; slot = 20; epoch_length = 10; version = (10, 0); supply = 1000; reserves = 759; treasury = 100; params = (record base_params { min_pool_cost = 3; e_max = 4 }); document = (h32 0x01); script = None; committee = (Some (record { threshold = (share 0 1); members = (((key 0x70), 100, (Some (key 0x71))) ∷ []) })); outputs = (((ref 0x01 2), (address_with 1 (key 0x01) None), 20, []) ∷ []); accounts = (((key 0x10), 2, 67, None, (Some (drep.Registered (key 0x30)))) ∷ ((key 0x11), 2, 33, None, (Some (drep.Registered (key 0x31)))) ∷ ((key 0x12), 2, 0, None, None) ∷ []); pools = ((record { pool = (pool 0x50); deposit = 5; cost = 0; pledge = 0; margin = (share 0 1); account = (account_on 1 (key 0x12)); key = None }) ∷ []); dreps = (((key 0x30), 5, 20) ∷ ((key 0x31), 5, 20) ∷ []) }))) ∷
     (2, Read (records.Tx (record (spend 0x02 0) { certs = ((certs.Delegate (key 0x12) None (Some drep.Abstain)) ∷ (certs.AccountReg (key 0x10) None None None) ∷ []) }))) ∷
     (3, Read (records.Tx (record (spend 0x02 0) { certs = ((certs.Delegate (key 0x12) None (Some drep.Abstain)) ∷ (certs.AccountReg (key 0x13) (Some 3) None None) ∷ []) }))) ∷
     (4, Read (records.Tx (record (spend 0x02 0) { certs = ((certs.Delegate (key 0x12) None (Some drep.Abstain)) ∷ (certs.AccountReg (key 0x13) None (Some (pool 0x59)) None) ∷ []) }))) ∷
@@ -471,7 +471,7 @@ refusals_of_certificates_at_the_second_place = refl
 
 abbrev refusals_of_proposals_at_the_second_place_input : List (ℕ × Reading)
 refusals_of_proposals_at_the_second_place_input =
-    (1, Read (records.Genesis (record { network = 1; slot = 20; epoch_length = 10; version = (10, 0); supply = 1000; reserves = 619; treasury = 100; params = base_params; document = (h32 0x01); script = None; committee = (Some (record { threshold = (share 0 1); members = (((key 0x70), 100, (Some (key 0x71))) ∷ []) })); outputs = (((ref 0x01 2), (address_with 1 (key 0x01) None), 40) ∷ ((ref 0x01 3), (address_with 1 (key 0x01) None), 40) ∷ ((ref 0x01 4), (address_with 1 (key 0x01) None), 40) ∷ ((ref 0x01 5), (address_with 1 (key 0x01) None), 40) ∷ []); accounts = (((key 0x10), 2, 67, None, (Some (drep.Registered (key 0x30)))) ∷ ((key 0x11), 2, 33, None, (Some (drep.Registered (key 0x31)))) ∷ ((key 0x12), 2, 0, None, None) ∷ []); pools = ((record { pool = (pool 0x50); deposit = 5; cost = 0; pledge = 0; margin = (share 0 1); account = (account_on 1 (key 0x12)); key = None }) ∷ []); dreps = (((key 0x30), 5, 20) ∷ ((key 0x31), 5, 20) ∷ []) }))) ∷
+    (1, Read (records.Genesis (record { network = 1; slot = 20; epoch_length = 10; version = (10, 0); supply = 1000; reserves = 619; treasury = 100; params = base_params; document = (h32 0x01); script = None; committee = (Some (record { threshold = (share 0 1); members = (((key 0x70), 100, (Some (key 0x71))) ∷ []) })); outputs = (((ref 0x01 2), (address_with 1 (key 0x01) None), 40, []) ∷ ((ref 0x01 3), (address_with 1 (key 0x01) None), 40, []) ∷ ((ref 0x01 4), (address_with 1 (key 0x01) None), 40, []) ∷ ((ref 0x01 5), (address_with 1 (key 0x01) None), 40, []) ∷ []); accounts = (((key 0x10), 2, 67, None, (Some (drep.Registered (key 0x30)))) ∷ ((key 0x11), 2, 33, None, (Some (drep.Registered (key 0x31)))) ∷ ((key 0x12), 2, 0, None, None) ∷ []); pools = ((record { pool = (pool 0x50); deposit = 5; cost = 0; pledge = 0; margin = (share 0 1); account = (account_on 1 (key 0x12)); key = None }) ∷ []); dreps = (((key 0x30), 5, 20) ∷ ((key 0x31), 5, 20) ∷ []) }))) ∷
     (2, Read (records.Tx (record (spend 0x02 0) { proposals = ((proposing 10 (account_on 1 (key 0x12)) (actions.Info)) ∷ (proposing 9 (account_on 1 (key 0x12)) (actions.Info)) ∷ []) }))) ∷
     (3, Read (records.Tx (record (spend 0x02 0) { proposals = ((proposing 10 (account_on 1 (key 0x12)) (actions.Info)) ∷ (proposing 10 (account_on 0 (key 0x12)) (actions.Info)) ∷ []) }))) ∷
     (4, Read (records.Tx (record (spend 0x02 0) { proposals = ((proposing 10 (account_on 1 (key 0x12)) (actions.Info)) ∷ (proposing 10 (account_on 1 (key 0x13)) (actions.Info)) ∷ []) }))) ∷
@@ -576,7 +576,7 @@ refusals_of_proposals_at_the_second_place = refl
 
 abbrev amounts_1_off_input : List (ℕ × Reading)
 amounts_1_off_input =
-    (1, Read (records.Genesis (record { network = 1; slot = 0; epoch_length = 10; version = (10, 0); supply = 1000; reserves = 579; treasury = 100; params = base_params; document = (h32 0x01); script = None; committee = (Some (record { threshold = (share 0 1); members = (((key 0x70), 100, (Some (key 0x71))) ∷ []) })); outputs = (((ref 0x01 0), (address_with 1 (key 0x01) None), 20) ∷ ((ref 0x01 1), (address_with 1 (key 0x01) None), 20) ∷ ((ref 0x01 2), (address_with 1 (key 0x01) None), 20) ∷ ((ref 0x01 3), (address_with 1 (key 0x01) None), 20) ∷ ((ref 0x01 4), (address_with 1 (key 0x01) None), 20) ∷ ((ref 0x01 5), (address_with 1 (key 0x01) None), 20) ∷ ((ref 0x01 6), (address_with 1 (key 0x01) None), 20) ∷ ((ref 0x01 7), (address_with 1 (key 0x01) None), 20) ∷ ((ref 0x01 8), (address_with 1 (key 0x01) None), 20) ∷ ((ref 0x01 9), (address_with 1 (key 0x01) None), 20) ∷ []); accounts = (((key 0x10), 2, 67, None, (Some (drep.Registered (key 0x30)))) ∷ ((key 0x11), 2, 33, None, (Some (drep.Registered (key 0x31)))) ∷ ((key 0x12), 2, 0, None, None) ∷ []); pools = ((record { pool = (pool 0x50); deposit = 5; cost = 0; pledge = 0; margin = (share 0 1); account = (account_on 1 (key 0x12)); key = None }) ∷ []); dreps = (((key 0x30), 5, 20) ∷ ((key 0x31), 5, 20) ∷ []) }))) ∷
+    (1, Read (records.Genesis (record { network = 1; slot = 0; epoch_length = 10; version = (10, 0); supply = 1000; reserves = 579; treasury = 100; params = base_params; document = (h32 0x01); script = None; committee = (Some (record { threshold = (share 0 1); members = (((key 0x70), 100, (Some (key 0x71))) ∷ []) })); outputs = (((ref 0x01 0), (address_with 1 (key 0x01) None), 20, []) ∷ ((ref 0x01 1), (address_with 1 (key 0x01) None), 20, []) ∷ ((ref 0x01 2), (address_with 1 (key 0x01) None), 20, []) ∷ ((ref 0x01 3), (address_with 1 (key 0x01) None), 20, []) ∷ ((ref 0x01 4), (address_with 1 (key 0x01) None), 20, []) ∷ ((ref 0x01 5), (address_with 1 (key 0x01) None), 20, []) ∷ ((ref 0x01 6), (address_with 1 (key 0x01) None), 20, []) ∷ ((ref 0x01 7), (address_with 1 (key 0x01) None), 20, []) ∷ ((ref 0x01 8), (address_with 1 (key 0x01) None), 20, []) ∷ ((ref 0x01 9), (address_with 1 (key 0x01) None), 20, []) ∷ []); accounts = (((key 0x10), 2, 67, None, (Some (drep.Registered (key 0x30)))) ∷ ((key 0x11), 2, 33, None, (Some (drep.Registered (key 0x31)))) ∷ ((key 0x12), 2, 0, None, None) ∷ []); pools = ((record { pool = (pool 0x50); deposit = 5; cost = 0; pledge = 0; margin = (share 0 1); account = (account_on 1 (key 0x12)); key = None }) ∷ []); dreps = (((key 0x30), 5, 20) ∷ ((key 0x31), 5, 20) ∷ []) }))) ∷
     (2, Read (records.Tx (record (spend 0x02 20) { certs = ((certs.AccountReg (key 0x20) (Some 1) None None) ∷ []) }))) ∷
     (3, Read (records.Tx (record (spend 0x03 20) { inputs = ((ref 0x01 2) ∷ []); certs = ((certs.AccountUnreg (key 0x12) (Some 1)) ∷ []) }))) ∷
     (4, Read (records.Tx (record (spend 0x04 20) { inputs = ((ref 0x01 2) ∷ []); certs = ((certs.DrepReg (key 0x32) (Some 4)) ∷ []) }))) ∷
@@ -621,7 +621,7 @@ amounts_1_off = refl
 
 abbrev parameters_set_to_zero_input : List (ℕ × Reading)
 parameters_set_to_zero_input =
-    (1, Read (records.Genesis (record { network = 1; slot = 0; epoch_length = 10; version = (10, 0); supply = 1000; reserves = 618; treasury = 100; params = base_params; document = (h32 0x01); script = None; committee = (Some (record { threshold = (share 0 1); members = (((key 0x70), 100, (Some (key 0x71))) ∷ []) })); outputs = (((ref 0x01 2), (address_with 1 (key 0x01) None), 20) ∷ ((ref 0x01 3), (address_with 1 (key 0x01) None), 20) ∷ ((ref 0x01 4), (address_with 1 (key 0x01) None), 20) ∷ ((ref 0x01 5), (address_with 1 (key 0x01) None), 20) ∷ ((ref 0x01 6), (address_with 1 (key 0x01) None), 20) ∷ ((ref 0x01 7), (address_with 1 (key 0x01) None), 20) ∷ ((ref 0x01 8), (address_with 1 (key 0x01) None), 20) ∷ ((ref 0x01 9), (address_with 1 (key 0x01) None), 20) ∷ ((ref 0x01 10), (address_with 1 (key 0x01) None), 20) ∷ ((ref 0x01 11), (address_with 1 (key 0x01) None), 20) ∷ ((ref 0x01 12), (address_with 1 (key 0x01) None), 20) ∷ ((ref 0x01 13), (address_with 1 (key 0x01) None), 20) ∷ ((ref 0x01 14), (address_with 1 (key 0x01) None), 20) ∷ ((ref 0x01 15), (address_with 1 (key 0x01) None), 20) ∷ []); accounts = (((key 0x12), 2, 0, None, None) ∷ []); pools = []; dreps = [] }))) ∷
+    (1, Read (records.Genesis (record { network = 1; slot = 0; epoch_length = 10; version = (10, 0); supply = 1000; reserves = 618; treasury = 100; params = base_params; document = (h32 0x01); script = None; committee = (Some (record { threshold = (share 0 1); members = (((key 0x70), 100, (Some (key 0x71))) ∷ []) })); outputs = (((ref 0x01 2), (address_with 1 (key 0x01) None), 20, []) ∷ ((ref 0x01 3), (address_with 1 (key 0x01) None), 20, []) ∷ ((ref 0x01 4), (address_with 1 (key 0x01) None), 20, []) ∷ ((ref 0x01 5), (address_with 1 (key 0x01) None), 20, []) ∷ ((ref 0x01 6), (address_with 1 (key 0x01) None), 20, []) ∷ ((ref 0x01 7), (address_with 1 (key 0x01) None), 20, []) ∷ ((ref 0x01 8), (address_with 1 (key 0x01) None), 20, []) ∷ ((ref 0x01 9), (address_with 1 (key 0x01) None), 20, []) ∷ ((ref 0x01 10), (address_with 1 (key 0x01) None), 20, []) ∷ ((ref 0x01 11), (address_with 1 (key 0x01) None), 20, []) ∷ ((ref 0x01 12), (address_with 1 (key 0x01) None), 20, []) ∷ ((ref 0x01 13), (address_with 1 (key 0x01) None), 20, []) ∷ ((ref 0x01 14), (address_with 1 (key 0x01) None), 20, []) ∷ ((ref 0x01 15), (address_with 1 (key 0x01) None), 20, []) ∷ []); accounts = (((key 0x12), 2, 0, None, None) ∷ []); pools = []; dreps = [] }))) ∷
     (2, Read (records.Tx (record (spend 0x02 0) { proposals = ((proposing 10 (account_on 1 (key 0x12)) (actions.ParameterChange None (record no_update { max_block_body_size = (Some 0) }) None)) ∷ []) }))) ∷
     (3, Read (records.Tx (record (spend 0x03 0) { proposals = ((proposing 10 (account_on 1 (key 0x12)) (actions.ParameterChange None (record no_update { max_tx_size = (Some 0) }) None)) ∷ []) }))) ∷
     (4, Read (records.Tx (record (spend 0x04 0) { proposals = ((proposing 10 (account_on 1 (key 0x12)) (actions.ParameterChange None (record no_update { max_block_header_size = (Some 0) }) None)) ∷ []) }))) ∷
@@ -660,7 +660,7 @@ parameters_set_to_zero = refl
 
 abbrev lines_that_are_no_records_input : List (ℕ × Reading)
 lines_that_are_no_records_input =
-    (1, Read (records.Genesis (record { network = 1; slot = 0; epoch_length = 10; version = (10, 0); supply = 1000; reserves = 739; treasury = 100; params = base_params; document = (h32 0x01); script = None; committee = (Some (record { threshold = (share 0 1); members = (((key 0x70), 100, (Some (key 0x71))) ∷ []) })); outputs = (((ref 0x01 2), (address_with 1 (key 0x01) None), 20) ∷ ((ref 0x01 3), (address_with 1 (key 0x01) None), 20) ∷ []); accounts = (((key 0x10), 2, 67, None, (Some (drep.Registered (key 0x30)))) ∷ ((key 0x11), 2, 33, None, (Some (drep.Registered (key 0x31)))) ∷ ((key 0x12), 2, 0, None, None) ∷ []); pools = ((record { pool = (pool 0x50); deposit = 5; cost = 0; pledge = 0; margin = (share 0 1); account = (account_on 1 (key 0x12)); key = None }) ∷ []); dreps = (((key 0x30), 5, 20) ∷ ((key 0x31), 5, 20) ∷ []) }))) ∷
+    (1, Read (records.Genesis (record { network = 1; slot = 0; epoch_length = 10; version = (10, 0); supply = 1000; reserves = 739; treasury = 100; params = base_params; document = (h32 0x01); script = None; committee = (Some (record { threshold = (share 0 1); members = (((key 0x70), 100, (Some (key 0x71))) ∷ []) })); outputs = (((ref 0x01 2), (address_with 1 (key 0x01) None), 20, []) ∷ ((ref 0x01 3), (address_with 1 (key 0x01) None), 20, []) ∷ []); accounts = (((key 0x10), 2, 67, None, (Some (drep.Registered (key 0x30)))) ∷ ((key 0x11), 2, 33, None, (Some (drep.Registered (key 0x31)))) ∷ ((key 0x12), 2, 0, None, None) ∷ []); pools = ((record { pool = (pool 0x50); deposit = 5; cost = 0; pledge = 0; margin = (share 0 1); account = (account_on 1 (key 0x12)); key = None }) ∷ []); dreps = (((key 0x30), 5, 20) ∷ ((key 0x31), 5, 20) ∷ []) }))) ∷
     (3, Read (records.Tx (spend 0x02 20))) ∷
     (4, Malformed field.Json None) ∷
     (5, Malformed field.Kind None) ∷

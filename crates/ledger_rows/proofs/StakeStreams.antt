@@ -15,7 +15,7 @@ use Rattle.ledger_rows.proofs.Base.{h32, key, script, pool, account_on, address_
 
 abbrev stake_of_dreps_input : List (ℕ × Reading)
 stake_of_dreps_input =
-    (1, Read (records.Genesis (record { network = 1; slot = 0; epoch_length = 10; version = (10, 0); supply = 1000; reserves = 479; treasury = 100; params = (record base_params { gov_action_lifetime = 9 }); document = (h32 0x01); script = None; committee = (Some (record { threshold = (share 0 1); members = (((key 0x70), 100, (Some (key 0x71))) ∷ []) })); outputs = (((ref 0x01 2), (address_with 1 (key 0x01) None), 60) ∷ ((ref 0x01 3), (address_with 1 (key 0x01) None), 60) ∷ ((ref 0x01 4), (address_with 1 (key 0x01) None), 60) ∷ ((ref 0x01 5), (address_with 1 (key 0x01) None), 60) ∷ ((ref 0x01 20), (address_with 1 (key 0x01) (Some (key 0x10))), 8) ∷ ((ref 0x01 21), (address_with 1 (script 0x02) (Some (script 0x12))), 9) ∷ ((ref 0x01 22), (address_with 1 (key 0x01) (Some (key 0x12))), 10) ∷ ((ref 0x01 23), (address_with 1 (key 0x01) (Some (key 0x14))), 11) ∷ ((ref 0x01 24), (address_with 1 (key 0x01) (Some (key 0x13))), 0) ∷ []); accounts = (((key 0x10), 2, 67, (Some (pool 0x50)), (Some (drep.Registered (key 0x30)))) ∷ ((key 0x11), 2, 33, (Some (pool 0x50)), (Some (drep.Registered (key 0x31)))) ∷ ((key 0x12), 2, 5, None, (Some drep.Abstain)) ∷ ((script 0x12), 2, 6, None, (Some drep.NoConfidence)) ∷ ((key 0x13), 2, 7, None, None) ∷ []); pools = ((record { pool = (pool 0x50); deposit = 5; cost = 0; pledge = 0; margin = (share 0 1); account = (account_on 1 (key 0x12)); key = None }) ∷ []); dreps = (((key 0x30), 5, 20) ∷ ((key 0x31), 5, 20) ∷ []) }))) ∷
+    (1, Read (records.Genesis (record { network = 1; slot = 0; epoch_length = 10; version = (10, 0); supply = 1000; reserves = 479; treasury = 100; params = (record base_params { gov_action_lifetime = 9 }); document = (h32 0x01); script = None; committee = (Some (record { threshold = (share 0 1); members = (((key 0x70), 100, (Some (key 0x71))) ∷ []) })); outputs = (((ref 0x01 2), (address_with 1 (key 0x01) None), 60, []) ∷ ((ref 0x01 3), (address_with 1 (key 0x01) None), 60, []) ∷ ((ref 0x01 4), (address_with 1 (key 0x01) None), 60, []) ∷ ((ref 0x01 5), (address_with 1 (key 0x01) None), 60, []) ∷ ((ref 0x01 20), (address_with 1 (key 0x01) (Some (key 0x10))), 8, []) ∷ ((ref 0x01 21), (address_with 1 (script 0x02) (Some (script 0x12))), 9, []) ∷ ((ref 0x01 22), (address_with 1 (key 0x01) (Some (key 0x12))), 10, []) ∷ ((ref 0x01 23), (address_with 1 (key 0x01) (Some (key 0x14))), 11, []) ∷ ((ref 0x01 24), (address_with 1 (key 0x01) (Some (key 0x13))), 0, []) ∷ []); accounts = (((key 0x10), 2, 67, (Some (pool 0x50)), (Some (drep.Registered (key 0x30)))) ∷ ((key 0x11), 2, 33, (Some (pool 0x50)), (Some (drep.Registered (key 0x31)))) ∷ ((key 0x12), 2, 5, None, (Some drep.Abstain)) ∷ ((script 0x12), 2, 6, None, (Some drep.NoConfidence)) ∷ ((key 0x13), 2, 7, None, None) ∷ []); pools = ((record { pool = (pool 0x50); deposit = 5; cost = 0; pledge = 0; margin = (share 0 1); account = (account_on 1 (key 0x12)); key = None }) ∷ []); dreps = (((key 0x30), 5, 20) ∷ ((key 0x31), 5, 20) ∷ []) }))) ∷
     (2, Read (records.Tx (record (spend 0x02 20) { proposals = ((proposing 10 (account_on 1 (key 0x10)) (actions.NoConfidence None)) ∷ (proposing 10 (account_on 1 (key 0x11)) (actions.UpdateCommittee None [] (((key 0x60), 9) ∷ []) (share 1 2))) ∷ (proposing 10 (account_on 1 (key 0x12)) (actions.NewConstitution None (h32 0x02) None)) ∷ (proposing 10 (account_on 1 (script 0x12)) (actions.Info)) ∷ []) }))) ∷
     (3, Read (records.Tx (record (spend 0x03 65) { certs = ((certs.DrepUnreg (key 0x31) None) ∷ []); votes = ((voting (voter.Drep (key 0x30)) (action 0x02 0) vote.Yes) ∷ []) }))) ∷
     (4, Read (records.Print what.State)) ∷
@@ -239,7 +239,7 @@ stake_of_dreps = refl
 
 abbrev stake_of_those_that_left_input : List (ℕ × Reading)
 stake_of_those_that_left_input =
-    (1, Read (records.Genesis (record { network = 1; slot = 0; epoch_length = 10; version = (10, 0); supply = 1000; reserves = 537; treasury = 100; params = (record base_params { gov_action_lifetime = 4 }); document = (h32 0x01); script = None; committee = (Some (record { threshold = (share 0 1); members = (((key 0x70), 100, (Some (key 0x71))) ∷ []) })); outputs = (((ref 0x01 2), (address_with 1 (key 0x01) None), 60) ∷ ((ref 0x01 3), (address_with 1 (key 0x01) None), 60) ∷ ((ref 0x01 4), (address_with 1 (key 0x01) None), 60) ∷ ((ref 0x01 5), (address_with 1 (key 0x01) None), 60) ∷ ((ref 0x01 6), (address_with 1 (key 0x01) None), 60) ∷ ((ref 0x01 20), (address_with 1 (key 0x01) (Some (key 0x10))), 8) ∷ ((ref 0x01 21), (address_with 1 (key 0x01) (Some (key 0x15))), 0) ∷ ((ref 0x01 22), (address_with 1 (key 0x01) (Some (key 0x16))), 1) ∷ []); accounts = (((key 0x10), 2, 0, (Some (pool 0x50)), (Some (drep.Registered (key 0x30)))) ∷ ((key 0x11), 2, 33, (Some (pool 0x50)), (Some (drep.Registered (key 0x31)))) ∷ ((key 0x12), 2, 0, None, None) ∷ []); pools = ((record { pool = (pool 0x50); deposit = 5; cost = 0; pledge = 0; margin = (share 0 1); account = (account_on 1 (key 0x12)); key = None }) ∷ []); dreps = (((key 0x30), 5, 20) ∷ ((key 0x31), 5, 20) ∷ []) }))) ∷
+    (1, Read (records.Genesis (record { network = 1; slot = 0; epoch_length = 10; version = (10, 0); supply = 1000; reserves = 537; treasury = 100; params = (record base_params { gov_action_lifetime = 4 }); document = (h32 0x01); script = None; committee = (Some (record { threshold = (share 0 1); members = (((key 0x70), 100, (Some (key 0x71))) ∷ []) })); outputs = (((ref 0x01 2), (address_with 1 (key 0x01) None), 60, []) ∷ ((ref 0x01 3), (address_with 1 (key 0x01) None), 60, []) ∷ ((ref 0x01 4), (address_with 1 (key 0x01) None), 60, []) ∷ ((ref 0x01 5), (address_with 1 (key 0x01) None), 60, []) ∷ ((ref 0x01 6), (address_with 1 (key 0x01) None), 60, []) ∷ ((ref 0x01 20), (address_with 1 (key 0x01) (Some (key 0x10))), 8, []) ∷ ((ref 0x01 21), (address_with 1 (key 0x01) (Some (key 0x15))), 0, []) ∷ ((ref 0x01 22), (address_with 1 (key 0x01) (Some (key 0x16))), 1, []) ∷ []); accounts = (((key 0x10), 2, 0, (Some (pool 0x50)), (Some (drep.Registered (key 0x30)))) ∷ ((key 0x11), 2, 33, (Some (pool 0x50)), (Some (drep.Registered (key 0x31)))) ∷ ((key 0x12), 2, 0, None, None) ∷ []); pools = ((record { pool = (pool 0x50); deposit = 5; cost = 0; pledge = 0; margin = (share 0 1); account = (account_on 1 (key 0x12)); key = None }) ∷ []); dreps = (((key 0x30), 5, 20) ∷ ((key 0x31), 5, 20) ∷ []) }))) ∷
     (2, Read (records.Tx (record (spend 0x02 50) { proposals = ((proposing 10 (account_on 1 (key 0x10)) (actions.NoConfidence None)) ∷ []) }))) ∷
     (3, Read (records.Block 10 9)) ∷
     (4, Read (records.Print what.State)) ∷
@@ -453,7 +453,7 @@ stake_of_those_that_left = refl
 
 abbrev dreps_at_their_last_epoch_input : List (ℕ × Reading)
 dreps_at_their_last_epoch_input =
-    (1, Read (records.Genesis (record { network = 1; slot = 0; epoch_length = 10; version = (10, 0); supply = 1000; reserves = 609; treasury = 100; params = (record base_params { gov_action_lifetime = 9 }); document = (h32 0x01); script = None; committee = (Some (record { threshold = (share 0 1); members = (((key 0x70), 100, (Some (key 0x71))) ∷ []) })); outputs = (((ref 0x01 2), (address_with 1 (key 0x01) None), 20) ∷ ((ref 0x01 3), (address_with 1 (key 0x01) None), 20) ∷ ((ref 0x01 4), (address_with 1 (key 0x01) None), 20) ∷ ((ref 0x01 5), (address_with 1 (key 0x01) None), 20) ∷ ((ref 0x01 6), (address_with 1 (key 0x01) None), 20) ∷ ((ref 0x01 7), (address_with 1 (key 0x01) None), 20) ∷ ((ref 0x01 9), (address_with 1 (key 0x01) (Some (key 0x11))), 40) ∷ []); accounts = (((key 0x10), 2, 67, None, (Some (drep.Registered (key 0x30)))) ∷ ((key 0x11), 2, 33, None, (Some (drep.Registered (key 0x31)))) ∷ ((key 0x12), 2, 5, None, (Some (drep.Registered (key 0x32)))) ∷ []); pools = ((record { pool = (pool 0x50); deposit = 5; cost = 0; pledge = 0; margin = (share 0 1); account = (account_on 1 (key 0x12)); key = None }) ∷ []); dreps = (((key 0x30), 5, 1) ∷ ((key 0x31), 5, 20) ∷ ((key 0x32), 5, 2) ∷ []) }))) ∷
+    (1, Read (records.Genesis (record { network = 1; slot = 0; epoch_length = 10; version = (10, 0); supply = 1000; reserves = 609; treasury = 100; params = (record base_params { gov_action_lifetime = 9 }); document = (h32 0x01); script = None; committee = (Some (record { threshold = (share 0 1); members = (((key 0x70), 100, (Some (key 0x71))) ∷ []) })); outputs = (((ref 0x01 2), (address_with 1 (key 0x01) None), 20, []) ∷ ((ref 0x01 3), (address_with 1 (key 0x01) None), 20, []) ∷ ((ref 0x01 4), (address_with 1 (key 0x01) None), 20, []) ∷ ((ref 0x01 5), (address_with 1 (key 0x01) None), 20, []) ∷ ((ref 0x01 6), (address_with 1 (key 0x01) None), 20, []) ∷ ((ref 0x01 7), (address_with 1 (key 0x01) None), 20, []) ∷ ((ref 0x01 9), (address_with 1 (key 0x01) (Some (key 0x11))), 40, []) ∷ []); accounts = (((key 0x10), 2, 67, None, (Some (drep.Registered (key 0x30)))) ∷ ((key 0x11), 2, 33, None, (Some (drep.Registered (key 0x31)))) ∷ ((key 0x12), 2, 5, None, (Some (drep.Registered (key 0x32)))) ∷ []); pools = ((record { pool = (pool 0x50); deposit = 5; cost = 0; pledge = 0; margin = (share 0 1); account = (account_on 1 (key 0x12)); key = None }) ∷ []); dreps = (((key 0x30), 5, 1) ∷ ((key 0x31), 5, 20) ∷ ((key 0x32), 5, 2) ∷ []) }))) ∷
     (2, Read (records.Tx (record (spend 0x02 10) { proposals = ((proposing 10 (account_on 1 (key 0x12)) (actions.NoConfidence None)) ∷ []) }))) ∷
     (3, Read (records.Block 10 1)) ∷
     (4, Read (records.Block 20 1)) ∷
@@ -516,7 +516,7 @@ dreps_at_their_last_epoch = refl
 
 abbrev dreps_by_name_and_kind_input : List (ℕ × Reading)
 dreps_by_name_and_kind_input =
-    (1, Read (records.Genesis (record { network = 1; slot = 0; epoch_length = 10; version = (10, 0); supply = 1000; reserves = 552; treasury = 100; params = (record base_params { gov_action_lifetime = 5 }); document = (h32 0x01); script = None; committee = (Some (record { threshold = (share 0 1); members = (((key 0x70), 100, (Some (key 0x71))) ∷ []) })); outputs = (((ref 0x01 2), (address_with 1 (key 0x01) None), 60) ∷ ((ref 0x01 3), (address_with 1 (key 0x01) None), 60) ∷ ((ref 0x01 4), (address_with 1 (key 0x01) None), 60) ∷ ((ref 0x01 5), (address_with 1 (key 0x01) None), 60) ∷ []); accounts = (((key 0x10), 2, 11, None, (Some drep.Abstain)) ∷ ((key 0x11), 2, 13, None, (Some drep.NoConfidence)) ∷ ((key 0x12), 2, 17, None, (Some (drep.Registered (key 0x30)))) ∷ ((key 0x13), 2, 19, None, (Some (drep.Registered (key 0x31)))) ∷ ((key 0x14), 2, 23, None, None) ∷ []); pools = ((record { pool = (pool 0x50); deposit = 5; cost = 0; pledge = 0; margin = (share 0 1); account = (account_on 1 (key 0x12)); key = None }) ∷ []); dreps = (((key 0x30), 5, 20) ∷ ((key 0x31), 5, 0) ∷ []) }))) ∷
+    (1, Read (records.Genesis (record { network = 1; slot = 0; epoch_length = 10; version = (10, 0); supply = 1000; reserves = 552; treasury = 100; params = (record base_params { gov_action_lifetime = 5 }); document = (h32 0x01); script = None; committee = (Some (record { threshold = (share 0 1); members = (((key 0x70), 100, (Some (key 0x71))) ∷ []) })); outputs = (((ref 0x01 2), (address_with 1 (key 0x01) None), 60, []) ∷ ((ref 0x01 3), (address_with 1 (key 0x01) None), 60, []) ∷ ((ref 0x01 4), (address_with 1 (key 0x01) None), 60, []) ∷ ((ref 0x01 5), (address_with 1 (key 0x01) None), 60, []) ∷ []); accounts = (((key 0x10), 2, 11, None, (Some drep.Abstain)) ∷ ((key 0x11), 2, 13, None, (Some drep.NoConfidence)) ∷ ((key 0x12), 2, 17, None, (Some (drep.Registered (key 0x30)))) ∷ ((key 0x13), 2, 19, None, (Some (drep.Registered (key 0x31)))) ∷ ((key 0x14), 2, 23, None, None) ∷ []); pools = ((record { pool = (pool 0x50); deposit = 5; cost = 0; pledge = 0; margin = (share 0 1); account = (account_on 1 (key 0x12)); key = None }) ∷ []); dreps = (((key 0x30), 5, 20) ∷ ((key 0x31), 5, 0) ∷ []) }))) ∷
     (2, Read (records.Tx (record (spend 0x02 10) { proposals = ((proposing 10 (account_on 1 (key 0x12)) (actions.NoConfidence None)) ∷ (proposing 10 (account_on 1 (key 0x12)) (actions.UpdateCommittee None [] [] (share 1 2))) ∷ (proposing 10 (account_on 1 (key 0x12)) (actions.NewConstitution None (h32 0x02) None)) ∷ (proposing 10 (account_on 1 (key 0x12)) (actions.TreasuryWithdrawals (((account_on 1 (key 0x12)), 1) ∷ []) None)) ∷ (proposing 10 (account_on 1 (key 0x12)) (actions.ParameterChange None (record no_update { n_opt = (Some 2) }) None)) ∷ []) }))) ∷
     (3, Read (records.Tx (record (spend 0x03 60) { votes = ((voting (voter.Drep (key 0x30)) (action 0x02 0) vote.Abstain) ∷ (voting (voter.Drep (key 0x30)) (action 0x02 1) vote.Yes) ∷ (voting (voter.Drep (key 0x31)) (action 0x02 1) vote.Yes) ∷ (voting (voter.Drep (key 0x31)) (action 0x02 0) vote.Yes) ∷ []) }))) ∷
     (4, Read (records.Block 10 1)) ∷
@@ -554,7 +554,7 @@ dreps_by_name_and_kind = refl
 
 abbrev new_pools_and_their_defaults_input : List (ℕ × Reading)
 new_pools_and_their_defaults_input =
-    (1, Read (records.Genesis (record { network = 1; slot = 0; epoch_length = 10; version = (10, 0); supply = 1000; reserves = 622; treasury = 100; params = base_params; document = (h32 0x01); script = None; committee = (Some (record { threshold = (share 0 1); members = (((key 0x70), 100, (Some (key 0x71))) ∷ []) })); outputs = (((ref 0x01 2), (address_with 1 (key 0x01) None), 40) ∷ ((ref 0x01 3), (address_with 1 (key 0x01) None), 40) ∷ ((ref 0x01 4), (address_with 1 (key 0x01) None), 40) ∷ ((ref 0x01 5), (address_with 1 (key 0x01) None), 40) ∷ ((ref 0x01 6), (address_with 1 (key 0x01) None), 40) ∷ ((ref 0x01 7), (address_with 1 (key 0x01) None), 40) ∷ ((ref 0x01 20), (address_with 1 (key 0x01) (Some (key 0x20))), 6) ∷ []); accounts = (((key 0x10), 2, 5, None, (Some drep.Abstain)) ∷ ((key 0x11), 2, 7, None, None) ∷ ((key 0x12), 2, 9, None, None) ∷ []); pools = ((record { pool = (pool 0x50); deposit = 5; cost = 0; pledge = 0; margin = (share 0 1); account = (account_on 1 (key 0x12)); key = None }) ∷ []); dreps = [] }))) ∷
+    (1, Read (records.Genesis (record { network = 1; slot = 0; epoch_length = 10; version = (10, 0); supply = 1000; reserves = 622; treasury = 100; params = base_params; document = (h32 0x01); script = None; committee = (Some (record { threshold = (share 0 1); members = (((key 0x70), 100, (Some (key 0x71))) ∷ []) })); outputs = (((ref 0x01 2), (address_with 1 (key 0x01) None), 40, []) ∷ ((ref 0x01 3), (address_with 1 (key 0x01) None), 40, []) ∷ ((ref 0x01 4), (address_with 1 (key 0x01) None), 40, []) ∷ ((ref 0x01 5), (address_with 1 (key 0x01) None), 40, []) ∷ ((ref 0x01 6), (address_with 1 (key 0x01) None), 40, []) ∷ ((ref 0x01 7), (address_with 1 (key 0x01) None), 40, []) ∷ ((ref 0x01 20), (address_with 1 (key 0x01) (Some (key 0x20))), 6, []) ∷ []); accounts = (((key 0x10), 2, 5, None, (Some drep.Abstain)) ∷ ((key 0x11), 2, 7, None, None) ∷ ((key 0x12), 2, 9, None, None) ∷ []); pools = ((record { pool = (pool 0x50); deposit = 5; cost = 0; pledge = 0; margin = (share 0 1); account = (account_on 1 (key 0x12)); key = None }) ∷ []); dreps = [] }))) ∷
     (2, Read (records.Tx (record (spend 0x02 30) { certs = ((certs.PoolReg (pool 0x51) 0 0 (share 0 1) (account_on 1 (key 0x10)) None) ∷ (certs.Delegate (key 0x10) (Some (pool 0x51)) None) ∷ (certs.PoolReg (pool 0x52) 0 0 (share 0 1) (account_on 1 (key 0x20)) None) ∷ (certs.Delegate (key 0x11) (Some (pool 0x52)) None) ∷ []) }))) ∷
     (3, Read (records.Tx (record (spend 0x03 30) { proposals = ((proposing 10 (account_on 1 (key 0x11)) (actions.NoConfidence None)) ∷ []) }))) ∷
     (4, Read (records.Block 10 1)) ∷

@@ -16,7 +16,7 @@ use Rattle.ledger_rows.proofs.Base.{h32, key, script, pool, account_on, address_
 
 abbrev collateral_at_its_least_input : List (ℕ × Reading)
 collateral_at_its_least_input =
-    (1, Read (records.Genesis (record { network = 1; slot = 0; epoch_length = 10; version = (10, 0); supply = 1000; reserves = 521; treasury = 100; params = base_params; document = (h32 0x01); script = None; committee = (Some (record { threshold = (share 0 1); members = (((key 0x70), 100, (Some (key 0x71))) ∷ []) })); outputs = (((ref 0x01 2), (address_with 1 (key 0x01) None), 20) ∷ ((ref 0x01 3), (address_with 1 (key 0x01) None), 20) ∷ ((ref 0x01 4), (address_with 1 (key 0x01) None), 20) ∷ ((ref 0x01 5), (address_with 1 (key 0x01) None), 20) ∷ ((ref 0x01 6), (address_with 1 (key 0x01) None), 20) ∷ ((ref 0x01 20), (address_with 1 (script 0x01) None), 9) ∷ ((ref 0x01 21), (address_with 1 (key 0x01) None), 149) ∷ []); accounts = (((key 0x10), 2, 67, None, (Some (drep.Registered (key 0x30)))) ∷ ((key 0x11), 2, 33, None, (Some (drep.Registered (key 0x31)))) ∷ ((key 0x12), 2, 0, None, None) ∷ []); pools = ((record { pool = (pool 0x50); deposit = 5; cost = 0; pledge = 0; margin = (share 0 1); account = (account_on 1 (key 0x12)); key = None }) ∷ []); dreps = (((key 0x30), 5, 20) ∷ ((key 0x31), 5, 20) ∷ []) }))) ∷
+    (1, Read (records.Genesis (record { network = 1; slot = 0; epoch_length = 10; version = (10, 0); supply = 1000; reserves = 521; treasury = 100; params = base_params; document = (h32 0x01); script = None; committee = (Some (record { threshold = (share 0 1); members = (((key 0x70), 100, (Some (key 0x71))) ∷ []) })); outputs = (((ref 0x01 2), (address_with 1 (key 0x01) None), 20, []) ∷ ((ref 0x01 3), (address_with 1 (key 0x01) None), 20, []) ∷ ((ref 0x01 4), (address_with 1 (key 0x01) None), 20, []) ∷ ((ref 0x01 5), (address_with 1 (key 0x01) None), 20, []) ∷ ((ref 0x01 6), (address_with 1 (key 0x01) None), 20, []) ∷ ((ref 0x01 20), (address_with 1 (script 0x01) None), 9, []) ∷ ((ref 0x01 21), (address_with 1 (key 0x01) None), 149, []) ∷ []); accounts = (((key 0x10), 2, 67, None, (Some (drep.Registered (key 0x30)))) ∷ ((key 0x11), 2, 33, None, (Some (drep.Registered (key 0x31)))) ∷ ((key 0x12), 2, 0, None, None) ∷ []); pools = ((record { pool = (pool 0x50); deposit = 5; cost = 0; pledge = 0; margin = (share 0 1); account = (account_on 1 (key 0x12)); key = None }) ∷ []); dreps = (((key 0x30), 5, 20) ∷ ((key 0x31), 5, 20) ∷ []) }))) ∷
     (2, Read (records.Tx (record (spend 0x02 100) { scripts = scripts.Passed; collateral = ((ref 0x01 21) ∷ []) }))) ∷
     (3, Read (records.Tx (record (spend 0x02 0) { outputs = ((paying (address_with 1 (key 0x01) None) 20 0) ∷ []); scripts = scripts.Passed; collateral = ((ref 0x01 3) ∷ []); collateral_return = (Some (paying (address_with 1 (key 0x01) None) 21 0)) }))) ∷
     (4, Read (records.Tx (record (spend 0x02 0) { outputs = ((paying (address_with 1 (key 0x01) None) 20 0) ∷ []); scripts = scripts.Passed; collateral = ((ref 0x01 3) ∷ []); collateral_return = (Some (paying (address_with 1 (key 0x01) None) 20 0)) }))) ∷
@@ -91,7 +91,7 @@ collateral_at_its_least = refl
 
 abbrev scripts_that_failed_input : List (ℕ × Reading)
 scripts_that_failed_input =
-    (1, Read (records.Genesis (record { network = 1; slot = 0; epoch_length = 10; version = (10, 0); supply = 1000; reserves = 659; treasury = 100; params = base_params; document = (h32 0x01); script = None; committee = (Some (record { threshold = (share 0 1); members = (((key 0x70), 100, (Some (key 0x71))) ∷ []) })); outputs = (((ref 0x01 2), (address_with 1 (key 0x01) None), 20) ∷ ((ref 0x01 3), (address_with 1 (key 0x01) None), 20) ∷ ((ref 0x01 4), (address_with 1 (key 0x01) None), 20) ∷ ((ref 0x01 5), (address_with 1 (key 0x01) None), 20) ∷ ((ref 0x01 6), (address_with 1 (key 0x01) None), 20) ∷ ((ref 0x01 7), (address_with 1 (key 0x01) None), 20) ∷ []); accounts = (((key 0x10), 2, 67, None, (Some (drep.Registered (key 0x30)))) ∷ ((key 0x11), 2, 33, None, (Some (drep.Registered (key 0x31)))) ∷ ((key 0x12), 2, 0, None, None) ∷ []); pools = ((record { pool = (pool 0x50); deposit = 5; cost = 0; pledge = 0; margin = (share 0 1); account = (account_on 1 (key 0x12)); key = None }) ∷ []); dreps = (((key 0x30), 5, 20) ∷ ((key 0x31), 5, 20) ∷ []) }))) ∷
+    (1, Read (records.Genesis (record { network = 1; slot = 0; epoch_length = 10; version = (10, 0); supply = 1000; reserves = 659; treasury = 100; params = base_params; document = (h32 0x01); script = None; committee = (Some (record { threshold = (share 0 1); members = (((key 0x70), 100, (Some (key 0x71))) ∷ []) })); outputs = (((ref 0x01 2), (address_with 1 (key 0x01) None), 20, []) ∷ ((ref 0x01 3), (address_with 1 (key 0x01) None), 20, []) ∷ ((ref 0x01 4), (address_with 1 (key 0x01) None), 20, []) ∷ ((ref 0x01 5), (address_with 1 (key 0x01) None), 20, []) ∷ ((ref 0x01 6), (address_with 1 (key 0x01) None), 20, []) ∷ ((ref 0x01 7), (address_with 1 (key 0x01) None), 20, []) ∷ []); accounts = (((key 0x10), 2, 67, None, (Some (drep.Registered (key 0x30)))) ∷ ((key 0x11), 2, 33, None, (Some (drep.Registered (key 0x31)))) ∷ ((key 0x12), 2, 0, None, None) ∷ []); pools = ((record { pool = (pool 0x50); deposit = 5; cost = 0; pledge = 0; margin = (share 0 1); account = (account_on 1 (key 0x12)); key = None }) ∷ []); dreps = (((key 0x30), 5, 20) ∷ ((key 0x31), 5, 20) ∷ []) }))) ∷
     (2, Read (records.Tx (record (spend 0x02 4) { outputs = ((paying (address_with 1 (key 0x02) None) 1 0) ∷ (paying (address_with 1 (key 0x03) None) 1 0) ∷ []); size = 3; scripts = scripts.Failed; collateral = ((ref 0x01 3) ∷ (ref 0x01 4) ∷ []); collateral_return = (Some (paying (address_with 1 (key 0x01) (Some (key 0x10))) 31 0)); treasury = (Some 1); donation = 3; withdrawals = (((account_on 1 (key 0x99)), 1) ∷ []); certs = ((certs.AccountUnreg (key 0x13) None) ∷ []) }))) ∷
     (3, Read (records.Print what.State)) ∷
     (4, Read (records.Tx (record (spend 0x02 0) { inputs = ((ref 0x01 5) ∷ []) }))) ∷
@@ -218,7 +218,7 @@ scripts_that_failed = refl
 
 abbrev accounts_left_and_come_again_input : List (ℕ × Reading)
 accounts_left_and_come_again_input =
-    (1, Read (records.Genesis (record { network = 1; slot = 0; epoch_length = 10; version = (10, 0); supply = 1000; reserves = 619; treasury = 100; params = base_params; document = (h32 0x01); script = None; committee = (Some (record { threshold = (share 0 1); members = (((key 0x70), 100, (Some (key 0x71))) ∷ []) })); outputs = (((ref 0x01 2), (address_with 1 (key 0x01) None), 40) ∷ ((ref 0x01 3), (address_with 1 (key 0x01) None), 40) ∷ ((ref 0x01 4), (address_with 1 (key 0x01) None), 40) ∷ ((ref 0x01 5), (address_with 1 (key 0x01) None), 40) ∷ []); accounts = (((key 0x10), 2, 67, None, (Some (drep.Registered (key 0x30)))) ∷ ((key 0x11), 2, 33, None, (Some (drep.Registered (key 0x31)))) ∷ ((key 0x12), 2, 0, None, None) ∷ []); pools = ((record { pool = (pool 0x50); deposit = 5; cost = 0; pledge = 0; margin = (share 0 1); account = (account_on 1 (key 0x12)); key = None }) ∷ []); dreps = (((key 0x30), 5, 20) ∷ ((key 0x31), 5, 20) ∷ []) }))) ∷
+    (1, Read (records.Genesis (record { network = 1; slot = 0; epoch_length = 10; version = (10, 0); supply = 1000; reserves = 619; treasury = 100; params = base_params; document = (h32 0x01); script = None; committee = (Some (record { threshold = (share 0 1); members = (((key 0x70), 100, (Some (key 0x71))) ∷ []) })); outputs = (((ref 0x01 2), (address_with 1 (key 0x01) None), 40, []) ∷ ((ref 0x01 3), (address_with 1 (key 0x01) None), 40, []) ∷ ((ref 0x01 4), (address_with 1 (key 0x01) None), 40, []) ∷ ((ref 0x01 5), (address_with 1 (key 0x01) None), 40, []) ∷ []); accounts = (((key 0x10), 2, 67, None, (Some (drep.Registered (key 0x30)))) ∷ ((key 0x11), 2, 33, None, (Some (drep.Registered (key 0x31)))) ∷ ((key 0x12), 2, 0, None, None) ∷ []); pools = ((record { pool = (pool 0x50); deposit = 5; cost = 0; pledge = 0; margin = (share 0 1); account = (account_on 1 (key 0x12)); key = None }) ∷ []); dreps = (((key 0x30), 5, 20) ∷ ((key 0x31), 5, 20) ∷ []) }))) ∷
     (2, Read (records.Tx (record (spend 0x02 57) { outputs = ((paying (address_with 1 (key 0x01) None) 50 0) ∷ []); withdrawals = (((account_on 1 (key 0x10)), 67) ∷ []); certs = ((certs.AccountUnreg (key 0x10) (Some 2)) ∷ (certs.AccountReg (key 0x10) (Some 2) None (Some drep.Abstain)) ∷ (certs.DrepUnreg (key 0x31) None) ∷ (certs.DrepReg (key 0x31) None) ∷ (certs.Delegate (key 0x10) (Some (pool 0x50)) None) ∷ []) }))) ∷
     (3, Read (records.Print what.State)) ∷
     (4, Read (records.Tx (record (spend 0x03 0) { withdrawals = (((account_on 1 (key 0x11)), 33) ∷ []) }))) ∷
@@ -336,7 +336,7 @@ accounts_left_and_come_again = refl
 
 abbrev registered_and_used_in_one_transaction_input : List (ℕ × Reading)
 registered_and_used_in_one_transaction_input =
-    (1, Read (records.Genesis (record { network = 1; slot = 0; epoch_length = 10; version = (10, 0); supply = 1000; reserves = 459; treasury = 100; params = base_params; document = (h32 0x01); script = None; committee = (Some (record { threshold = (share 0 1); members = (((key 0x70), 100, (Some (key 0x71))) ∷ []) })); outputs = (((ref 0x01 2), (address_with 1 (key 0x01) None), 40) ∷ ((ref 0x01 3), (address_with 1 (key 0x01) None), 40) ∷ ((ref 0x01 4), (address_with 1 (key 0x01) None), 40) ∷ ((ref 0x01 5), (address_with 1 (key 0x01) None), 40) ∷ ((ref 0x01 6), (address_with 1 (key 0x01) None), 40) ∷ ((ref 0x01 7), (address_with 1 (key 0x01) None), 40) ∷ ((ref 0x01 8), (address_with 1 (key 0x01) None), 40) ∷ ((ref 0x01 9), (address_with 1 (key 0x01) None), 40) ∷ []); accounts = (((key 0x10), 2, 67, None, (Some (drep.Registered (key 0x30)))) ∷ ((key 0x11), 2, 33, None, (Some (drep.Registered (key 0x31)))) ∷ ((key 0x12), 2, 0, None, None) ∷ []); pools = ((record { pool = (pool 0x50); deposit = 5; cost = 0; pledge = 0; margin = (share 0 1); account = (account_on 1 (key 0x12)); key = None }) ∷ []); dreps = (((key 0x30), 5, 20) ∷ ((key 0x31), 5, 20) ∷ []) }))) ∷
+    (1, Read (records.Genesis (record { network = 1; slot = 0; epoch_length = 10; version = (10, 0); supply = 1000; reserves = 459; treasury = 100; params = base_params; document = (h32 0x01); script = None; committee = (Some (record { threshold = (share 0 1); members = (((key 0x70), 100, (Some (key 0x71))) ∷ []) })); outputs = (((ref 0x01 2), (address_with 1 (key 0x01) None), 40, []) ∷ ((ref 0x01 3), (address_with 1 (key 0x01) None), 40, []) ∷ ((ref 0x01 4), (address_with 1 (key 0x01) None), 40, []) ∷ ((ref 0x01 5), (address_with 1 (key 0x01) None), 40, []) ∷ ((ref 0x01 6), (address_with 1 (key 0x01) None), 40, []) ∷ ((ref 0x01 7), (address_with 1 (key 0x01) None), 40, []) ∷ ((ref 0x01 8), (address_with 1 (key 0x01) None), 40, []) ∷ ((ref 0x01 9), (address_with 1 (key 0x01) None), 40, []) ∷ []); accounts = (((key 0x10), 2, 67, None, (Some (drep.Registered (key 0x30)))) ∷ ((key 0x11), 2, 33, None, (Some (drep.Registered (key 0x31)))) ∷ ((key 0x12), 2, 0, None, None) ∷ []); pools = ((record { pool = (pool 0x50); deposit = 5; cost = 0; pledge = 0; margin = (share 0 1); account = (account_on 1 (key 0x12)); key = None }) ∷ []); dreps = (((key 0x30), 5, 20) ∷ ((key 0x31), 5, 20) ∷ []) }))) ∷
     (2, Read (records.Tx (record (spend 0x02 28) { certs = ((certs.PoolReg (pool 0x51) 1 2 (share 0 1) (account_on 1 (key 0x11)) None) ∷ (certs.PoolRetire (pool 0x51) 3) ∷ (certs.DrepReg (key 0x32) None) ∷ (certs.AccountReg (key 0x13) None (Some (pool 0x51)) (Some (drep.Registered (key 0x32)))) ∷ (certs.Delegate (key 0x13) None (Some (drep.Registered (key 0x31)))) ∷ (certs.Delegate (key 0x12) (Some (pool 0x51)) (Some (drep.Registered (key 0x32)))) ∷ (certs.DrepUpdate (key 0x32)) ∷ (certs.PoolReg (pool 0x51) 3 4 (share 1 2) (account_on 1 (key 0x12)) None) ∷ []) }))) ∷
     (3, Read (records.Print what.State)) ∷
     (4, Read (records.Tx (record (spend 0x03 40) { certs = ((certs.DrepReg (key 0x33) None) ∷ (certs.DrepUnreg (key 0x33) (Some 5)) ∷ (certs.DrepReg (key 0x33) None) ∷ (certs.AccountReg (key 0x14) None None (Some (drep.Registered (key 0x33)))) ∷ (certs.DrepUnreg (key 0x33) None) ∷ (certs.AccountUnreg (key 0x14) (Some 2)) ∷ (certs.HotAuth (key 0x70) (key 0x79)) ∷ (certs.HotResign (key 0x70)) ∷ []) }))) ∷
