@@ -3,7 +3,7 @@
 import random
 from typing import Callable, NamedTuple
 
-from bench_shapes import DEPOSIT, EACH, FEE, FIRST, INFO, OWNER, PRICES, PROPOSED, SHAPES, Chain, beginning, hashed, proposal, proposed
+from bench_shapes import DEPOSIT, EACH, FEE, FIRST, INFO, OWNER, PRICES, PROPOSED, SHAPES, STAKE, Chain, beginning, hashed, proposal, proposed
 from records import credential, key, ref, text
 
 # the DReps, and the pools, to which accounts delegate
@@ -17,8 +17,6 @@ PROPOSED_AN_EPOCH, PAID_AN_EPOCH = 10, 100
 # the entries that a pulse visits, where many do
 PULSE = 1000
 ALL = 2**32 - 1
-# the output of an account
-STAKE = 1_000_000
 
 
 class Parts(NamedTuple):

@@ -12,6 +12,8 @@ LIVE = 100_000
 EACH = 500
 # its proposals
 PROPOSED = 100
+# the output of an account that has one
+STAKE = 1_000_000
 DEPOSIT = 10
 # the DReps that vote one a transaction, and the live actions that they vote on
 VOTERS = 1000
@@ -131,6 +133,16 @@ def registered(count):
     return b"\n".join([beginning([[ref(1, 0), key(1), FIRST]], **PRICES), *registering(count)])
 
 
+def registering_with_outputs(count):
+    """Transactions that register so many keys, 500 each, and give each of these an output."""
+    chain = Chain(1, FIRST)
+    for first in range(0, count, EACH):
+        keys = ["k" + hashed(n)[:56] for n in range(first, first + EACH)]
+        certs = [{"cert": "account-reg", "cred": it} for it in keys]
+        line, chain = chain.next((2 + STAKE) * EACH, [[f"{key(1)}+{it}", STAKE, 65] for it in keys], certs=certs)
+        yield line
+
+
 def staked(count, accounts):
     """Each transfer spends the output of the one before, and its address has the stake part of any account."""
     chosen = random.Random(1)
@@ -148,6 +160,8 @@ def accounts(count):
     yield Shape("transfers with stake parts", count, registered(some), lambda: staked(count, some), "accepted")
     for there in (0, max(count // 100, EACH), some, max(count, EACH)):
         yield Shape(f"registrations beside {there:,}", some, registered(there), lambda first=there: registering(some, first), "accepted")
+    first = beginning([[ref(1, 0), key(1), FIRST]], **PRICES)
+    yield Shape("registrations with outputs", some, first, lambda: registering_with_outputs(some), "accepted")
 
 
 # ---- proposals and votes
@@ -331,7 +345,9 @@ def assets():
     burned = [an_asset(n, -1) for n in range(OUTPUT_LIMIT)]
     making = [[key(1), 0, 0, [it]] for it in held]
     first = over(of_one(1))
-    yield Shape("outputs with an asset each", OUTPUT_LIMIT, first, one_line(inputs=of_one(1), outputs=making, mint=held, fee=1), "accepted")
+    for many in OUTPUT_LIMIT // 4 + 1, OUTPUT_LIMIT // 2 + 1, OUTPUT_LIMIT:
+        minting = one_line(inputs=of_one(1), outputs=making[:many], mint=held[:many], fee=1)
+        yield Shape(f"{many:,} outputs with an asset each", many, first, minting, "accepted")
     there = beginning([[it, key(1), 1, [asset]] for it, asset in zip(of_one(OUTPUT_LIMIT), held)])
     spending = one_line(inputs=of_one(OUTPUT_LIMIT), mint=burned, fee=OUTPUT_LIMIT)
     yield Shape("inputs with an asset each", OUTPUT_LIMIT, there, spending, "accepted")
