@@ -48,40 +48,6 @@ const PARAM_NAMES: [&str; 30] = [
     "committeeMaxTermLength",
 ];
 
-/// An update that names no parameter.
-const NO_UPDATE: Update = Update {
-    max_block_body_size: None,
-    max_tx_size: None,
-    max_block_header_size: None,
-    max_value_size: None,
-    max_tx_ex_units: None,
-    max_block_ex_units: None,
-    max_collateral_inputs: None,
-    min_fee_a: None,
-    min_fee_b: None,
-    key_deposit: None,
-    pool_deposit: None,
-    rho: None,
-    tau: None,
-    min_pool_cost: None,
-    coins_per_utxo_byte: None,
-    prices: None,
-    min_fee_ref_script_cost_per_byte: None,
-    a0: None,
-    e_max: None,
-    n_opt: None,
-    cost_models: None,
-    collateral_percentage: None,
-    pool_voting_thresholds: None,
-    drep_voting_thresholds: None,
-    gov_action_lifetime: None,
-    gov_action_deposit: None,
-    drep_deposit: None,
-    drep_activity: None,
-    committee_min_size: None,
-    committee_max_term_length: None,
-};
-
 fn is_param_name(name: &str) -> bool
     ensures { result ≡ is_param_name name.now }
 {
@@ -114,7 +80,7 @@ pub fn read_update(alloc: Global, v: &Value<'_>) -> Result<Update, FieldFault>
     ensures { Reads result (update_in (view v.now)) }
 {
     let object = param_object(v)?;
-    let update = with_network_group(alloc, object, NO_UPDATE)?;
+    let update = with_network_group(alloc, object, Update::EMPTY)?;
     let update = with_fees(alloc, object, update)?;
     let update = with_incomes(alloc, object, update)?;
     let update = with_technical_group(alloc, object, update)?;

@@ -16,39 +16,6 @@ use std::alloc::Global;
 use std::process::Abort;
 use std::test::Fail;
 
-const NO_UPDATE: Update = Update {
-    max_block_body_size: None,
-    max_tx_size: None,
-    max_block_header_size: None,
-    max_value_size: None,
-    max_tx_ex_units: None,
-    max_block_ex_units: None,
-    max_collateral_inputs: None,
-    min_fee_a: None,
-    min_fee_b: None,
-    key_deposit: None,
-    pool_deposit: None,
-    rho: None,
-    tau: None,
-    min_pool_cost: None,
-    coins_per_utxo_byte: None,
-    prices: None,
-    min_fee_ref_script_cost_per_byte: None,
-    a0: None,
-    e_max: None,
-    n_opt: None,
-    cost_models: None,
-    collateral_percentage: None,
-    pool_voting_thresholds: None,
-    drep_voting_thresholds: None,
-    gov_action_lifetime: None,
-    gov_action_deposit: None,
-    drep_deposit: None,
-    drep_activity: None,
-    committee_min_size: None,
-    committee_max_term_length: None,
-};
-
 fn params(half: Unit, one: Ratio) -> Params {
     Params {
         max_block_body_size: 90_112,
@@ -158,7 +125,7 @@ fn change() -> Action
         previous: None,
         update: Update {
             min_fee_a: Some(45),
-            ..NO_UPDATE
+            ..Update::EMPTY
         },
         policy: None,
     }
