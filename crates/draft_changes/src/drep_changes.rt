@@ -81,7 +81,7 @@ impl DrepChanges {
         Ok(())
     }
 
-    /// The dormant epochs of this book are added, if they are not yet. It walks the changed DReps alone.
+    /// The dormant epochs of this book are added to the expiry of each DRep that with them has not expired by the epoch, if they are not yet. It walks the changed DReps alone.
     pub fn refresh(&mut self, book: &DrepBook, epoch: u64)
         requires fit { AllAddable (dormant_by self.old.refreshed book.now.dormant) self.old.dreps }
         ensures { self.new ≡ with_refresh epoch book.now.dormant self.old }

@@ -123,7 +123,7 @@ fn cut(
     ensures removed { IfOk result (λ l. l.items ≡ leaving_of proposals.old ratified.now expired.now last.now) }
     ensures distinct { HaveDistinctIds proposals.old }
 {
-    // no two have one id
+    // (the contract of `len` tells that no two have one id)
     let _distinct = proposals.len();
     let kept = kept_after(alloc, proposals, ratified, expired, last)?;
     proposals.retain_listed(kept.as_slice())

@@ -46,7 +46,7 @@ fn kept_of_leaving(
         ids_of (kept_of store.now leaving.now.enacted.keys leaving.now.expired.keys last.now)) }
 {
     kept_by_chains();
-    // no two have one id
+    // (the contract of `len` tells that no two have one id)
     let _distinct = store.len();
     let mut walk = Walk::from_roots(alloc, store, leaving, last)?;
     walk.run(store)?;
