@@ -2,7 +2,7 @@
 use Rattle.std.proofs.Common.{◌≡◌, ℕ, ◌+◌, ◌*◌, ◌^◌, ◌≤◌, Bool, true, false, cond, ◌||◌, inl, inr, List, [], ◌∷◌, ◌++◌, Option, Some, None, map, unwrap_or, length, take, get_or, ◌<◌, refl, ap, sym, subst, ◌∙◌, append_assoc, arith}
 use Rattle.std.specs.List.{AllByRecursion}
 use Rattle.std.specs.Map.{keys_of}
-use Rattle.std.proofs.lemmas.Bool.{cases_Bool}
+use Rattle.std.proofs.lemmas.Bool.{cases_Bool, or_parts}
 use Rattle.std.proofs.lemmas.Cmp.{eq_by_cmp_equiv}
 use Rattle.std.proofs.lemmas.List.{take_more}
 use Rattle.gov_ids.specs.declared.assets.AssetId.{AssetId}
@@ -10,7 +10,8 @@ use Rattle.gov_ids.specs.Orders.{asset_cmp}
 use Rattle.gov_ids.specs.Same.{same_asset}
 use Rattle.gov_ids.proofs.Exacts.{asset_exact}
 use Rattle.gov_ids.proofs.Totals.{asset_total}
-use Rattle.maps.proofs.Kept.{IsMap-with_value}
+use Rattle.maps.proofs.Joined.{or_assoc}
+use Rattle.maps.proofs.Kept.{IsMap-with_value, keys_of-each}
 use Rattle.maps.proofs.Lookups.{value_at-with_value}
 use Rattle.maps.proofs.Same.{map_from_value_at}
 use Rattle.maps.proofs.Sets.{IsSet-in_order, has_member-in_order}
@@ -44,35 +45,23 @@ value_at-made {X} f (k ∷ ks) q =
       | false ↦ λ t. value_at-made f ks q
     ] refl
 
-keys_of-made : {X : Type 0} (f : AssetId → X) (ks : List AssetId) → keys_of (map (λ a. (a, f a)) ks) ≡ ks
-keys_of-made f [] = refl
-keys_of-made f (k ∷ ks) = ap (λ (l : List AssetId). k ∷ l) (keys_of-made f ks)
-
 IsMap-balance_of : (ts gs : List (AssetId × ℕ)) → IsMap asset_cmp (balance_of ts gs)
 IsMap-balance_of ts gs =
-    subst (λ (ks : List AssetId). IsSet asset_cmp ks) (sym (keys_of-made (λ a. (quantity_of ts a, quantity_of gs a)) (named_in (ts ++ gs)))) (IsSet-in_order asset_total (keys_of (ts ++ gs)))
+    subst (λ (ks : List AssetId). IsSet asset_cmp ks) (sym (keys_of-each {X = ℕ × ℕ} (λ (a : AssetId). (quantity_of ts a, quantity_of gs a)) (named_in (ts ++ gs)))) (IsSet-in_order asset_total (keys_of (ts ++ gs)))
 
 value_at-balance_of : (ts gs : List (AssetId × ℕ)) (q : AssetId) → value_at asset_cmp (balance_of ts gs) q ≡ cond (names (ts ++ gs) q) (Some (quantity_of ts q, quantity_of gs q)) None
 value_at-balance_of ts gs q =
     value_at-made (λ a. (quantity_of ts a, quantity_of gs a)) (named_in (ts ++ gs)) q
     ∙ ap (λ b. cond b (Some (quantity_of ts q, quantity_of gs q)) None) (has_member-in_order asset_total (keys_of (ts ++ gs)) q)
 
-or_assoc : (a b c : Bool) → (a || (b || c)) ≡ ((a || b) || c)
-or_assoc true b c = refl
-or_assoc false b c = refl
-
 names-append : (xs ys : List (AssetId × ℕ)) (q : AssetId) → names (xs ++ ys) q ≡ (names xs q || names ys q)
 names-append [] ys q = refl
 names-append (x ∷ xs) ys q = ap (λ b. same_asset q x.0 || b) (names-append xs ys q) ∙ or_assoc (same_asset q x.0) (names xs q) (names ys q)
 
-or_neither : (a b : Bool) → (a || b) ≡ false → (a ≡ false) × (b ≡ false)
-or_neither true b e = cc
-or_neither false b e = (refl, e)
-
 not_named : (es : List (AssetId × ℕ)) (q : AssetId) → names es q ≡ false → quantity_of es q ≡ 0
 not_named [] q h = refl
 not_named (e ∷ es) q h =
-    let parts = or_neither (same_asset q e.0) (names es q) h in
+    let parts = or_parts (same_asset q e.0) (names es q) h in
     let other : same_asset e.0 q ≡ false = (eq_by_cmp_equiv asset_total).symm e.0 q ∙ parts.0 in
     let none : cond (same_asset e.0 q) e.1 0 ≡ 0 = ap (λ b. cond b e.1 0) other in
     omega (arith, quantity_of-cons e es q, none, not_named es q parts.1)
@@ -84,7 +73,7 @@ sums_of ts gs q =
     ∙ elim (cases_Bool (names (ts ++ gs) q)) [
       | inl named ↦ ap (λ b. unwrap_or (cond b (Some (quantity_of ts q, quantity_of gs q)) None) (0, 0)) named
       | inr absent ↦
-          let parts = or_neither (names ts q) (names gs q) (sym (names-append ts gs q) ∙ absent) in
+          let parts = or_parts (names ts q) (names gs q) (sym (names-append ts gs q) ∙ absent) in
           ap (λ b. unwrap_or (cond b (Some (quantity_of ts q, quantity_of gs q)) None) (0, 0)) absent
           ∙ λ i. (sym (not_named ts q parts.0) i, sym (not_named gs q parts.1) i)
     ]

@@ -1,5 +1,5 @@
 mod Lists
 mod Values
-mod Quantities
+pub mod Quantities
 mod Sums
 mod Balanced

@@ -1,17 +1,11 @@
--- What holds of each value of a map, whatever changes, and a value that is written where one stood.
-use Rattle.std.proofs.Common.{◌≡◌, ℕ, List, [], ◌∷◌, true, false, cond, Option, Some, None, unwrap_or, refl, ap, sym, subst, ◌∙◌}
+-- What holds of each value of a map, whatever changes.
+use Rattle.std.proofs.Common.{◌≡◌, ℕ, List, [], ◌∷◌, true, false, cond, Option, Some, None, unwrap_or, sym, subst, ◌∙◌}
 use Rattle.std.specs.declared.cmp.Ordering.{Ordering}
 use Rattle.std.specs.declared.cmp.Ordering.TheVariants.{Less, Equal, Greater}
-use Rattle.std.specs.Ordering.{is_eq, eq_by_cmp, match_ordering}
-use Rattle.std.specs.BTreeMap.{is_at}
-use Rattle.std.specs.Cmp.{IsTotalOrder}
+use Rattle.std.specs.Ordering.{eq_by_cmp, match_ordering}
 use Rattle.std.specs.List.{AllByRecursion}
 use Rattle.std.specs.Option.{SomeIff}
-use Rattle.std.specs.List.Sorted.{IsStrictlySortedBy}
-use Rattle.std.specs.Map.{keys_of, set_value}
-use Rattle.maps.proofs.Lookups.{none_below}
-use Rattle.maps.proofs.Ties.{all_above}
-use Rattle.maps.specs.Maps.{IsMap, value_at, with_value, without_key}
+use Rattle.maps.specs.Maps.{value_at, with_value, without_key}
 
 module _ {K X : Type 0} (cmp : K → K → Ordering) (P : X → Type 0) where
   pub all-with_value : (k : K) (v : X) (es : List (K × X)) → P v → AllByRecursion (λ e. P e.1) es → AllByRecursion (λ e. P e.1) (with_value cmp k v es)
@@ -51,16 +45,6 @@ module _ {K X : Type 0} (cmp : K → K → Ordering) (P : X → Type 0) where
 pub all-weaker : {K X : Type 0} (P Q : X → Type 0) (es : List (K × X)) → ((x : X) → P x → Q x) → AllByRecursion (λ e. P e.1) es → AllByRecursion (λ e. Q e.1) es
 all-weaker P Q [] w h = tt
 all-weaker P Q (e ∷ es) w h = (w e.1 h.0, all-weaker P Q es w h.1)
-
-pub written_is : {K X : Type 0} {cmp : K → K → Ordering} (o : IsTotalOrder cmp) (k : K) (v x : X) (es : List (K × X)) → IsMap cmp es → value_at cmp es k ≡ Some x → set_value (is_at (cmp k)) es v ≡ with_value cmp k v es
-unfolding IsStrictlySortedBy
-written_is o k v x [] h m = cc
-written_is {K} {X} {cmp} o k v x (e ∷ es) h m =
-    elim (cmp k e.0) as (λ r. cmp k e.0 ≡ r → cond (is_eq r) (Some e.1) (value_at cmp es k) ≡ Some x → cond (is_eq r) ((e.0, v) ∷ es) (e ∷ set_value (is_at (cmp k)) es v) ≡ match_ordering r ((k, v) ∷ e ∷ es) ((e.0, v) ∷ es) (e ∷ with_value cmp k v es)) [
-      | Less ↦ λ r m. let none : value_at cmp es k ≡ None = none_below cmp k es (all_above o k e.0 (keys_of es) r h.0) in cc
-      | Equal ↦ λ r m. refl
-      | Greater ↦ λ r m. ap (λ (l : List (K × X)). e ∷ l) (written_is o k v x es h.1 m)
-    ] refl m
 
 -- a sum that is given is within its type
 pub given_is : (o : Option ℕ) (P : Type 0) (v w : ℕ) → SomeIff o P v → o ≡ Some w → P × (w ≡ v)

@@ -75,7 +75,8 @@ nothing_beyond bytes r left given read begun within =
       | inr ended ↦ (read.looked, came, (read.through ended).lines, inr (read.through ended).drained)
     ]
 
-append_known-more : (first : Option (List ℕ)) (piece more : List ℕ) → append_known (append_known first piece) more ≡ append_known first (piece ++ more)
+-- bytes and then others are all of them
+pub append_known-more : (first : Option (List ℕ)) (piece more : List ℕ) → append_known (append_known first piece) more ≡ append_known first (piece ++ more)
 append_known-more None piece more = refl
 append_known-more (Some xs) piece more = ap Some (append_assoc xs piece more)
 

@@ -1,5 +1,5 @@
 -- Which cold keys are kept of each hot key, before and after a change of the entries or of what is kept.
-use Rattle.std.proofs.Common.{◌≡◌, List, [], Bool, true, false, cond, not, ◌&&◌, ◌||◌, is_some, Option, Some, None, Result, Ok, Err, OnErr, refl, ap, sym, ◌∙◌}
+use Rattle.std.proofs.Common.{◌≡◌, List, [], Bool, true, false, cond, not, ◌&&◌, ◌||◌, is_some, Option, Some, None, refl, ap, sym, ◌∙◌}
 use Rattle.std.specs.BTreeMap.{is_at}
 use Rattle.std.specs.BTreeSet.{BTreeSet}
 use Rattle.std.proofs.lemmas.Map.Entries.{option_filter}
@@ -26,11 +26,6 @@ Hots = List (Credential × HotState)
 
 abbrev pub Held : Type 0
 Held = List (Credential × BTreeSet Credential)
-
--- what holds holds where there is an error
-pub at_err : {T E P : Type 0} (r : Result T E) → P → OnErr r P
-at_err (Ok t) p = tt
-at_err (Err e) p = p
 
 -- ---- what is kept
 
@@ -59,11 +54,6 @@ module _ (hot : Credential) (f : List Credential → List Credential) (old new :
             here ∙ sym (ap f here ∙ e)
         | false ↦ λ t. refl
       ] refl
-
--- one look-up that was written twice is as it was written last
-pub written_last : {X : Type 0} (b : Bool) (x y z : X) → cond b x (cond b y z) ≡ cond b x z
-written_last true x y z = refl
-written_last false x y z = refl
 
 -- a hot key is left by what comes after it
 pub left_by : (hot h : Credential) (s : HotState) (b : Bool) → is_hot_key hot s ≡ b → is_left h (Some (Hot hot)) s ≡ (same_credential hot h && not b)

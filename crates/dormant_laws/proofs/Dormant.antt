@@ -30,6 +30,7 @@ use Rattle.gov_model.specs.Enacted.{enacted_after, update_of}
 use Rattle.gov_model.specs.Kept.{kept_of}
 use Rattle.gov_model.specs.Ratified.{is_one_of, order_of, ratified_of}
 use Rattle.gov_model.specs.Snapshot.{Snapshot}
+use Rattle.tx_records.proofs.Parts.{genesis_parts, tx_parts}
 use Rattle.tx_records.specs.declared.cert.Cert.{Cert}
 use Rattle.tx_records.specs.declared.cert.Cert.TheVariants.{AccountReg, AccountUnreg, Delegate, PoolReg, PoolRetire, DrepReg, DrepUnreg, DrepUpdate, HotAuth, HotResign}
 use Rattle.tx_records.specs.declared.genesis.Genesis.{Genesis}
@@ -51,7 +52,7 @@ use Rattle.run_model.specs.World.{World}
 use Rattle.run_model.specs.Boundary.{after_members, after_rewards, update_applied, world_after_boundary}
 use Rattle.run_model.specs.Genesis.{ledger_of_genesis, world_of_genesis}
 use Rattle.run_model.specs.Laws.{DormantBound, IsWithinDormantBound}
-use Rattle.tx_records.specs.Limits.{are_params, is_action, is_slot, is_u32}
+use Rattle.tx_records.specs.Limits.{is_action, is_slot, is_u32}
 use Rattle.tx_records.specs.GenesisLimits as genesis_limits
 use Rattle.tx_records.specs.RecordLimits.{is_within_limits}
 use Rattle.tx_records.specs.TxLimits as tx_limits
@@ -399,7 +400,7 @@ actions_active [] h = tt
 actions_active (p ∷ ps) h = (action_active p.action (left_of _ _ h), actions_active ps (right_of _ _ h))
 
 tx_active : (tx : Tx) → tx_limits.is_within_limits tx ≡ true → AreActiveRecords (2 ^ 32) tx.proposals
-tx_active tx h = actions_active tx.proposals (right_of _ _ (left_of _ _ (left_of _ _ (left_of _ _ (left_of _ _ (left_of _ _ (left_of _ _ (left_of _ _ h))))))))
+tx_active tx h = actions_active tx.proposals (tx_parts tx h).actions
 
 -- the genesis
 abbrev Drep3 : Type 0
@@ -420,9 +421,9 @@ at_least_none n = omega arith
 
 pub genesis_bounded : (g : Genesis) → genesis_limits.is_within_limits g ≡ true → IsBounded (world_of_genesis g)
 genesis_bounded g h =
-    let params : are_params g.params ≡ true = right_of _ _ (left_of _ _ (left_of _ _ h)) in
-    let activity : g.params.drep_activity ≤ 2 ^ 32 = short g.params.drep_activity (right_of _ _ (left_of _ _ params)) in
-    let expiries : list_all (λ (d : Drep3). is_slot d.2) g.dreps ≡ true = right_of _ _ (left_of _ _ (left_of _ _ (left_of _ _ h))) in
+    let parts = genesis_parts g h in
+    let activity : g.params.drep_activity ≤ 2 ^ 32 = short g.params.drep_activity (right_of _ _ (left_of _ _ parts.params)) in
+    let expiries : list_all (λ (d : Drep3). is_slot d.2) g.dreps ≡ true = parts.expiries in
     let epoch : ℕ = (world_of_genesis g).ledger.epoch in
     record {
       ledger = record {

@@ -82,15 +82,10 @@ module _ {K X : Type 0} {cmp : K → K → Ordering} (o : IsTotalOrder cmp) (k :
         ∙ sym (there q))
 
 -- what is said of an answer, where it is that one
-pub on_ok : {T E P : Type 0} (r : Result T E) → is_err r ≡ false → OnOk r P → P
-on_ok (Ok t) h p = p
-on_ok (Err e) h p = cc
+pub from_ok : {T E P : Type 0} (r : Result T E) → is_err r ≡ false → OnOk r P → P
+from_ok (Ok t) h p = p
+from_ok (Err e) h p = cc
 
-pub on_err : {T E P : Type 0} (r : Result T E) → is_err r ≡ true → OnErr r P → P
-on_err (Ok t) h p = cc
-on_err (Err e) h p = p
-
--- what holds holds where there is an error
-pub at_err : {T E P : Type 0} (r : Result T E) → P → OnErr r P
-at_err (Ok t) p = tt
-at_err (Err e) p = p
+pub from_err : {T E P : Type 0} (r : Result T E) → is_err r ≡ true → OnErr r P → P
+from_err (Ok t) h p = cc
+from_err (Err e) h p = p

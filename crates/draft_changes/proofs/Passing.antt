@@ -11,24 +11,12 @@ use Rattle.std.specs.Map.{keys_of}
 use Rattle.std.proofs.lemmas.Bool.{lt-ltb, ltb-true, ltb_from_iff}
 use Rattle.std.proofs.lemmas.Cmp.{eq_by_cmp_equiv}
 use Rattle.committee_book.proofs.Seating.{any_where}
+use Rattle.maps.proofs.Joined.{or_swap, or_swap_assoc}
 use Rattle.maps.proofs.Kept.{IsMap-with_value}
 use Rattle.maps.proofs.Lookups.{none_below}
 use Rattle.maps.proofs.Ties.{all_above, all_tied}
 use Rattle.maps.specs.Maps.{IsMap, entries_where, has_key, value_at, with_value, with_values}
 use Rattle.draft_changes.specs.Covered.{covered_entries}
-
--- one of three that may stand first
-turned : (a b c : Bool) → (a || (b || c)) ≡ (b || (a || c))
-turned true true c = refl
-turned true false c = refl
-turned false true c = refl
-turned false false c = refl
-
-grouped : (a b c : Bool) → (a || (b || c)) ≡ ((b || a) || c)
-grouped true true c = refl
-grouped true false c = refl
-grouped false true c = refl
-grouped false false c = refl
 
 -- an entry passes
 abbrev pub any : {K X : Type 0} → (K → X → Bool) → List (K × X) → Bool
@@ -51,7 +39,7 @@ module _ {K X : Type 0} {cmp : K → K → Ordering} (o : IsTotalOrder cmp) (exa
       ≡ (p k v || ((not (is_eq r) && p e.0 e.1) || any_other p k es))) [
         | Less ↦ λ t. ap (λ b. p k v || (p e.0 e.1 || b)) (other_above p k es (all_above o k e.0 (keys_of es) t h.0))
         | Equal ↦ λ t. λ i. p (sym (exact k e.0 t) i) v || other_above p k es (all_tied o k e.0 (keys_of es) t h.0) i
-        | Greater ↦ λ t. ap (λ b. p e.0 e.1 || b) (any-with_value p k v es h.1) ∙ turned (p e.0 e.1) (p k v) (any_other p k es)
+        | Greater ↦ λ t. ap (λ b. p e.0 e.1 || b) (any-with_value p k v es h.1) ∙ or_swap (p e.0 e.1) (p k v) (any_other p k es)
       ] refl
 
   -- an entry passes that no change replaces
@@ -76,7 +64,7 @@ module _ {K X : Type 0} {cmp : K → K → Ordering} (o : IsTotalOrder cmp) (exa
       any-with_values p new (with_value cmp e.0 e.1 es) g.1 (IsMap-with_value o e.0 e.1 es h)
       ∙ ap (λ b. any p new || b) (any-with_value (λ q x. not (has_key cmp new q) && p q x) e.0 e.1 es h)
       ∙ (λ i. any p new || ((not (none i) && p e.0 e.1) || any (λ q x. kept_at p e new q x i) es))
-      ∙ grouped (any p new) (p e.0 e.1) (any_kept p (e ∷ new) es)
+      ∙ or_swap_assoc (any p new) (p e.0 e.1) (any_kept p (e ∷ new) es)
 
 -- ---- how many pass
 

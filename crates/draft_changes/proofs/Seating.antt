@@ -5,24 +5,15 @@ use Rattle.std.specs.Ordering.{eq_by_cmp}
 use Rattle.std.specs.Cmp.{IsTotalOrder}
 use Rattle.std.specs.List.{list_any}
 use Rattle.std.specs.List.Sorted.{IsStrictlySortedBy}
+use Rattle.maps.proofs.Joined.{and_false, or_pairs}
 use Rattle.maps.proofs.Lookups.{none_below}
 use Rattle.maps.proofs.Placed.{value_at_tied}
 use Rattle.maps.specs.Maps.{IsMap, entries_where, value_at}
 use Rattle.maps.specs.Words.{some_and}
 
-split : (a b c d : Bool) → ((a || b) || (c || d)) ≡ ((a || c) || (b || d))
-split true b c d = refl
-split false true true d = refl
-split false true false d = refl
-split false false c d = refl
-
-both_false : (a : Bool) → (a && false) ≡ false
-both_false true = refl
-both_false false = refl
-
 distributed : (a b c : Bool) → ((a && b) || (c && b)) ≡ ((a || c) && b)
 distributed true true c = refl
-distributed true false c = both_false c
+distributed true false c = and_false c
 distributed false b c = refl
 
 module _ {A : Type 0} where
@@ -32,7 +23,7 @@ module _ {A : Type 0} where
 
   any_either : (f g : A → Bool) (xs : List A) → list_any (λ x. f x || g x) xs ≡ (list_any f xs || list_any g xs)
   any_either f g [] = refl
-  any_either f g (x ∷ xs) = ap (λ b. (f x || g x) || b) (any_either f g xs) ∙ split (f x) (g x) (list_any f xs) (list_any g xs)
+  any_either f g (x ∷ xs) = ap (λ b. (f x || g x) || b) (any_either f g xs) ∙ or_pairs (f x) (g x) (list_any f xs) (list_any g xs)
 
   any_with : (f : A → Bool) (b : Bool) (xs : List A) → list_any (λ x. f x && b) xs ≡ (list_any f xs && b)
   any_with f b [] = refl

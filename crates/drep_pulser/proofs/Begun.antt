@@ -9,6 +9,7 @@ use Rattle.gov_ids.specs.Orders.{credential_cmp, drep_cmp}
 use Rattle.gov_ids.proofs.Totals.{drep_total}
 use Rattle.book_records.specs.declared.DrepState.{DrepState}
 use Rattle.book_records.specs.declared.Entry.{Entry}
+use Rattle.maps.proofs.Joined.{zero_either}
 use Rattle.maps.proofs.Lookups.{value_at-with_value}
 use Rattle.maps.proofs.Several.{has_key-with_values}
 use Rattle.maps.specs.Maps.{value_at, has_key, has_member, with_value, with_values}
@@ -43,10 +44,6 @@ registered_keys (d ∷ ds) c =
       | false ↦ registered_keys ds c
     ]
 
-no_cond : (b : Bool) → ◌≡◌ {A = ℕ} 0 (cond b 0 0)
-no_cond true = refl
-no_cond false = refl
-
 module _ (ds : List (Credential × DrepState)) where
   pub begun_in : (es : List (Credential × Entry)) (total workers : ℕ) (deposits : List (Credential × ℕ)) → total ≡ length es → IsCountable es deposits
       → IsCountIn es (record { cursor = None; done = 0; total = total; workers = workers; sums = no_sums ds; deposits = deposits })
@@ -54,7 +51,7 @@ module _ (ds : List (Credential × DrepState)) where
     total = n;
     done = omega arith;
     cursor = refl;
-    sums = λ q. zeros ds (no_sums []) q (predefined_zero q) ∙ no_cond (has_key drep_cmp (no_sums ds) q);
+    sums = λ q. zeros ds (no_sums []) q (predefined_zero q) ∙ zero_either (has_key drep_cmp (no_sums ds) q);
     countable = c;
   }
 

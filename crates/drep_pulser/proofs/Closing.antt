@@ -1,5 +1,5 @@
 -- Sums that take in one part after the other.
-use Rattle.std.proofs.Common.{◌≡◌, ℕ, ◌+◌, ◌^◌, ◌<◌, ◌≤◌, List, ◌∷◌, Bool, true, false, cond, drop, filter, length, take, Option, Some, slice_index_or, sum_by, ap, sym, ◌∙◌, add-one, arith}
+use Rattle.std.proofs.Common.{◌≡◌, ℕ, ◌+◌, ◌^◌, ◌<◌, ◌≤◌, List, ◌∷◌, cond, drop, filter, length, take, Option, Some, slice_index_or, sum_by, ap, sym, ◌∙◌, add-one, arith}
 use Rattle.std.specs.List.{zip}
 use Rattle.std.specs.Map.{keys_of}
 use Rattle.std.proofs.lemmas.List.{length-map, drop_all, take-append-drop, take_all}
@@ -11,6 +11,7 @@ use Rattle.gov_ids.specs.declared.Drep.{Drep}
 use Rattle.gov_ids.specs.Orders.{credential_cmp, drep_cmp}
 use Rattle.book_records.specs.declared.Entry.{Entry}
 use Rattle.book_records.specs.declared.Registered.{Registered}
+use Rattle.maps.proofs.Joined.{at_most, summed}
 use Rattle.maps.specs.Maps.{has_key}
 use Rattle.maps.specs.Words.{amount}
 use Rattle.gov_model.specs.Snapshot.{Snapshot}
@@ -54,10 +55,6 @@ module _ (sums : List (Drep × ℕ)) (parts : List (List ℕ)) (i : ℕ) (part :
 pub all_taken : (sums : List (Drep × ℕ)) (parts : List (List ℕ)) (i : ℕ) (d : Drep) → length parts ≤ i → sum_for sums d ≡ sum_with (drop i parts) sums d
 all_taken sums parts i d end = omega (arith, ap (λ (l : List (List ℕ)). sum_with l sums d) (drop_all i parts end))
 
-at_most : (b : Bool) (n : ℕ) → cond b n 0 ≤ n
-at_most true n = omega arith
-at_most false n = omega arith
-
 module _ (es : List (Credential × Entry)) (c : Count) (parts : List (List ℕ)) (h : IsSharedIn es c parts) where
   pub all_fit : (d : Drep) → sum_with parts c.sums d < 2 ^ 64
   all_fit d =
@@ -93,10 +90,6 @@ all_visited f c r h done total sums =
           ∙ (λ i. cond (h.dreps d i) (sum_by (λ e. same_weight f c h e i) (filter (votes_by d) (all i))) 0);
     }
 
-both : (b : Bool) (s t front left all : ℕ) → s ≡ cond b front 0 → t ≡ cond b left 0 → all ≡ front + left → s + t ≡ cond b all 0
-both true s t front left all p q r = omega arith
-both false s t front left all p q r = omega arith
-
 -- parts that hold the stakes among the entries that are left share the entries
 module _ (es : List (Credential × Entry)) (c : Count) (h : IsCountIn es c) where
   left_is : entries_left c es ≡ drop c.done es
@@ -115,5 +108,5 @@ module _ (es : List (Credential × Entry)) (c : Count) (h : IsCountIn es c) wher
         ∙ ap (λ (l : List (Credential × Entry)). sum_by w l) (filter-append (votes_by d) front (drop c.done es))
         ∙ sum_by-append w (filter (votes_by d) front) (filter (votes_by d) (drop c.done es)) in
         let left = ap (λ (l : List (Credential × Entry)). sum_by w (filter (votes_by d) l)) left_is in
-        both (has_key drep_cmp c.sums d) _ _ _ _ _ (h.sums d) (each d) (all ∙ ap (λ n. sum_by w (filter (votes_by d) front) + n) (sym left));
+        summed (has_key drep_cmp c.sums d) _ _ _ _ _ (h.sums d) (each d) (all ∙ ap (λ n. sum_by w (filter (votes_by d) front) + n) (sym left));
   }

@@ -1,10 +1,10 @@
 -- The deposits of proposals one after another.
-use Rattle.std.proofs.Common.{◌≡◌, ℕ, zero, suc, ◌+◌, ◌<◌, ◌≤◌, List, [], ◌∷◌, Bool, true, false, cond, Some, None, drop, filter, get_or, length, sum_by, ap, sym, ◌∙◌, arith}
+use Rattle.std.proofs.Common.{◌≡◌, ℕ, zero, suc, ◌+◌, ◌<◌, ◌≤◌, List, [], ◌∷◌, Bool, true, false, cond, Some, drop, filter, get_or, length, sum_by, ap, ◌∙◌, arith}
 use Rattle.std.specs.List.{slice_get}
 use Rattle.std.specs.Map.{values_of}
 use Rattle.std.proofs.lemmas.List.{at_drop_more}
 use Rattle.std.proofs.lemmas.List.Sums.{sum_by-cons}
-use Rattle.std.proofs.lemmas.Option.{get_or_from_slice_get, slice_get-get_or, slice_get_within}
+use Rattle.std.proofs.lemmas.Option.{get_or_from_slice_get, slice_get_within}
 use Rattle.coin_frac.specs.Totals.{total_of}
 use Rattle.gov_actions.specs.declared.action.Proposal.{Proposal}
 use Rattle.gov_model.specs.Proposals.{deposits_of}
@@ -30,13 +30,6 @@ module _ (ps : List Proposal) (i : ℕ) (p : Proposal) (here : slice_get ps i �
 
   pub deposits_from : deposits_of (drop i ps) ≡ p.deposit + deposits_of (drop (i + 1) ps)
   deposits_from = from_here deposits_of ∙ sum_by-cons (λ (x : Proposal). x.deposit) p (drop (i + 1) ps)
-
--- there is something at each place
-pub never_past : (ps : List Proposal) (i : ℕ) → i < length ps → slice_get ps i ≡ None → ⊥
-never_past [] i within none = omega arith
-never_past (x ∷ ps) i within none =
-    let some : slice_get (x ∷ ps) i ≡ Some (get_or (x ∷ ps) i x) = slice_get-get_or (x ∷ ps) i x within in
-    let never : None ≡ Some (get_or (x ∷ ps) i x) = sym none ∙ some in cc
 
 -- an amount is at most the sum of all
 pub place_within : {K : Type 0} (es : List (K × ℕ)) (i : ℕ) (d : K × ℕ) → i < length es → (get_or es i d).1 ≤ total_of es

@@ -10,6 +10,7 @@ use Rattle.std.specs.Ordering.{eq_by_cmp}
 use Rattle.std.proofs.lemmas.Bool.{eqb-true, not-false, or_left, or_parts, or_right}
 use Rattle.std.proofs.lemmas.Cmp.{eq_by_cmp_equiv}
 use Rattle.std.proofs.lemmas.List.Sums.{sum_by-cons}
+use Rattle.gov_model.specs.Sides.{members_of}
 use Rattle.maps.specs.Maps.{IsMap, has_member, in_order, sum_values, value_at, with_key, with_values}
 use Rattle.maps.specs.Words.{repeats}
 use Rattle.maps.proofs.Credits.{sum_by-plus}
@@ -31,10 +32,11 @@ use Rattle.book_records.specs.declared.Registered.{Registered}
 use Rattle.book_records.specs.declared.DrepState.{DrepState}
 use Rattle.book_records.specs.declared.pool.Pool.{Pool}
 use Rattle.tx_records.specs.declared.genesis.Genesis.{Genesis}
+use Rattle.tx_records.specs.declared.genesis.GenesisCommittee.{GenesisCommittee}
 use Rattle.tx_records.specs.declared.genesis.GenesisPool.{GenesisPool}
 use Rattle.tx_records.specs.declared.genesis.GenesisRule.{GenesisRule}
 use Rattle.genesis_balance.specs.Laws.{GenesisHoldsSupply, GenesisIsSound}
-use Rattle.run_model.specs.Genesis.{genesis_checks, genesis_fault, genesis_sum, pool_ids, drep_ids}
+use Rattle.run_model.specs.Genesis.{genesis_checks, genesis_fault, genesis_sum, pool_ids, drep_ids, committee_of_genesis}
 use Rattle.tx_records.specs.Limits.{genesis_members}
 use Rattle.tx_records.specs.declared.limits.TheConstants.{SUPPLY_LIMIT}
 use Rattle.maps.proofs.Fresh.{all-with_values, distinct_from_repeats}
@@ -45,6 +47,11 @@ empty_sorted cmp = tt
 
 pub from_none : {K X : Type 0} {cmp : K → K → Ordering} → IsTotalOrder cmp → (new : List (K × X)) → IsMap cmp (with_values cmp new [])
 from_none {cmp = cmp} o new = IsMap-with_values o new [] (empty_sorted cmp)
+
+-- the members of a committee of a genesis stand in order
+pub seated_first : (c : Option GenesisCommittee) → IsMap credential_cmp (members_of (option_map committee_of_genesis c))
+seated_first None = empty_sorted credential_cmp
+seated_first (Some c) = from_none credential_total (map (λ (m : Credential × ℕ × Option Credential). (m.0, m.1)) c.members)
 
 -- ids of a set that is made key after key
 abbrev made_set : List TxId → List TxId → List TxId

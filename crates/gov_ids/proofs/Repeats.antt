@@ -1,19 +1,12 @@
 -- Names that are seen one after another, and the first that stands twice.
-use Rattle.std.proofs.Common.{◌≡◌, ℕ, ◌+◌, ◌<◌, List, [], ◌∷◌, Bool, true, false, not, map, length, get_or, drop, refl, ap, sym, ◌∙◌, subst}
+use Rattle.std.proofs.Common.{◌≡◌, ℕ, ◌+◌, ◌<◌, List, [], ◌∷◌, Bool, true, false, not, map, length, get_or, drop, ap, sym, ◌∙◌, subst}
 use Rattle.std.specs.declared.cmp.Ordering.{Ordering}
 use Rattle.std.specs.Cmp.{IsTotalOrder}
 use Rattle.std.proofs.lemmas.List.{at_drop_more}
 use Rattle.maps.proofs.Fresh.{seen_or_repeats, seen_or_repeats-none, seen_or_repeats-seen, seen_or_repeats-more}
+use Rattle.maps.proofs.Joined.{no_from_not, yes_from_not}
 use Rattle.maps.specs.Maps.{has_member, with_key}
 use Rattle.maps.specs.Words.{repeats}
-
-there : (m b : Bool) → b ≡ not m → b ≡ false → m ≡ true
-there true b e f = refl
-there false b e f = cc
-
-not_there : (m b : Bool) → b ≡ not m → b ≡ true → m ≡ false
-not_there true b e f = cc
-not_there false b e f = refl
 
 -- the keys are put in by an order that is the stated one
 module _ {K A : Type 0} {cmp order : K → K → Ordering} (same : cmp ≡ order) (name : A → K) where
@@ -33,12 +26,12 @@ module _ {K A : Type 0} {cmp order : K → K → Ordering} (same : cmp ≡ order
 
     -- its name was seen
     pub seen_stop : is_new ≡ false → seen_or_repeats order seen (map name (drop i xs)) ≡ true
-    seen_stop old = left_from ∙ seen_or_repeats-seen order seen (name x) (map name (drop (i + 1) xs)) (there _ _ is_new-by old)
+    seen_stop old = left_from ∙ seen_or_repeats-seen order seen (name x) (map name (drop (i + 1) xs)) (yes_from_not _ _ is_new-by old)
 
     -- its name was not, and is one of those that were seen now
     pub seen_step : IsTotalOrder cmp → is_new ≡ true → (now : List K) → now ≡ with_key cmp k seen
         → seen_or_repeats order now (map name (drop (i + 1) xs)) ≡ seen_or_repeats order seen (map name (drop i xs))
     seen_step o first now put =
         ap (λ (ks : List K). seen_or_repeats order ks (map name (drop (i + 1) xs))) (put ∙ λ j. with_key (same j) (named j) seen)
-        ∙ sym (seen_or_repeats-more (subst (λ R. IsTotalOrder R) same o) seen (name x) (map name (drop (i + 1) xs)) (not_there _ _ is_new-by first))
+        ∙ sym (seen_or_repeats-more (subst (λ R. IsTotalOrder R) same o) seen (name x) (map name (drop (i + 1) xs)) (no_from_not _ _ is_new-by first))
         ∙ sym left_from

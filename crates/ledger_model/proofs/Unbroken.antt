@@ -1,5 +1,6 @@
 -- What it means that no check of several lists is broken.
-use Rattle.std.proofs.Common.{◌≡◌, ℕ, ◌+◌, List, ◌∷◌, ◌++◌, Bool, true, false, cond, Option, Some, None, is_none, find, refl, sym, ◌∙◌}
+use Rattle.std.proofs.Common.{◌≡◌, ℕ, ◌+◌, List, [], ◌∷◌, ◌++◌, Bool, true, false, ◌||◌, cond, Option, Some, None, is_none, find, refl, ap, sym, ◌∙◌}
+use Rattle.std.specs.List.{list_any}
 use Rattle.std.specs.Option.{option_map}
 use Rattle.maps.specs.Words.{or_else}
 use Rattle.tx_records.specs.declared.reply.Rule.{Rule}
@@ -31,7 +32,13 @@ by_head c cs false h = (refl, record { none = h })
 pub unbroken-cons : (c : Check) (cs : List Check) → IsUnbroken (c ∷ cs) → (c.broken ≡ false) × IsUnbroken cs
 unbroken-cons c cs h = by_head c cs c.broken h.none
 
-not_placed : (n : ℕ) (o : Option Rule) → option_map (placed n) o ≡ None → o ≡ None
+pub none_broken : (cs : List Check) → IsUnbroken cs → list_any (λ (k : Check). k.broken) cs ≡ false
+none_broken [] h = refl
+none_broken (c ∷ cs) h =
+    let both = unbroken-cons c cs h in
+    ap (λ b. b || list_any (λ (k : Check). k.broken) cs) both.0 ∙ none_broken cs both.1
+
+pub not_placed : (n : ℕ) (o : Option Rule) → option_map (placed n) o ≡ None → o ≡ None
 not_placed n None h = refl
 not_placed n (Some r) h = cc
 

@@ -12,6 +12,7 @@ use Rattle.gov_ids.specs.Same.{same_action}
 use Rattle.gov_ids.proofs.Totals.{action_id_total}
 use Rattle.maps.specs.Maps.{IsSet, has_member, without_member}
 use Rattle.maps.specs.Words.{among}
+use Rattle.maps.proofs.Lists.{all_with}
 use Rattle.maps.proofs.Sets.{IsSet-without_member, has_member-without_member}
 use Rattle.maps.proofs.Ties.{tied}
 use Rattle.lineage.specs.Walks.{Reach, adopted, adopted_one, is_pending}
@@ -23,11 +24,6 @@ same_back a b = (eq_by_cmp_equiv action_id_total).symm a b
 has_same : (k id : ActionId) (ids : List ActionId) → same_action k id ≡ true → has_member action_id_cmp ids k ≡ has_member action_id_cmp ids id
 has_same k id [] same = refl
 has_same k id (x ∷ ids) same = ap (λ b. b || has_member action_id_cmp ids k) (sym (tied action_id_total k id x same) ∙ same_back x id) ∙ ap (λ b. same_action id x || b) (has_same k id ids same)
-
--- what holds of each entry holds with one more
-all_with : {A : Type 0} (P : A → Type 0) (xs : List A) (x : A) → AllByRecursion P xs → P x → AllByRecursion P (xs ++ x ∷ [])
-all_with P [] x h p = (p, tt)
-all_with P (y ∷ xs) x h p = (h.0, all_with P xs x h.1 p)
 
 any_with : {A : Type 0} (p : A → Bool) (xs : List A) (x : A) → list_any p (xs ++ x ∷ []) ≡ (list_any p xs || p x)
 any_with p [] x = elim (p x) as (λ b. (b || false) ≡ b) [ true ↦ refl | false ↦ refl ]

@@ -1,8 +1,8 @@
 -- What the walk finds is what stays.
-use Rattle.std.proofs.Common.{◌≡◌, ℕ, ◌+◌, ◌<◌, Bool, true, false, not, ◌&&◌, cond, List, [], ◌∷◌, ◌++◌, Some, None, drop, filter, fold, get_or, length, inl, inr, refl, sym, ap, subst, ◌∙◌, append_assoc, Contains, arith}
+use Rattle.std.proofs.Common.{◌≡◌, ℕ, ◌+◌, Bool, true, false, not, ◌&&◌, cond, List, [], ◌∷◌, ◌++◌, Some, drop, filter, fold, inl, inr, refl, sym, ap, subst, ◌∙◌, append_assoc, Contains}
 use Rattle.std.specs.List.{slice_get}
 use Rattle.std.proofs.lemmas.List.{drop_more}
-use Rattle.std.proofs.lemmas.Option.{get_or_from_slice_get, slice_get-get_or, slice_get_within}
+use Rattle.std.proofs.lemmas.Option.{get_or_from_slice_get, slice_get_within}
 use Rattle.gov_actions.specs.declared.action.Proposal.{Proposal}
 use Rattle.gov_actions.specs.declared.action.Purpose.{Purpose}
 use Rattle.gov_actions.specs.declared.state.LastIds.{LastIds}
@@ -102,13 +102,6 @@ noted_more enacted expired last w start ps i a e h =
       | false ↦ refl
     ]
     ∙ ap (λ (l : List Proposal). fold (noted last) w (filter (is_left enacted expired) l)) (sym (drop_at ps i a e)) ∙ h
-
--- a place within the list has a proposal
-pub never_past : (ps : List Proposal) (i : ℕ) → i < length ps → slice_get ps i ≡ None → ⊥
-never_past [] i within none = omega arith
-never_past (x ∷ ps) i within none =
-    let some : slice_get (x ∷ ps) i ≡ Some (get_or (x ∷ ps) i x) = slice_get-get_or (x ∷ ps) i x within in
-    let never : None ≡ Some (get_or (x ∷ ps) i x) = sym none ∙ some in cc
 
 -- ---- the children of the last pending one
 

@@ -1,9 +1,8 @@
 -- A ledger after an allowed transaction: what its parts are, that they fit, and that it keeps what a ledger keeps.
-use Rattle.std.proofs.Common.{◌≡◌, ℕ, ◌+◌, ◌<◌, ◌≤◌, ◌^◌, Bool, true, false, not, ◌&&◌, List, ◌++◌, None, length, map, sum_by, refl, ap, sym, ◌∙◌, subst, arith}
+use Rattle.std.proofs.Common.{◌≡◌, ℕ, ◌+◌, ◌<◌, ◌≤◌, ◌^◌, true, false, List, ◌++◌, None, length, map, sum_by, refl, ap, sym, ◌∙◌, subst, arith}
 use Rattle.std.specs.List.{AllByRecursion}
 use Rattle.std.specs.Map.{keys_of}
 use Rattle.std.specs.Option.{option_to_list}
-use Rattle.std.proofs.lemmas.Bool.{and_parts, leb-true}
 use Rattle.book_records.specs.declared.Output.{Output}
 use Rattle.book_records.specs.Dormancy.{AllFit}
 use Rattle.book_records.specs.Outputs.{lovelace_in}
@@ -18,6 +17,7 @@ use Rattle.gov_ids.proofs.Exacts.{outref_exact}
 use Rattle.gov_model.specs.Proposals.{deposits_of}
 use Rattle.maps.proofs.Several.{sum_values-with_values, sum_values-without_keys}
 use Rattle.maps.specs.Maps.{IsMap, value_at, with_key, with_values, without_keys}
+use Rattle.tx_records.proofs.Parts.{tx_parts}
 use Rattle.tx_records.specs.TxLimits.{is_within_limits}
 use Rattle.tx_records.specs.declared.tx.ProposalRecord.{ProposalRecord}
 use Rattle.tx_records.specs.declared.tx.Scripts.{Scripts}
@@ -32,7 +32,6 @@ use Rattle.ledger_model.specs.Sound.{IsSound}
 use Rattle.ledger_model.specs.Supply.{supply_of}
 use Rattle.ledger_model.specs.Transaction.{after_failed, after_passed, after_scripts, kept_output, last_voting_epoch, ledger_after_tx, made_outputs, made_proposals, made_return, with_votes}
 use Rattle.ledger_model.specs.UtxoRules.{collateral_left, collateral_sum, has_scripts, is_failed, returned}
-use Rattle.tx_balance.specs.Laws.{HasOwnWithdrawals}
 use Rattle.tx_balance.proofs.Failed.{made, returned_sum}
 use Rattle.tx_balance.proofs.OutputParts.{IsPassed, collateral_once, collateral_split, id_is_new, parts_of}
 use Rattle.tx_balance.proofs.Outputs.{made_from, made_not_there, made_once, not_there_after, sum-made}
@@ -40,7 +39,7 @@ use Rattle.tx_balance.proofs.Sounds.{allowed_keeps_supply, allowed_stays_sound, 
 use Rattle.proposal_store.specs.Store.{AllOrdered}
 use Rattle.run_model.specs.Laws.{IsWithinDormantBound}
 use Rattle.stake_book.specs.Stakes.{balances_in, without_dreps}
-use Rattle.tx_records.specs.declared.limits.TheConstants.{OUTPUT_LIMIT, SUPPLY_LIMIT, TX_LIST_LIMIT}
+use Rattle.tx_records.specs.declared.limits.TheConstants.{SUPPLY_LIMIT}
 use Rattle.draft_changes.specs.Balances.{NoneRises}
 use Rattle.draft_changes.specs.Changed.{Changed, laid_over, with_registrations}
 use Rattle.proposal_store.specs.Leaving.{without_votes_of}
@@ -61,29 +60,6 @@ by_failed : (sc : Scripts) (l : Ledger) (tx : Tx) → is_failed sc ≡ true → 
 by_failed Absent l tx e = cc
 by_failed Passed l tx e = cc
 by_failed Failed l tx e = (refl, refl)
-
-not_true : (b : Bool) → not b ≡ true → b ≡ false
-not_true true h = cc
-not_true false h = refl
-
-left_of : (b c : Bool) → (b && c) ≡ true → b ≡ true
-left_of b c h = (and_parts b c h).0
-
--- no account twice
-own_withdrawals : (tx : Tx) → is_within_limits tx ≡ true → HasOwnWithdrawals tx
-own_withdrawals tx h = not_true _ (and_parts _ _ (left_of _ _ (left_of _ _ (left_of _ _ (left_of _ _ (left_of _ _ (left_of _ _ (left_of _ _ (left_of _ _ h))))))))).1
-
--- so many outputs at most
-pub few_outputs : (tx : Tx) → is_within_limits tx ≡ true → length tx.outputs ≤ OUTPUT_LIMIT
-few_outputs tx h =
-    let lists = left_of _ _ (left_of _ _ (left_of _ _ (left_of _ _ (left_of _ _ (left_of _ _ (left_of _ _ (left_of _ _ (left_of _ _ h)))))))) in
-    leb-true (length tx.outputs) OUTPUT_LIMIT (and_parts _ _ (left_of _ _ (left_of _ _ (left_of _ _ (left_of _ _ (left_of _ _ lists)))))).1
-
--- so many proposals at most
-pub few_proposals : (tx : Tx) → is_within_limits tx ≡ true → length tx.proposals ≤ TX_LIST_LIMIT
-few_proposals tx h =
-    let lists = left_of _ _ (left_of _ _ (left_of _ _ (left_of _ _ (left_of _ _ (left_of _ _ (left_of _ _ (left_of _ _ (left_of _ _ h)))))))) in
-    leb-true (length tx.proposals) TX_LIST_LIMIT (and_parts _ _ (left_of _ _ lists)).1
 
 -- the ledger after a transaction whose scripts did not fail, with these changes
 abbrev pub after_changes : Ledger → Tx → Changed → Ledger
@@ -125,7 +101,7 @@ module _ (l : Ledger) (tx : Tx) (k : IsKept l) (within : is_within_limits tx ≡
   -- the ledger after it keeps what a ledger keeps, if the transactions of its proposals are used and their votes are maps
   kept_after : (m : Ledger) → m ≡ ledger_after_tx l tx → m.state ≡ l.state → AreUsed m.used m.proposals → AllOrdered m.proposals → IsKept m
   kept_after m is state proposed voted =
-      let supply = allowed_keeps_supply l tx k.sound (own_withdrawals tx within) allowed in
+      let supply = allowed_keeps_supply l tx k.sound (tx_parts tx within).withdrawals allowed in
       let epoch : m.epoch ≡ l.epoch = ap (λ (x : Ledger). x.epoch) is ∙ ap (λ (x : Ledger). x.epoch) (sym (tx_steady l tx k.sound).only) in
       record {
         sound = subst (λ (x : Ledger). IsSound x) (sym is) (allowed_stays_sound l tx k.sound allowed);

@@ -1,28 +1,22 @@
 -- The ledger of a genesis that breaks no rule.
-use Rattle.std.proofs.Common.{◌≡◌, ℕ, ◌/◌, ◌<◌, List, [], Bool, true, ◌&&◌, Option, None, Some, map, option_map, arith}
-use Rattle.std.specs.List.Sorted.{IsStrictlySortedBy}
+use Rattle.std.proofs.Common.{◌≡◌, ℕ, ◌/◌, List, [], true, None, arith}
 use Rattle.std.proofs.Math.Nat.{div-le_self}
-use Rattle.std.proofs.lemmas.Bool.{and_parts, ltb-false, ltb-true}
+use Rattle.std.proofs.lemmas.Bool.{ltb-false}
 use Rattle.book_records.specs.declared.pool.Pool.{Pool}
 use Rattle.gov_ids.specs.declared.Credential.{Credential}
 use Rattle.gov_ids.specs.declared.PoolId.{PoolId}
-use Rattle.gov_ids.specs.Orders.{credential_cmp}
-use Rattle.gov_ids.proofs.Totals.{credential_total}
-use Rattle.gov_model.specs.Sides.{members_of}
-use Rattle.maps.proofs.Kept.{IsMap-with_values}
-use Rattle.maps.specs.Maps.{IsMap}
 use Rattle.gov_actions.specs.declared.action.Proposal.{Proposal}
 use Rattle.gov_actions.specs.declared.state.EnactState.{EnactState}
 use Rattle.gov_actions.specs.declared.state.HotState.{HotState}
+use Rattle.tx_records.proofs.Parts.{genesis_parts}
 use Rattle.tx_records.specs.declared.genesis.Genesis.{Genesis}
-use Rattle.tx_records.specs.declared.genesis.GenesisCommittee.{GenesisCommittee}
-use Rattle.run_model.specs.Genesis.{committee_of_genesis, genesis_fault, hot_of_genesis, ledger_of_genesis, state_of_genesis}
+use Rattle.run_model.specs.Genesis.{genesis_fault, hot_of_genesis, ledger_of_genesis, state_of_genesis}
 use Rattle.dormant_laws.proofs.Dormant.{genesis_timely}
 use Rattle.drep_book.specs.Dreps.{Dreps}
 use Rattle.stake_book.specs.Stakes.{Stakes, accounts_of}
-use Rattle.tx_records.specs.declared.limits.TheConstants.{SLOT_LIMIT, SUPPLY_LIMIT}
+use Rattle.tx_records.specs.declared.limits.TheConstants.{SUPPLY_LIMIT}
 use Rattle.tx_records.specs.GenesisLimits.{is_within_limits}
-use Rattle.genesis_balance.proofs.Start.{genesis_holds_supply, genesis_is_sound, unbroken_genesis}
+use Rattle.genesis_balance.proofs.Start.{genesis_holds_supply, genesis_is_sound, unbroken_genesis, seated_first}
 use Rattle.live_ledger.specs.Kept.{IsKept}
 
 -- the ledger with the parts that were made for it
@@ -44,22 +38,6 @@ pub made_ledger : (g : Genesis) (state : EnactState) (length : ℕ) (stake : Sta
 made_ledger g state length stake pools dreps hot proposals s n o u a p d awake h none =
     λ i. record (ledger_of_genesis g) { dormant = awake i; state = s i; epoch = g.slot / n i; outputs = o i; used = u i; accounts = a i; pools = p i; dreps = d i; hot = h i; proposals = none i }
 
-left_of : (b c : Bool) → (b && c) ≡ true → b ≡ true
-left_of b c h = (and_parts b c h).0
-
--- its slot is within the limit
-slot_early : (g : Genesis) → is_within_limits g ≡ true → g.slot < SLOT_LIMIT
-slot_early g h =
-    let numbers = left_of _ _ (left_of _ _ (left_of _ _ (left_of _ _ (left_of _ _ (left_of _ _ (left_of _ _ (left_of _ _ (left_of _ _ (left_of _ _ h))))))))) in
-    let first = left_of _ _ (left_of _ _ (left_of _ _ numbers)) in
-    ltb-true g.slot SLOT_LIMIT (and_parts _ _ first).1
-
--- its members stand in order
-seated_first : (c : Option GenesisCommittee) → IsMap credential_cmp (members_of (option_map committee_of_genesis c))
-unfolding IsStrictlySortedBy
-seated_first None = tt
-seated_first (Some c) = IsMap-with_values credential_total (map (λ m. (m.0, m.1)) c.members) [] tt
-
 -- it keeps what a ledger keeps
 pub genesis_kept : (g : Genesis) → is_within_limits g ≡ true → genesis_fault g ≡ None → IsKept (ledger_of_genesis g)
 genesis_kept g within none =
@@ -68,7 +46,7 @@ genesis_kept g within none =
       sound = genesis_is_sound g;
       balanced = genesis_holds_supply g none;
       within = ltb-false SUPPLY_LIMIT g.supply (unbroken_genesis g none).within;
-      early = omega (arith, slot_early g within, div-le_self g.slot g.epoch_length);
+      early = omega (arith, (genesis_parts g within).slot, div-le_self g.slot g.epoch_length);
       timely = timely.0;
       active = timely.1;
       proposed = tt;

@@ -1,7 +1,8 @@
 -- What a sink took of some bytes, and what is left of them.
-use Rattle.std.proofs.Common.{◌≡◌, ℕ, suc, ◌<◌, ◌+◌, List, [], ◌∷◌, ◌++◌, Option, Some, None, OnErr, Result, Ok, Err, length, take, drop, map, slice_index_or, refl, ap, subst, sym, ◌∙◌, append_assoc, arith}
+use Rattle.std.proofs.Common.{◌≡◌, ℕ, suc, ◌<◌, ◌+◌, List, [], ◌∷◌, ◌++◌, Option, OnErr, Result, Ok, Err, length, take, drop, map, slice_index_or, refl, ap, subst, sym, ◌∙◌, append_assoc, arith}
 use Rattle.std.proofs.lemmas.List.{at_drop_more, take-append-le}
 use Rattle.std.specs.Io.KnownBytes.{append_known}
+use Rattle.byte_lines.proofs.LawLemmas.{append_known-more}
 use Rattle.byte_lines.specs.declared.sink.SinkFault.{SinkFault}
 use Rattle.load_model.specs.Json.{joined}
 
@@ -10,11 +11,6 @@ pub record Wrote (had has : Option (List ℕ)) (rest all : List ℕ) : Type 0 wh
   pub bytes : List ℕ
   pub taken : has ≡ append_known had bytes
   pub whole : all ≡ bytes ++ rest
-
--- bytes and then others are all of them
-twice : (t : Option (List ℕ)) (xs ys : List ℕ) → append_known (append_known t xs) ys ≡ append_known t (xs ++ ys)
-twice None xs ys = refl
-twice (Some zs) xs ys = ap Some (append_assoc zs xs ys)
 
 -- all of the first bytes and some of the others are first bytes
 past : (xs ys : List ℕ) (k : ℕ) → (m : ℕ) × (take m (xs ++ ys) ≡ xs ++ take k ys)
@@ -25,7 +21,7 @@ past (x ∷ xs) ys k = let r = past xs ys k in (suc r.0, ap (λ (l : List ℕ). 
 wrote_more : {had has : Option (List ℕ)} {all : List ℕ} (has' : Option (List ℕ)) (line rest : List ℕ) → Wrote had has (line ++ rest) all → has' ≡ append_known has line → Wrote had has' rest all
 wrote_more {had} {has} {all} has' line rest w more = record {
   bytes = w.bytes ++ line;
-  taken = more ∙ ap (λ (t : Option (List ℕ)). append_known t line) w.taken ∙ twice had w.bytes line;
+  taken = more ∙ ap (λ (t : Option (List ℕ)). append_known t line) w.taken ∙ append_known-more had w.bytes line;
   whole = w.whole ∙ sym (append_assoc w.bytes line rest);
 }
 
@@ -37,7 +33,7 @@ wrote_part {had} {has} {all} has' line rest w (n, below, part) =
       p.0,
       part
           ∙ ap (λ (t : Option (List ℕ)). append_known t (take n line)) w.taken
-          ∙ twice had w.bytes (take n line)
+          ∙ append_known-more had w.bytes (take n line)
           ∙ ap (λ (l : List ℕ). append_known had (w.bytes ++ l)) (sym (take-append-le n line rest (omega (arith, below))))
           ∙ ap (λ (l : List ℕ). append_known had l) (sym p.1)
           ∙ ap (λ (l : List ℕ). append_known had (take p.0 l)) (sym w.whole),

@@ -5,8 +5,10 @@ use Rattle.std.specs.Ordering.{eq_by_cmp}
 use Rattle.std.specs.Cmp.{IsTotalOrder}
 use Rattle.std.specs.List.{list_any, AllByRecursion, IsDistinct}
 use Rattle.std.specs.Map.{keys_of, values_of}
+use Rattle.std.proofs.lemmas.Bool.{or_parts}
 use Rattle.std.proofs.lemmas.List.{at_drop_more}
 use Rattle.std.proofs.lemmas.List.Sums.{sum_by-cons}
+use Rattle.maps.proofs.Joined.{no_from_not, or_pairs, or_swap_assoc, yes_from_not}
 use Rattle.maps.proofs.Lookups.{value_at-with_value}
 use Rattle.maps.proofs.Sets.{all-with_key, has_member-with_key}
 use Rattle.maps.proofs.Kept.{keys_of-with_value}
@@ -22,36 +24,17 @@ none_holds p (x ∷ xs) h =
       | false ↦ λ e h. (e, none_holds p xs h)
     ] refl h
 
-false_left : (b c : Bool) → (b || c) ≡ false → b ≡ false
-false_left true c p = cc
-false_left false c p = refl
-
-false_right : (b c : Bool) → (b || c) ≡ false → c ≡ false
-false_right true c p = cc
-false_right false c p = p
-
 -- keys that do not repeat are distinct
 pub distinct_from_repeats : {K : Type 0} (cmp : K → K → Ordering) (ks : List K) → repeats cmp ks ≡ false → IsDistinct (eq_by_cmp cmp) ks
 unfolding IsDistinct
 distinct_from_repeats cmp [] h = tt
 distinct_from_repeats cmp (k ∷ ks) h =
-    (none_holds (eq_by_cmp cmp k) ks (false_left _ _ h), distinct_from_repeats cmp ks (false_right (list_any (eq_by_cmp cmp k) ks) _ h))
-
-either_or : (a b c d : Bool) → ((a || b) || (c || d)) ≡ ((a || c) || (b || d))
-either_or true b c d = refl
-either_or false true true d = refl
-either_or false true false d = refl
-either_or false false c d = refl
+    let parts = or_parts (list_any (eq_by_cmp cmp k) ks) (repeats cmp ks) h in
+    (none_holds (eq_by_cmp cmp k) ks parts.0, distinct_from_repeats cmp ks parts.1)
 
 any_either : {A : Type 0} (r p q : A → Bool) (xs : List A) → ((x : A) → r x ≡ (p x || q x)) → list_any r xs ≡ (list_any p xs || list_any q xs)
 any_either r p q [] h = refl
-any_either r p q (x ∷ xs) h = (λ i. h x i || any_either r p q xs h i) ∙ either_or (p x) (q x) (list_any p xs) (list_any q xs)
-
-seen_swap : (a b c : Bool) → (a || (b || c)) ≡ ((b || a) || c)
-seen_swap true true c = refl
-seen_swap true false c = refl
-seen_swap false true c = refl
-seen_swap false false c = refl
+any_either r p q (x ∷ xs) h = (λ i. h x i || any_either r p q xs h i) ∙ or_pairs (p x) (q x) (list_any p xs) (list_any q xs)
 
 -- one of the keys was seen, or they repeat
 abbrev pub seen_or_repeats : {K : Type 0} → (K → K → Ordering) → List K → List K → Bool
@@ -71,7 +54,7 @@ pub seen_or_repeats-more : {K : Type 0} {cmp : K → K → Ordering} → IsTotal
     → seen_or_repeats cmp seen (k ∷ ks) ≡ seen_or_repeats cmp (with_key cmp k seen) ks
 seen_or_repeats-more {K} {cmp} o seen k ks h =
     ap (λ b. (b || list_any (has_member cmp seen) ks) || repeats cmp (k ∷ ks)) h
-    ∙ seen_swap (list_any (has_member cmp seen) ks) (list_any (eq_by_cmp cmp k) ks) (repeats cmp ks)
+    ∙ or_swap_assoc (list_any (has_member cmp seen) ks) (list_any (eq_by_cmp cmp k) ks) (repeats cmp ks)
     ∙ ap (λ b. b || repeats cmp ks) (sym (any_either (has_member cmp (with_key cmp k seen)) (eq_by_cmp cmp k) (has_member cmp seen) ks (λ q. has_member-with_key o k seen q)))
 
 module _ {K X : Type 0} (cmp : K → K → Ordering) where
@@ -103,14 +86,6 @@ module _ {K X : Type 0} {cmp : K → K → Ordering} (o : IsTotalOrder cmp) wher
   unfolding IsDistinct
   fresh_from_absent [] es d m = tt
   fresh_from_absent (e ∷ new) es d m = (m.0, fresh_from_absent new (with_value cmp e.0 e.1 es) d.1 (absent_still e.0 e.1 es (keys_of new) d.0 m.1))
-
-yes_from_not : (m b : Bool) → b ≡ not m → b ≡ false → m ≡ true
-yes_from_not true b e f = refl
-yes_from_not false b e f = cc
-
-no_from_not : (m b : Bool) → b ≡ not m → b ≡ true → m ≡ false
-no_from_not true b e f = cc
-no_from_not false b e f = refl
 
 module _ {K X : Type 0} (cmp : K → K → Ordering) where
   -- at an entry whose key was seen

@@ -1,5 +1,5 @@
 -- A map stays in order whatever changes.
-use Rattle.std.proofs.Common.{◌≡◌, List, [], ◌∷◌, Bool, true, false, cond, filter, not, refl, ap, sym, subst}
+use Rattle.std.proofs.Common.{◌≡◌, List, [], ◌∷◌, Bool, true, false, cond, filter, map, not, refl, ap, sym, subst}
 use Rattle.std.specs.declared.cmp.Ordering.{Ordering}
 use Rattle.std.specs.declared.cmp.Ordering.TheVariants.{Less, Equal, Greater}
 use Rattle.std.specs.Ordering.{eq_by_cmp, match_ordering}
@@ -30,6 +30,11 @@ keys_of-without_key {K} {X} cmp k (e ∷ es) =
 pub keys_of-each_value : {K X : Type 0} (f : K → X → X) (es : List (K × X)) → keys_of (each_value f es) ≡ keys_of es
 keys_of-each_value f [] = refl
 keys_of-each_value {K} {X} f (e ∷ es) = ap (λ (l : List K). e.0 ∷ l) (keys_of-each_value f es)
+
+-- the keys of what a function makes of each of some
+pub keys_of-each : {K X : Type 0} (f : K → X) (ks : List K) → keys_of (map (λ k. (k, f k)) ks) ≡ ks
+keys_of-each f [] = refl
+keys_of-each {K} f (k ∷ ks) = ap (λ (l : List K). k ∷ l) (keys_of-each f ks)
 
 -- what holds of each key holds of each that stays
 pub all-filter : {K X : Type 0} (P : K → Type 0) (p : K × X → Bool) (es : List (K × X)) → AllByRecursion P (keys_of es) → AllByRecursion P (keys_of (filter p es))

@@ -13,6 +13,7 @@ use Rattle.std.proofs.lemmas.Map.{lookup-remove_entry}
 use Rattle.std.proofs.lemmas.Map.Entries.{option_filter, lookup-filter-keys}
 use Rattle.std.proofs.lemmas.Map.Keys.{IsDistinct-from_sorted}
 use Rattle.std.proofs.lemmas.Map.Steps.{list_any_congr}
+use Rattle.maps.proofs.Joined.{once, swapped}
 use Rattle.maps.proofs.Ties.{is_equal, same_key, tied, apart, all_tied}
 use Rattle.maps.specs.Maps.{IsMap, value_at, has_key, with_value, without_key, each_value, changed_where, changed_at, entries_where, without_keys, has_member}
 
@@ -29,18 +30,6 @@ without_key_absent {K} {X} cmp k (e ∷ es) m =
       | true ↦ λ m. cc
       | false ↦ λ m. ap (λ (l : List (K × X)). e ∷ l) (without_key_absent cmp k es m)
     ] m
-
--- one test beside another: the same, or never both
-once : {A : Type 0} (a b : Bool) (x y z : A) → b ≡ a → cond b x z ≡ cond a x (cond b y z)
-once true true x y z e = refl
-once true false x y z e = cc
-once false true x y z e = cc
-once false false x y z e = refl
-
-swapped : {A : Type 0} (a b : Bool) (x y z : A) → (a ≡ true → b ≡ false) → cond b y (cond a x z) ≡ cond a x (cond b y z)
-swapped true true x y z e = let never : true ≡ false = e refl in cc
-swapped true false x y z e = refl
-swapped false b x y z e = refl
 
 module _ {K X : Type 0} {cmp : K → K → Ordering} (o : IsTotalOrder cmp) where
   pub value_at-with_value : (k : K) (v : X) (es : List (K × X)) (q : K) → value_at cmp (with_value cmp k v es) q ≡ cond (eq_by_cmp cmp k q) (Some v) (value_at cmp es q)

@@ -1,22 +1,20 @@
 -- The next entry or key is the first of a range.
-use Rattle.std.proofs.Common.{◌≡◌, List, [], ◌∷◌, Bool, true, false, cond, ◌&&◌, Option, Some, None, filter, slice_get, refl, ap, sym, ◌∙◌}
+use Rattle.std.proofs.Common.{◌≡◌, List, [], ◌∷◌, Bool, true, false, cond, Option, Some, None, filter, slice_get, refl, ap, sym, ◌∙◌}
 use Rattle.std.specs.declared.cmp.Ordering.{Ordering}
 use Rattle.std.specs.declared.ops.Bound.{Bound}
 use Rattle.std.specs.declared.ops.Bound.TheVariants.{Unbounded}
 use Rattle.std.specs.BTreeMap.Range.{range_contains, entries_between}
 use Rattle.std.specs.List.{find}
+use Rattle.maps.proofs.Joined.{and_true}
 use Rattle.maps.specs.Maps.{comes_past, start_past, entry_after, key_after}
 
 find-filter : {A : Type 0} (p : A → Bool) (xs : List A) → find p xs ≡ slice_get (filter p xs) 0
 find-filter p [] = refl
 find-filter p (x ∷ xs) = elim (p x) as (λ b. cond b (Some x) (find p xs) ≡ slice_get (cond b (x ∷ filter p xs) (filter p xs)) 0) [ true ↦ refl | false ↦ find-filter p xs ]
 
-and_true : (b : Bool) → (b && true) ≡ b
-and_true true = refl
-and_true false = refl
-
 module _ {K : Type 0} (cmp : K → K → Ordering) where
-  in_range : (after : Option K) (q : K) → range_contains cmp (start_past after) Unbounded q ≡ comes_past cmp after q
+  -- what comes past a key is what a range without an end has
+  pub in_range : (after : Option K) (q : K) → range_contains cmp (start_past after) Unbounded q ≡ comes_past cmp after q
   in_range None q = refl
   in_range (Some k) q = and_true _
 

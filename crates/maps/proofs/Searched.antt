@@ -1,8 +1,8 @@
 -- Lists whose keys stand in order, and what a search by halves tells of a key among the entries of a map.
 use Rattle.std.proofs.Common.{◌≡◌, ℕ, zero, suc, ◌+◌, ◌<◌, ◌≤◌, ◌||◌, List, [], ◌∷◌, length, get_or, Bool, true, false, IsTrue, ◌↔◌, Result, Ok, Err, refl, ap, sym, ◌∙◌, arith}
 use Rattle.std.specs.declared.cmp.Ordering.{Ordering}
-use Rattle.std.specs.declared.cmp.Ordering.TheVariants.{Less, Equal, Greater}
-use Rattle.std.specs.Ordering.{eq_by_cmp, is_eq, is_lt, ordering_reverse}
+use Rattle.std.specs.declared.cmp.Ordering.TheVariants.{Less, Greater}
+use Rattle.std.specs.Ordering.{eq_by_cmp, is_eq, is_lt}
 use Rattle.std.specs.Cmp.{IsTotalOrder}
 use Rattle.std.specs.List.{IsAllAdjacentAnswer, list_any}
 use Rattle.std.specs.List.Sorted.{IsStrictlySortedBy, IsSearchInRange, IsBinarySearchResult, IsSortedBy}
@@ -13,12 +13,8 @@ use Rattle.std.proofs.lemmas.List.Folds.{list_any_at}
 use Rattle.std.proofs.lemmas.List.Sorted.{searchable_from_sorted}
 use Rattle.std.proofs.lemmas.Map.Entries.{length-keys_of}
 use Rattle.std.proofs.lemmas.Map.Keys.{Less-from_sorted, sorted_from_all_adjacent}
+use Rattle.maps.proofs.Ties.{is_less, turned}
 use Rattle.maps.specs.Maps.{IsMap}
-
-less_from : (r : Ordering) → true ≡ is_lt r → r ≡ Less
-less_from Less e = refl
-less_from Equal e = cc
-less_from Greater e = cc
 
 module _ {K X : Type 0} {cmp : K → K → Ordering} (o : IsTotalOrder cmp) where
   -- the key at a place
@@ -42,12 +38,12 @@ module _ {K X : Type 0} {cmp : K → K → Ordering} (o : IsTotalOrder cmp) wher
 
   -- a walk from each to the next tells whether they are
   pub told : (es : List (K × X)) (r : Bool) → IsAllAdjacentAnswer (λ (x y : K × X) b. b ≡ is_lt (cmp x.0 y.0)) es r → IsTrue r ↔ IsMap cmp es
-  told es true h = (λ t. is_map es (λ j d lt. less_from _ (h j d lt)), λ m. refl)
+  told es true h = (λ t. is_map es (λ j d lt. is_less _ (sym (h j d lt))), λ m. refl)
   told [] false h = absurd (omega (arith, h.1))
   told (e ∷ es) false h = (λ t. cc, λ m. let less = rises (e ∷ es) h.0 e m h.1 in cc (less, h.2 e))
 
   pub sorted : (es : List (K × X)) → IsMap cmp es → IsSortedBy (λ (a b : K × X). is_lt (cmp a.0 b.0)) es
-  sorted es h j d low lt = ap is_lt (o.antisymm (get_or es (j + 1) d).0 (get_or es j d).0 ∙ ap ordering_reverse (rises es j d h lt))
+  sorted es h j d low lt = ap is_lt (turned o (get_or es j d).0 (get_or es (j + 1) d).0 Less (rises es j d h lt))
 
   -- a key is among them
   abbrev pub has : K → List (K × X) → Bool

@@ -1,5 +1,5 @@
 -- What the values of a map add up to after a change.
-use Rattle.std.proofs.Common.{◌≡◌, ℕ, ◌+◌, List, [], ◌∷◌, true, false, cond, Option, Some, None, refl, ap, sym, ◌∙◌, arith}
+use Rattle.std.proofs.Common.{◌≡◌, ℕ, ◌+◌, List, [], ◌∷◌, true, false, cond, Option, Some, None, unwrap_or, refl, ap, sym, ◌∙◌, arith}
 use Rattle.std.specs.declared.cmp.Ordering.{Ordering}
 use Rattle.std.specs.declared.cmp.Ordering.TheVariants.{Less, Equal, Greater}
 use Rattle.std.specs.Ordering.{is_eq, eq_by_cmp, match_ordering}
@@ -9,18 +9,15 @@ use Rattle.std.specs.Map.{keys_of, values_of}
 use Rattle.std.proofs.lemmas.List.Sums.{sum_by-cons}
 use Rattle.std.proofs.lemmas.Map.Entries.{sum_by-insert_entry, sum_by-remove_entry}
 use Rattle.maps.proofs.Lookups.{none_below}
+use Rattle.maps.proofs.Placed.{changed_at_absent}
 use Rattle.maps.proofs.Ties.{is_equal, all_tied}
 use Rattle.maps.specs.Maps.{IsMap, value_at, with_value, without_key, changed_at, sum_values}
 use Rattle.maps.specs.Words.{amount}
 
--- nothing changes where the key has no value
-pub changed_at_absent : {K X : Type 0} (cmp : K → K → Ordering) (k : K) (g : X → X) (es : List (K × X)) → value_at cmp es k ≡ None → changed_at cmp k g es ≡ es
-changed_at_absent cmp k g [] m = refl
-changed_at_absent {K} {X} cmp k g (e ∷ es) m =
-    elim (eq_by_cmp cmp k e.0) as (λ b. cond b (Some e.1) (value_at cmp es k) ≡ None → (e.0, cond b (g e.1) e.1) ∷ changed_at cmp k g es ≡ e ∷ es) [
-      | true ↦ λ m. cc
-      | false ↦ λ m. ap (λ (l : List (K × X)). e ∷ l) (changed_at_absent cmp k g es m)
-    ] m
+-- a number that is there, or 0, as an amount
+pub as_amount : (o : Option ℕ) → unwrap_or o 0 ≡ amount (λ v. v) o
+as_amount None = refl
+as_amount (Some v) = refl
 
 module _ {K X : Type 0} (f : X → ℕ) (cmp : K → K → Ordering) where
   sum_values-cons : (e : K × X) (es : List (K × X)) → sum_values f (e ∷ es) ≡ f e.1 + sum_values f es

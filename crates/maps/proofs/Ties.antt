@@ -1,8 +1,8 @@
 -- Keys that tie, and keys below others.
-use Rattle.std.proofs.Common.{◌≡◌, List, [], ◌∷◌, true, false, refl, sym, ◌∙◌}
+use Rattle.std.proofs.Common.{◌≡◌, List, [], ◌∷◌, true, false, refl, ap, sym, ◌∙◌}
 use Rattle.std.specs.declared.cmp.Ordering.{Ordering}
 use Rattle.std.specs.declared.cmp.Ordering.TheVariants.{Less, Equal, Greater}
-use Rattle.std.specs.Ordering.{is_eq, eq_by_cmp}
+use Rattle.std.specs.Ordering.{is_eq, is_lt, eq_by_cmp, ordering_reverse}
 use Rattle.std.specs.Cmp.{IsTotalOrder}
 use Rattle.std.specs.FinMap.{IsAntisymmetric}
 use Rattle.std.specs.List.{AllByRecursion}
@@ -13,11 +13,20 @@ is_equal Less e = cc
 is_equal Equal e = refl
 is_equal Greater e = cc
 
+pub is_less : (r : Ordering) → is_lt r ≡ true → r ≡ Less
+is_less Less e = refl
+is_less Equal e = cc
+is_less Greater e = cc
+
 -- what ties with q is q
 pub same_key : {K : Type 0} {cmp : K → K → Ordering} → IsAntisymmetric cmp → (q k : K) → eq_by_cmp cmp q k ≡ true → q ≡ k
 same_key exact q k e = exact q k (is_equal _ e)
 
 module _ {K : Type 0} {cmp : K → K → Ordering} (o : IsTotalOrder cmp) where
+  -- the other way round
+  pub turned : (x y : K) (r : Ordering) → cmp x y ≡ r → cmp y x ≡ ordering_reverse r
+  turned x y r p = o.antisymm y x ∙ ap ordering_reverse p
+
   -- a key that ties with x is tied with by the same keys
   pub tied : (k x q : K) → eq_by_cmp cmp k x ≡ true → eq_by_cmp cmp q x ≡ eq_by_cmp cmp k q
   tied k x q e = (eq_by_cmp_equiv o).symm q x ∙ sym ((eq_by_cmp_equiv o).congr k x q e)

@@ -8,6 +8,7 @@ use Rattle.gov_ids.specs.declared.OutRef.{OutRef}
 use Rattle.gov_ids.specs.Orders.{outref_cmp}
 use Rattle.gov_ids.specs.Same.{same_outref}
 use Rattle.gov_ids.proofs.Totals.{outref_total}
+use Rattle.maps.proofs.Joined.{no_from_not, or_swap, yes_from_not}
 use Rattle.maps.proofs.Sets.{has_member-with_key}
 use Rattle.maps.specs.Maps.{has_member, with_key}
 use Rattle.maps.specs.Words.{among, fronts_from}
@@ -46,23 +47,9 @@ module _ (refs : List OutRef) (i : ℕ) (d : OutRef) (l : i < length refs) where
       ∙ sym (at_drop_more (first_repeated_after (take i refs)) refs i d l
       ∙ at_first true (take i refs) here (fronts_from (take i refs ++ here ∷ []) (drop (i + 1) refs)) e)
 
-or_swap : (a b c : Bool) → (a || (b || c)) ≡ (b || (a || c))
-or_swap true true c = refl
-or_swap true false c = refl
-or_swap false true c = refl
-or_swap false false c = refl
-
 any_last : (p : OutRef → Bool) (front : List OutRef) (x : OutRef) → list_any p (front ++ x ∷ []) ≡ (p x || list_any p front)
 any_last p [] x = refl
 any_last p (y ∷ front) x = ap (λ (b : Bool). p y || b) (any_last p front x) ∙ or_swap (p y) (p x) (list_any p front)
-
-yes_from_not : (m b : Bool) → b ≡ not m → b ≡ false → m ≡ true
-yes_from_not true b e f = refl
-yes_from_not false b e f = cc
-
-no_from_not : (m b : Bool) → b ≡ not m → b ≡ true → m ≡ false
-no_from_not true b e f = cc
-no_from_not false b e f = refl
 
 -- a set has those that stand before
 abbrev pub HasFront : List OutRef → List OutRef → Type 0

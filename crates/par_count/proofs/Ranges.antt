@@ -14,6 +14,7 @@ use Rattle.gov_ids.specs.declared.Drep.{Drep}
 use Rattle.gov_ids.specs.Orders.{credential_cmp, drep_cmp}
 use Rattle.book_records.specs.declared.Entry.{Entry}
 use Rattle.gov_model.specs.Stake.{votes_by}
+use Rattle.maps.proofs.Joined.{summed, zero_either}
 use Rattle.maps.specs.Maps.{comes_past, has_key}
 use Rattle.drep_pulser.specs.Count.{Count, sum_for}
 use Rattle.drep_pulser.specs.Facts.{IsCountIn, weight_by}
@@ -127,14 +128,6 @@ behind_all workers c some =
     let last : (workers == workers) ≡ true = grind (arith, nat_tests) in
     λ i. not (if first i then true else if last i then false else is_lt (credential_cmp (last_below (first_byte workers workers)) c))
 
-summed : (b : Bool) (s t x y z : ℕ) → s ≡ cond b x 0 → t ≡ cond b y 0 → z ≡ x + y → s + t ≡ cond b z 0
-summed true s t x y z p q r = omega arith
-summed false s t x y z p q r = omega arith
-
-no_stake : (b : Bool) → ◌≡◌ {A = ℕ} 0 (cond b 0 0)
-no_stake true = refl
-no_stake false = refl
-
 module _ (es : List (Credential × Entry)) (c : Count) (parts : List (List ℕ)) (each : (w : ℕ) (p : List ℕ) → w < length parts → IsShareOf es c w (length parts) (slice_index_or parts w p)) where
   abbrev stake : List (Credential × Entry) → Drep → ℕ
   stake left d = sum_by (weight_by c.deposits) (filter (votes_by d) left)
@@ -150,7 +143,7 @@ module _ (es : List (Credential × Entry)) (c : Count) (parts : List (List ℕ))
   -- the parts of the first workers have the stakes among what stands before the next edge
   so_far : (w : ℕ) (d : Drep) → w ≤ length parts → sum_by (λ (p : List ℕ). sum_for (by_drep c.sums p) d) (take w parts) ≡ cond (has_key drep_cmp c.sums d) (stake (before w) d) 0
   so_far zero d le =
-      no_stake (has_key drep_cmp c.sums d) ∙ ap (λ (l : List (Credential × Entry)). cond (has_key drep_cmp c.sums d) (stake l d) 0) (sym (none_pass (entries_left c es)))
+      zero_either (has_key drep_cmp c.sums d) ∙ ap (λ (l : List (Credential × Entry)). cond (has_key drep_cmp c.sums d) (stake l d) 0) (sym (none_pass (entries_left c es)))
   so_far (suc w) d le =
       let lt : w < length parts = omega arith in
       let left = entries_left c es in

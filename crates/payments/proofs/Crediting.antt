@@ -8,7 +8,8 @@ use Rattle.gov_ids.proofs.Totals.{credential_total}
 use Rattle.book_records.specs.declared.Registered.{Registered}
 use Rattle.maps.proofs.Credits.{sum-parted}
 use Rattle.maps.proofs.Lookups.{value_at-changed_at}
-use Rattle.maps.proofs.Sums.{changed_at_absent, sum_values-changed_at}
+use Rattle.maps.proofs.Placed.{changed_at_absent}
+use Rattle.maps.proofs.Sums.{sum_values-changed_at}
 use Rattle.maps.specs.Maps.{IsMap, value_at, has_key}
 use Rattle.stake_book.specs.Paid.{rewarded, with_payment}
 use Rattle.book_records.specs.Outputs.{lovelace_in}

@@ -10,6 +10,7 @@ use Rattle.gov_ids.specs.declared.Credential.{Credential}
 use Rattle.gov_ids.specs.Orders.{credential_cmp}
 use Rattle.gov_ids.proofs.Totals.{credential_total}
 use Rattle.ledger_model.specs.CertRules.{adds_member}
+use Rattle.maps.proofs.Joined.{or_assoc}
 use Rattle.maps.proofs.Placed.{value_at_tied}
 use Rattle.maps.specs.Maps.{has_key, value_at}
 use Rattle.proposal_store.specs.Added.{is_marked, is_new_member, is_proposed, HavePlaces, SameMarks}
@@ -66,10 +67,6 @@ keeps_places cold mark old new at c h = has_place cold mark old new at c ∙ or_
 or_none : (a : Bool) → (a || false) ≡ a
 or_none true = refl
 or_none false = refl
-
-or_assoc : (a b c : Bool) → (a || (b || c)) ≡ ((a || b) || c)
-or_assoc true b c = refl
-or_assoc false b c = refl
 
 or_later : (a b c d : Bool) → a ≡ d → ((a || b) || c) ≡ (b || (d || c))
 or_later true true c true e = refl

@@ -1,6 +1,6 @@
 -- The proposals of a store, by the entries of its map.
 use Rattle.std.proofs.Common.{◌≡◌, ℕ, ◌+◌, ◌||◌, cond, List, [], ◌∷◌, ◌++◌, filter, Some, refl, ap, sym, subst, ◌∙◌, arith}
-use Rattle.std.specs.List.{AllByRecursion, IsDistinct}
+use Rattle.std.specs.List.{IsDistinct}
 use Rattle.std.specs.Map.{keys_of, values_of, lookup}
 use Rattle.std.proofs.lemmas.List.{map-append}
 use Rattle.std.proofs.lemmas.List.Elements.{filter-append}
@@ -18,6 +18,7 @@ use Rattle.gov_actions.specs.declared.action.Purpose.{Purpose}
 use Rattle.gov_model.specs.Ratified.{ids_of}
 use Rattle.gov_model.specs.Proposals.{proposal_of, is_child, children_of, deposits_of}
 use Rattle.ledger_model.specs.CertRules.{adds_member}
+use Rattle.maps.proofs.Lists.{all_with}
 use Rattle.maps.specs.Maps.{IsMap}
 use Rattle.proposal_store.specs.declared.families.Parent.{Parent}
 use Rattle.proposal_store.specs.Added.{is_marked, is_proposed, SameMarks}
@@ -41,11 +42,6 @@ keys_are_ids (e ∷ es) h = λ i. h.0 i ∷ keys_are_ids es h.1 i
 -- so the ids are distinct where the keys are
 pub ids_distinct : (es : List (ActionId × Proposal)) → AllKeyed es → IsDistinct action_eq.eq-value.it (keys_of es) → IsDistinct same_action (ids_of (values_of es))
 ids_distinct es h d = subst (λ (ids : List ActionId). IsDistinct same_action ids) (keys_are_ids es h) (subst (λ eq. IsDistinct eq (keys_of es)) action_same d)
-
--- what holds of each holds with one more
-pub all_with : {A : Type 0} (P : A → Type 0) (xs : List A) (x : A) → AllByRecursion P xs → P x → AllByRecursion P (xs ++ x ∷ [])
-all_with P [] x h p = (p, tt)
-all_with P (y ∷ xs) x h p = (h.0, all_with P xs x h.1 p)
 
 -- the values with one more
 pub values_with : (es : List (ActionId × Proposal)) (id : ActionId) (p : Proposal) → values_of (es ++ (id, p) ∷ []) ≡ values_of es ++ p ∷ []

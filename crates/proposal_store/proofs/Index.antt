@@ -1,5 +1,5 @@
 -- What the index of children has after a proposal came.
-use Rattle.std.proofs.Common.{◌≡◌, true, false, cond, ◌&&◌, List, [], ◌∷◌, ◌++◌, Option, Some, Result, Ok, Err, OnErr, unwrap_or, if◌then◌else◌, append-nil, refl, ap, sym, ◌∙◌}
+use Rattle.std.proofs.Common.{◌≡◌, true, false, cond, ◌&&◌, List, [], ◌∷◌, ◌++◌, Option, Some, unwrap_or, if◌then◌else◌, append-nil, refl, ap, sym, ◌∙◌}
 use Rattle.std.specs.Ordering.{eq_by_cmp}
 use Rattle.gov_ids.specs.declared.ActionId.{ActionId}
 use Rattle.gov_ids.specs.Same.{same_action}
@@ -12,11 +12,6 @@ use Rattle.maps.specs.Words.{holds, same_option}
 use Rattle.proposal_store.specs.declared.families.Parent.{Parent}
 use Rattle.proposal_store.specs.Families.{parent_cmp}
 use Rattle.proposal_store.proofs.Parents.{parent_same}
-
--- what holds holds where there is an error
-pub on_err : {T E P : Type 0} (r : Result T E) → P → OnErr r P
-on_err (Ok x) p = tt
-on_err (Err e) p = p
 
 -- with one more where the look-up finds the parent
 pub one_more : (parent q : Parent) (id : ActionId) (ids : List ActionId) (was : Option (List ActionId)) → (eq_by_cmp parent_cmp parent q ≡ true → unwrap_or was [] ≡ ids)

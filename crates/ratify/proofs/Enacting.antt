@@ -1,6 +1,7 @@
 -- One more action that is enacted, after some that do not delay.
-use Rattle.std.proofs.Common.{◌≡◌, ℕ, ◌-◌, List, [], ◌∷◌, ◌++◌, Bool, true, false, not, ◌&&◌, Option, Some, None, filter, filter_map, fold, map, sum_by, refl, ap, sym, ◌∙◌, arith}
+use Rattle.std.proofs.Common.{◌≡◌, ℕ, ◌-◌, List, [], ◌∷◌, ◌++◌, Bool, true, not, Option, Some, None, filter, filter_map, fold, map, sum_by, refl, ap, sym, ◌∙◌, arith}
 use Rattle.std.specs.List.{last_or}
+use Rattle.std.proofs.lemmas.Bool.{and_parts}
 use Rattle.std.proofs.lemmas.List.{map-append}
 use Rattle.std.proofs.lemmas.List.Elements.{filter-append, filter_map-append}
 use Rattle.std.proofs.lemmas.List.Sums.{fold-append, sum_by-append}
@@ -20,14 +21,6 @@ use Rattle.gov_model.specs.Enacted.{committee_after, document_after, script_afte
 use Rattle.gov_model.specs.Ready.{goes_on_after}
 use Rattle.gov_model.specs.Snapshot.{Snapshot}
 
-pub left_true : (b c : Bool) → (b && c) ≡ true → b ≡ true
-left_true true c h = refl
-left_true false c h = h
-
-pub right_true : (b c : Bool) → (b && c) ≡ true → c ≡ true
-right_true true c h = h
-right_true false c h = cc
-
 -- an action with its id
 abbrev with_id : Proposal → ActionId × Action
 with_id a = (a.id, a.action)
@@ -43,7 +36,7 @@ is_quiet (Some x) = not (is_delaying x)
 
 quiet_from : (o : Option Action) (es : List Proposal) → is_quiet o ≡ true → goes_on_after es ≡ true → is_quiet (last_or o (map (λ (b : ActionId × Action). b.1) (map with_id es))) ≡ true
 quiet_from o [] q h = q
-quiet_from o (e ∷ es) q h = quiet_from (Some e.action) es (left_true _ _ h) (right_true _ _ h)
+quiet_from o (e ∷ es) q h = let parts = and_parts _ _ h in quiet_from (Some e.action) es parts.0 parts.1
 
 -- what only actions that delay change
 record StandsStill (s : EnactState) (o : Option Action) : Type 0 where

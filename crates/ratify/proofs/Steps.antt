@@ -1,5 +1,6 @@
 -- A proposal that is looked at.
 use Rattle.std.proofs.Common.{◌≡◌, ℕ, ◌<◌, List, [], ◌∷◌, ◌++◌, Bool, true, false, not, ◌&&◌, cond, get_or, length, map, refl, ap, sym, ◌∙◌, append_assoc}
+use Rattle.std.proofs.lemmas.Bool.{and_parts}
 use Rattle.std.proofs.lemmas.List.{get_or-map, map-append}
 use Rattle.std.proofs.lemmas.List.Folds.{list_all-append}
 use Rattle.maps.specs.Words.{with_fronts}
@@ -8,6 +9,7 @@ use Rattle.gov_actions.specs.declared.tally.Need.{Need}
 use Rattle.gov_actions.specs.declared.tally.Verdict.{Verdict}
 use Rattle.gov_actions.specs.declared.tally.Role.TheVariants as role
 use Rattle.gov_actions.specs.Kinds.{is_delaying}
+use Rattle.gov_model.proofs.Delaying.{ready_goes_on}
 use Rattle.gov_model.specs.Enacted.{enacted_after}
 use Rattle.gov_model.specs.Need.{need_of}
 use Rattle.gov_model.specs.Ratified.{ids_of, roles}
@@ -21,7 +23,7 @@ use Rattle.tally.specs.Cells.{cell_of}
 use Rattle.ratify.specs.declared.pass.Pass.{Pass}
 use Rattle.ratify.specs.Passes.{LooksAt, LooksAtOne, are_met, can_be_enacted, chosen_of, counts_in, is_next, pass_after, state_after, tally_after, tally_by, verdict_by, with_enacted, with_tally}
 use Rattle.ratify.proofs.Fronts.{chosen-push, fronts-push}
-use Rattle.ratify.proofs.Enacting.{enacted-none, enacted-push, left_true, right_true}
+use Rattle.ratify.proofs.Enacting.{enacted-none, enacted-push}
 
 grouped : (g l t c x y z : Bool) → (g && (l && t && c) && (x && (y && (z && true)))) ≡ (g && l && t && c && x && y && z)
 grouped false l t c x y z = refl
@@ -45,7 +47,7 @@ ready_is s front a =
 
 -- what is ready is covered
 pub ready_covered : (g l t c m : Bool) → (g && (l && t && c) && m) ≡ true → c ≡ true
-ready_covered g l t c m h = right_true (l && t) c (right_true g _ (left_true _ m h))
+ready_covered g l t c m h = (and_parts (l && t) c (and_parts g _ (and_parts _ m h).0).1).1
 
 told : (s : Snapshot) (front : List Proposal) (a : Proposal) → map (tally_after s) (with_fronts front) ++ tally_after s (front, a) ∷ [] ≡ map (tally_after s) (with_fronts (front ++ a ∷ []))
 told s front a =
@@ -63,10 +65,6 @@ passed_over s front a h =
       state = enacted_after s (chosen i);
       tallies = told s front a i;
     }
-
--- the first of the conditions
-ready_goes_on : (s : Snapshot) (es : List Proposal) (a : Proposal) → is_ready s es a ≡ true → goes_on_after es ≡ true
-ready_goes_on s es a h = left_true _ _ (left_true _ _ (left_true _ _ (left_true _ _ (left_true _ _ (left_true _ _ h)))))
 
 alone : (b : Bool) → b ≡ (true && (b && true))
 alone true = refl

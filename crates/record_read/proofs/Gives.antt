@@ -11,7 +11,7 @@ use Rattle.std.specs.Cmp.{IsTotalOrder}
 use Rattle.std.specs.List.{list_all, list_any}
 use Rattle.std.specs.Ordering.{eq_by_cmp}
 use Rattle.std.specs.declared.cmp.Ordering.{Ordering}
-use Rattle.std.proofs.lemmas.Bool.{le-leb}
+use Rattle.std.proofs.lemmas.Bool.{le-leb, or_parts}
 use Rattle.std.proofs.lemmas.Bool.Decides.{nat_tests}
 use Rattle.std.proofs.lemmas.Cmp.{eq_by_cmp_equiv}
 use Rattle.std.proofs.lemmas.List.{map-append}
@@ -133,14 +133,6 @@ list_in-within {p = p} h limit d = of_items h (λ before x. is_full limit before
 
 -- ---- names
 
-no_left : (a b : Bool) → (a || b) ≡ false → a ≡ false
-no_left true b h = cc
-no_left false b h = refl
-
-no_right : (a b : Bool) → (a || b) ≡ false → b ≡ false
-no_right true b h = cc
-no_right false b h = h
-
 neither : {a b : Bool} → a ≡ false → b ≡ false → (a || b) ≡ false
 neither p q = λ i. p i || q i
 
@@ -148,10 +140,10 @@ neither p q = λ i. p i || q i
 repeats-push : {K : Type 0} {cmp : K → K → Ordering} → IsTotalOrder cmp → (ks : List K) (k : K) → repeats cmp ks ≡ false → has_member cmp ks k ≡ false → repeats cmp (ks ++ k ∷ []) ≡ false
 repeats-push o [] k h new = refl
 repeats-push {K} {cmp} o (q ∷ qs) k h new =
-    let apart : eq_by_cmp cmp q k ≡ false = (eq_by_cmp_equiv o).symm q k ∙ no_left _ _ new in
+    let apart : eq_by_cmp cmp q k ≡ false = (eq_by_cmp_equiv o).symm q k ∙ (or_parts _ _ new).0 in
     neither
-    (list_any-append (eq_by_cmp cmp q) qs (k ∷ []) ∙ neither (no_left _ _ h) (neither apart refl))
-    (repeats-push o qs k (no_right (list_any (eq_by_cmp cmp q) qs) _ h) (no_right (eq_by_cmp cmp k q) _ new))
+    (list_any-append (eq_by_cmp cmp q) qs (k ∷ []) ∙ neither (or_parts _ _ h).0 (neither apart refl))
+    (repeats-push o qs k (or_parts (list_any (eq_by_cmp cmp q) qs) _ h).1 (or_parts (eq_by_cmp cmp k q) _ new).1)
 
 -- such a list, in which no name stands twice
 pub record IsDistinctListOf {A K : Type 0} (cmp : K → K → Ordering) (name : A → K) (limit : ℕ) (p : A → Bool) (xs : List A) : Type 0 where
@@ -165,8 +157,8 @@ none_twice limit = record { few = le-leb 0 limit (omega arith); each = refl; onc
 one_more_name : {A K : Type 0} {cmp : K → K → Ordering} {name : A → K} {limit : ℕ} {p : A → Bool} → IsTotalOrder cmp → (xs : List A) (x : A) → IsDistinctListOf cmp name limit p xs → p x ≡ true
     → is_known_or_full cmp name limit xs x ≡ false → IsDistinctListOf cmp name limit p (xs ++ x ∷ [])
 one_more_name {cmp = cmp} {name = name} {limit = limit} {p = p} o xs x l q r =
-    let more : IsListOf limit p (xs ++ x ∷ []) = one_more xs x (record { few = l.few; each = l.each }) q (no_right (has_member cmp (map name xs) (name x)) _ r) in
-    record { few = more.few; each = more.each; once = ap (repeats cmp) (map-append name xs (x ∷ [])) ∙ repeats-push o (map name xs) (name x) l.once (no_left _ _ r) }
+    let more : IsListOf limit p (xs ++ x ∷ []) = one_more xs x (record { few = l.few; each = l.each }) q (or_parts (has_member cmp (map name xs) (name x)) _ r).1 in
+    record { few = more.few; each = more.each; once = ap (repeats cmp) (map-append name xs (x ∷ [])) ∙ repeats-push o (map name xs) (name x) l.once (or_parts _ _ r).0 }
 
 pub distinct_list_in-within : {A K : Type 0} {cmp : K → K → Ordering} {p : A → Bool} {reading : Data → Result A FieldFault} → Within (λ x. p x ≡ true) reading → IsTotalOrder cmp → (name : A → K) (limit : ℕ)
     → Within (IsDistinctListOf cmp name limit p) (distinct_list_in cmp name limit reading)

@@ -1,29 +1,20 @@
 -- Entries with names of their own, put in order: they are no more, their values are the same, and no name stands twice.
-use Rattle.std.proofs.Common.{◌≡◌, ℕ, suc, ◌+◌, ◌≤◌, Bool, true, false, not, ◌&&◌, ◌||◌, List, [], ◌∷◌, length, refl, ap, ◌∙◌, arith}
+use Rattle.std.proofs.Common.{◌≡◌, ℕ, suc, ◌+◌, ◌≤◌, Bool, true, not, ◌&&◌, List, [], ◌∷◌, length, refl, ap, arith}
 use Rattle.std.specs.Prelude.{nat_le}
 use Rattle.std.specs.declared.cmp.Ordering.{Ordering}
 use Rattle.std.specs.declared.cmp.Ordering.TheVariants.{Less, Equal, Greater}
 use Rattle.std.specs.Cmp.{IsTotalOrder}
-use Rattle.std.specs.List.{AllByRecursion, list_all, list_any}
+use Rattle.std.specs.List.{list_all}
 use Rattle.std.specs.List.Sorted.{IsStrictlySortedBy}
 use Rattle.std.specs.Map.{keys_of}
-use Rattle.std.specs.Ordering.{eq_by_cmp, is_eq, match_ordering}
+use Rattle.std.specs.Ordering.{match_ordering}
 use Rattle.std.proofs.lemmas.Bool.{and_parts}
 use Rattle.std.proofs.lemmas.Bool.Decides.{nat_tests}
 use Rattle.maps.proofs.Kept.{IsMap-with_values}
+use Rattle.maps.proofs.Ordered.{no_repeats}
 use Rattle.maps.specs.Maps.{with_value, with_values}
 use Rattle.maps.specs.Words.{repeats}
 use Rattle.record_read.proofs.Gives.{IsDistinctListOf, both}
-
-module _ {K : Type 0} (cmp : K → K → Ordering) where
-  none_later : (k : K) (ks : List K) → AllByRecursion (λ q. cmp k q ≡ Less) ks → list_any (eq_by_cmp cmp k) ks ≡ false
-  none_later k [] h = refl
-  none_later k (q ∷ qs) h = ap (λ (o : Ordering). is_eq o || list_any (eq_by_cmp cmp k) qs) h.0 ∙ none_later k qs h.1
-
-  no_repeats : (ks : List K) → IsStrictlySortedBy cmp ks → repeats cmp ks ≡ false
-  unfolding IsStrictlySortedBy
-  no_repeats [] h = refl
-  no_repeats (k ∷ ks) h = ap (λ b. b || repeats cmp ks) (none_later k ks h.0) ∙ no_repeats ks h.1
 
 module _ {K X : Type 0} (cmp : K → K → Ordering) where
   one_longer : (k : K) (v : X) (es : List (K × X)) → length (with_value cmp k v es) ≤ suc (length es)

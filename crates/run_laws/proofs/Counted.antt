@@ -4,11 +4,12 @@ use Rattle.std.specs.List.{AllByRecursion, list_all}
 use Rattle.std.specs.List.{cons_option}
 use Rattle.std.proofs.Math.Nat.{div-mul-le_self, min-eq_left, min-eq_right}
 use Rattle.std.proofs.lemmas.Nat.{le-div}
-use Rattle.std.proofs.lemmas.Bool.{eqb-true, eq-eqb, ltb-false, ltb-true, leb-true, leb-false}
+use Rattle.std.proofs.lemmas.Bool.{eqb-true, eq-eqb, ltb-false, leb-true, leb-false}
 use Rattle.std.proofs.lemmas.List.{append-nil}
 use Rattle.std.proofs.lemmas.List.Elements.{filter_map-append}
 use Rattle.std.proofs.lemmas.List.Sums.{sum_by-append, sum_by-cons}
 use Rattle.gov_model.specs.Snapshot.{Snapshot, entry_count}
+use Rattle.tx_records.proofs.Parts.{genesis_parts}
 use Rattle.tx_records.specs.declared.genesis.Genesis.{Genesis}
 use Rattle.tx_records.specs.declared.record.Record.{Record}
 use Rattle.tx_records.specs.declared.record.Record.TheVariants as records
@@ -29,7 +30,7 @@ use Rattle.run_laws.proofs.Good.{IsGood}
 use Rattle.dormant_laws.proofs.Lists.{left_of, right_of, all_weaken, all_append}
 use Rattle.tx_balance.proofs.Sounds.{tx_steady}
 use Rattle.run_laws.proofs.GoodBlock.{boundary_epoch, boundary_length}
-use Rattle.run_laws.proofs.Reach.{record_good}
+use Rattle.run_laws.proofs.Reach.{accepted_good}
 use Rattle.run_laws.proofs.Start.{genesis_good}
 
 abbrev sum_of : List ℕ → ℕ
@@ -50,7 +51,7 @@ record IsCounting (rs : List Record) (v : World) : Type 0 where
   clock : v.ledger.epoch ≡ v.ledger.slot / v.ledger.epoch_length
   long : 0 < v.ledger.epoch_length
 
-same_pulse : (v w : World) (r : Record) → v.ledger.epoch ≡ w.ledger.epoch → v.ledger.epoch_length ≡ w.ledger.epoch_length → pulse_in v r ≡ pulse_in w r
+pub same_pulse : (v w : World) (r : Record) → v.ledger.epoch ≡ w.ledger.epoch → v.ledger.epoch_length ≡ w.ledger.epoch_length → pulse_in v r ≡ pulse_in w r
 same_pulse v w (records.Genesis g) e l = refl
 same_pulse v w (records.Block slot pulse) e l = ap (λ (n : ℕ). cond (slot / n == v.ledger.epoch) (Some pulse) None) l ∙ ap (λ (n : ℕ). cond (slot / w.ledger.epoch_length == n) (Some pulse) None) e
 same_pulse v w (records.Rewards u) e l = refl
@@ -141,7 +142,7 @@ not_at_most a b h = leb-false a b h
 at_least : (n s p : ℕ) → n ≤ s → n ≤ s + p
 at_least n s p l = omega arith
 
-min_right : (n s : ℕ) → s < n → min n s ≡ s
+pub min_right : (n s : ℕ) → s < n → min n s ≡ s
 min_right n s l = let at_most : s ≤ n = omega (arith, l) in min-eq_right at_most
 
 min_zero : (n : ℕ) → 0 ≡ min n 0
@@ -156,10 +157,10 @@ min_add n s p = elim (nat_le n s) as (λ b. nat_le n s ≡ b → min n (min n s 
     l_self : n ≤ n
     l_self = omega arith
 
-later_epoch : (a b k : ℕ) → 0 < k → a ≤ b → a / k ≤ b / k
+pub later_epoch : (a b k : ℕ) → 0 < k → a ≤ b → a / k ≤ b / k
 later_epoch a b k h l = le-div (a / k) b k h (omega (arith, div-mul-le_self a k, l))
 
-not_equal : (n m : ℕ) → (n == m) ≡ false → n ≡ m → ⊥
+pub not_equal : (n m : ℕ) → (n == m) ≡ false → n ≡ m → ⊥
 not_equal n m h e = let yes : (n == m) ≡ true = eq-eqb n m e in let both : false ≡ true = sym h ∙ yes in cc
 
 block_by : (b : Bool) (rs : List Record) (v : World) (slot pulse : ℕ) → IsCounting rs v → enters_next v.ledger slot ≡ b → v.ledger.slot < slot → epoch_at v.ledger slot ≤ v.ledger.epoch + 1
@@ -212,21 +213,13 @@ next_by (Some rule) rs r more v e g c refused accepted = refused c
 next_by None rs r more v e g c refused accepted =
     subst (λ (list : List Record). IsCountedAt list (world_after_all (world_after_accepted v r) more)) (append_assoc rs (r ∷ []) (accepted_records (world_after_accepted v r) more)) (accepted e (accepted_counting rs v r g c e))
 
-good_after : (v : World) (r : Record) → IsGood v → is_within_limits r ≡ true → refusal_of v r ≡ None → IsGood (world_after_accepted v r)
-good_after v r g h e = subst (λ (o : Option Rule). IsGood (step_by o v r).0) e (record_good v r g h)
-
 count_along : (more rs : List Record) (v : World) → IsGood v → IsCounting rs v → list_all is_within_limits more ≡ true → IsCountedAt (rs ++ accepted_records v more) (world_after_all v more)
 count_along [] rs v g c h = subst (λ (list : List Record). IsCountedAt list v) (sym (append-nil rs)) c.counted
 count_along (r ∷ more) rs v g c h =
     let here : is_within_limits r ≡ true = left_of _ _ h in
     let rest : list_all is_within_limits more ≡ true = right_of _ _ h in
-    next_by (refusal_of v r) rs r more v refl g c (λ d. count_along more rs v g d rest) (λ e d. count_along more (rs ++ r ∷ []) (world_after_accepted v r) (good_after v r g here e) d rest)
-
--- the length of an epoch, as it is read
-long_epochs : (g : Genesis) → genesis_limits.is_within_limits g ≡ true → 0 < g.epoch_length
-long_epochs g h =
-    ltb-true 0 g.epoch_length (right_of _ _ (left_of _ _ (left_of _ _ (left_of _ _ (left_of _ _ (left_of _ _ (left_of _ _ (left_of _ _ (left_of _ _ (left_of _ _ (left_of _ _ (left_of _ _ (left_of _ _ h)))))))))))))
+    next_by (refusal_of v r) rs r more v refl g c (λ d. count_along more rs v g d rest) (λ e d. count_along more (rs ++ r ∷ []) (world_after_accepted v r) (accepted_good v r g here e) d rest)
 
 pub counted_is_the_pulses : CountedIsThePulses
 counted_is_the_pulses g h f rs r =
-    count_along rs [] (world_of_genesis g) (genesis_good g) (record { counted = min_zero (entry_count (world_of_genesis g).frozen); bounded = tt; clock = refl; long = long_epochs g h }) r
+    count_along rs [] (world_of_genesis g) (genesis_good g) (record { counted = min_zero (entry_count (world_of_genesis g).frozen); bounded = tt; clock = refl; long = (genesis_parts g h).long }) r

@@ -66,7 +66,7 @@ new_ids_used used id n [] = tt
 new_ids_used used id n (p ∷ ps) = (new_used used id, new_ids_used used id (n + 1) ps)
 
 -- the ids of all proposals after a transaction
-ids_append : (xs ys : List Proposal) → ids_of (xs ++ ys) ≡ ids_of xs ++ ids_of ys
+pub ids_append : (xs ys : List Proposal) → ids_of (xs ++ ys) ≡ ids_of xs ++ ids_of ys
 ids_append [] ys = refl
 ids_append (x ∷ xs) ys = ap (λ (list : List ActionId). x.id ∷ list) (ids_append xs ys)
 

@@ -62,7 +62,7 @@ not_zero : (b : Bool) (n : ℕ) → 0 < n → (n == 0) ≡ b → b ≡ false
 not_zero true n h e = absurd (omega (arith, h, eqb-true n 0 e))
 not_zero false n h e = refl
 
-zero_same : (p q : ℕ) → (p ≡ q) ⊎ ((0 < p) × (0 < q)) → (p == 0) ≡ (q == 0)
+pub zero_same : (p q : ℕ) → (p ≡ q) ⊎ ((0 < p) × (0 < q)) → (p == 0) ≡ (q == 0)
 zero_same p q (inl e) = ap (λ n. n == 0) e
 zero_same p q (inr both) = not_zero (p == 0) p both.0 refl ∙ sym (not_zero (q == 0) q both.1 refl)
 

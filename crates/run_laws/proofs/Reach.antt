@@ -1,9 +1,8 @@
 -- Every World that records reach is good, moves by its flows, and holds its supply.
-use Rattle.std.proofs.Common.{◌≡◌, ℕ, List, [], ◌∷◌, Bool, true, false, cond, Option, Some, None, is_none, map, refl, ap, subst, ◌∙◌}
+use Rattle.std.proofs.Common.{◌≡◌, ℕ, List, [], ◌∷◌, Bool, true, false, cond, Option, Some, None, is_none, refl, ap, subst, ◌∙◌}
 use Rattle.std.specs.List.{list_all}
-use Rattle.std.proofs.lemmas.Bool.{eqb-true, ltb-false, not-false, not-true}
-use Rattle.maps.specs.Words.{repeats}
-use Rattle.gov_ids.specs.Orders.{credential_cmp}
+use Rattle.std.proofs.lemmas.Bool.{eqb-true, ltb-false, not-false}
+use Rattle.tx_records.proofs.Parts.{own_rewards, tx_parts}
 use Rattle.tx_records.specs.declared.record.Record.{Record}
 use Rattle.tx_records.specs.declared.record.Record.TheVariants as records
 use Rattle.tx_records.specs.declared.record.Rewards.{Rewards}
@@ -14,7 +13,6 @@ use Rattle.ledger_model.specs.Moves.{IsMovedBy}
 use Rattle.ledger_model.specs.Supply.{pots_of, supply_of}
 use Rattle.ledger_model.proofs.Unbroken.{IsUnbroken, unbroken-cons}
 use Rattle.gov_model.proofs.OneList.{one_list_is_ratified}
-use Rattle.tx_balance.specs.Laws.{HasOwnWithdrawals}
 use Rattle.tx_balance.proofs.Sounds.{tx_moves}
 use Rattle.tx_balance.proofs.Supplies.{moves_keep_supply}
 use Rattle.run_model.specs.World.{World}
@@ -34,13 +32,6 @@ use Rattle.dormant_laws.proofs.Lists.{left_of, right_of}
 use Rattle.run_laws.proofs.GoodTx.{tx_good}
 use Rattle.run_laws.proofs.GoodBlock.{crossed_good, pulsed_good, rewards_good}
 use Rattle.run_laws.proofs.Start.{genesis_good}
-
--- what reading gives of withdrawals and rewards
-own_withdrawals : (tx : Tx) → tx_limits.is_within_limits tx ≡ true → HasOwnWithdrawals tx
-own_withdrawals tx h = not-true _ (right_of _ _ (left_of _ _ (left_of _ _ (left_of _ _ (left_of _ _ (left_of _ _ (left_of _ _ (left_of _ _ (left_of _ _ h)))))))))
-
-own_rewards : (u : Rewards) → rewards_limits.is_within_limits u ≡ true → repeats credential_cmp (map (λ r. r.0) u.rewards) ≡ false
-own_rewards u h = not-true _ (right_of _ _ (left_of _ _ (left_of _ _ (left_of _ _ (left_of _ _ h)))))
 
 -- what the rules say of an accepted update
 covered : (w : World) (u : Rewards) → refusal_of w (records.Rewards u) ≡ None → IsCoveredUpdate w.ledger u
@@ -65,7 +56,7 @@ pub accepted_moves : (w : World) (r : Record) → IsGood w → is_within_limits 
 accepted_moves w (records.Genesis x) g h e = cc
 accepted_moves w (records.Block slot pulse) g h e = block_by (enters_next w.ledger slot) w slot pulse g
 accepted_moves w (records.Rewards u) g h e = λ p. refl
-accepted_moves w (records.Tx tx) g h e = tx_moves w.ledger tx g.ledger.sound (own_withdrawals tx h) (allowed w tx e)
+accepted_moves w (records.Tx tx) g h e = tx_moves w.ledger tx g.ledger.sound (tx_parts tx h).withdrawals (allowed w tx e)
 accepted_moves w (records.Print what) g h e = λ p. refl
 
 moves_by : (o : Option Rule) (w : World) (r : Record) → IsGood w → is_within_limits r ≡ true → refusal_of w r ≡ o → IsMovedBy (flows_by o w r) (pots_of w.ledger) (pots_of (step_by o w r).0.ledger)

@@ -1,5 +1,5 @@
 -- A genesis gives a sound World, and each record keeps it sound.
-use Rattle.std.proofs.Common.{◌≡◌, ℕ, ◌+◌, ◌^◌, ◌<◌, ◌≤◌, List, [], ◌∷◌, Bool, true, false, ◌&&◌, cond, Option, Some, None, option_map, nat_lt, map, fold, take, length, unwrap_or, refl, ap, sym, subst, ◌∙◌, arith}
+use Rattle.std.proofs.Common.{◌≡◌, ℕ, ◌+◌, ◌^◌, ◌<◌, ◌≤◌, List, [], ◌∷◌, Bool, true, false, cond, Option, Some, None, map, fold, take, length, unwrap_or, refl, ap, sym, subst, ◌∙◌, arith}
 use Rattle.std.specs.List.{AllByRecursion, enumerate_from, last_or}
 use Rattle.std.proofs.Math.Nat.{div-le_self, min-le_left}
 use Rattle.std.proofs.lemmas.Bool.{eqb-true, ltb-false, ltb-true}
@@ -26,9 +26,9 @@ use Rattle.gov_model.specs.Proposals.{without_vote}
 use Rattle.gov_model.specs.Ratified.{ids_of}
 use Rattle.gov_model.specs.Sides.{members_of}
 use Rattle.gov_model.specs.Snapshot.{entry_count}
+use Rattle.tx_records.proofs.Parts.{GenesisParts, genesis_parts}
 use Rattle.tx_records.specs.declared.cert.Cert.{Cert}
 use Rattle.tx_records.specs.declared.cert.Cert.TheVariants.{AccountReg, AccountUnreg, Delegate, PoolReg, PoolRetire, DrepReg, DrepUnreg, DrepUpdate, HotAuth, HotResign}
-use Rattle.tx_records.specs.declared.genesis.GenesisCommittee.{GenesisCommittee}
 use Rattle.tx_records.specs.declared.limits.TheConstants.{SUPPLY_LIMIT}
 use Rattle.tx_records.specs.declared.record.Record.{Record}
 use Rattle.tx_records.specs.declared.record.Record.TheVariants as records
@@ -38,7 +38,6 @@ use Rattle.tx_records.specs.declared.tx.ProposalRecord.{ProposalRecord}
 use Rattle.tx_records.specs.declared.tx.Scripts.{Scripts}
 use Rattle.tx_records.specs.declared.tx.Scripts.TheVariants.{Absent, Passed, Failed}
 use Rattle.tx_records.specs.declared.tx.Tx.{Tx}
-use Rattle.tx_records.specs.Limits.{is_network, is_slot}
 use Rattle.tx_records.specs.RecordLimits.{is_within_limits}
 use Rattle.ledger_model.specs.Changes.{changed_by, dormant_added, refreshed, voters_refreshed, withdrawn}
 use Rattle.ledger_model.specs.Draft.{draft_with, is_refused, last_draft}
@@ -50,7 +49,7 @@ use Rattle.tx_balance.proofs.Supplies.{moves_keep_supply}
 use Rattle.run_model.specs.Boundary.{after_dormancy, after_rewards, enacted_proposals, frozen_anew, update_applied, world_after_boundary}
 use Rattle.run_model.specs.BoundaryFlows.{flows_of_accepted, flows_of_boundary, flows_of_update}
 use Rattle.run_model.specs.Freeze.{snapshot_of}
-use Rattle.run_model.specs.Genesis.{committee_of_genesis, first_marked, ledger_of_genesis, world_of_genesis}
+use Rattle.run_model.specs.Genesis.{first_marked, ledger_of_genesis, world_of_genesis}
 use Rattle.run_model.specs.Laws.{IsAsFrozen}
 use Rattle.run_model.specs.SoundLaws.{GenesisBeginsSound, RecordsKeepSound}
 use Rattle.run_model.specs.SoundWorld.{AreSoundStakes, IsSoundLedger, IsSoundSnapshot, IsSoundWorld, activity_set_by}
@@ -59,9 +58,9 @@ use Rattle.run_model.specs.World.{World, on_ledger}
 use Rattle.epoch_balance.proofs.Covered.{payments_are_covered}
 use Rattle.epoch_balance.proofs.StepMoves.{rewards_balance}
 use Rattle.epoch_balance.proofs.Whole.{boundary_balances}
-use Rattle.genesis_balance.proofs.Start.{IsUnbrokenGenesis, empty_sorted, from_none, genesis_holds_supply, unbroken_genesis}
+use Rattle.genesis_balance.proofs.Start.{IsUnbrokenGenesis, empty_sorted, genesis_holds_supply, unbroken_genesis, seated_first}
 use Rattle.dormant_laws.proofs.Dormant.{AreActive, IsActive, IsActiveLedger, IsActiveUpdate, IsBounded, accepted_bounded, bounded_ledger, boundary_within, genesis_bounded, law_of_bounded}
-use Rattle.dormant_laws.proofs.Lists.{all_append, all_made, all_passing, left_of, right_of}
+use Rattle.dormant_laws.proofs.Lists.{all_append, all_made, all_passing, left_of}
 use Rattle.run_laws.specs.Boundaries.{BoundariesKeepSound}
 use Rattle.run_laws.proofs.Good.{IsGood, IsGoodLedger}
 use Rattle.run_laws.proofs.GoodBlock.{boundary_epoch, boundary_good, pulsed_good, update_good, update_only}
@@ -102,7 +101,7 @@ ids_from : (P : ActionId → Type 0) (ps : List Proposal) → AllByRecursion (λ
 ids_from P [] h = tt
 ids_from P (p ∷ ps) h = (h.0, ids_from P ps h.1)
 
-from_ids : (P : ActionId → Type 0) (ps : List Proposal) → AllByRecursion P (ids_of ps) → AllByRecursion (λ (p : Proposal). P p.id) ps
+pub from_ids : (P : ActionId → Type 0) (ps : List Proposal) → AllByRecursion P (ids_of ps) → AllByRecursion (λ (p : Proposal). P p.id) ps
 from_ids P [] h = tt
 from_ids P (p ∷ ps) h = (h.0, from_ids P ps h.1)
 
@@ -179,10 +178,6 @@ world_sound v s stands mark set go fees = record {
 no_stakes : (s : ℕ) → AreSoundStakes s []
 no_stakes s = record { pools = empty_sorted pool_cmp; sum = omega arith }
 
-seated_at_first : (o : Option GenesisCommittee) → IsMap credential_cmp (members_of (option_map committee_of_genesis o))
-seated_at_first None = empty_sorted credential_cmp
-seated_at_first (Some c) = from_none credential_total (map (λ (m : Credential × ℕ × Option Credential). (m.0, m.1)) c.members)
-
 pub genesis_begins_sound : GenesisBeginsSound
 genesis_begins_sound g h e =
     let w : World = world_of_genesis g in
@@ -191,14 +186,14 @@ genesis_begins_sound g h e =
     let b : IsBounded w = genesis_bounded g h in
     let u : IsUnbrokenGenesis g = unbroken_genesis g e in
     let whole : supply_of l ≡ g.supply = genesis_holds_supply g e in
-    let three : (is_network g.network && is_slot g.slot && nat_lt 0 g.epoch_length) ≡ true = left_of _ _ (left_of _ _ (left_of _ _ (left_of _ _ (left_of _ _ (left_of _ _ (left_of _ _ (left_of _ _ (left_of _ _ (left_of _ _ (left_of _ _ (left_of _ _ h))))))))))) in
-    let early : g.slot < 2 ^ 62 = ltb-true g.slot (2 ^ 62) (right_of _ _ (left_of _ _ three)) in
+    let limits : GenesisParts g = genesis_parts g h in
+    let early : g.slot < 2 ^ 62 = limits.slot in
     let sound : IsSoundLedger l = sound_ledger l good.ledger b.ledger (record {
       votes = tt;
-      committee = seated_at_first g.committee;
+      committee = seated_first g.committee;
       balanced = whole;
       within = ltb-false SUPPLY_LIMIT g.supply u.within;
-      lasting = ltb-true 0 g.epoch_length (right_of _ _ three);
+      lasting = limits.long;
       slot = early;
       epoch = omega (arith, div-le_self g.slot g.epoch_length, early);
     }) in
@@ -383,7 +378,7 @@ rewards_sound w u s h e = record {
   counted = s.counted;
 }
 
-accepted_sound : (w : World) (r : Record) → IsSoundWorld w → is_within_limits r ≡ true → refusal_of w r ≡ None → IsSoundWorld (world_after_accepted w r)
+pub accepted_sound : (w : World) (r : Record) → IsSoundWorld w → is_within_limits r ≡ true → refusal_of w r ≡ None → IsSoundWorld (world_after_accepted w r)
 accepted_sound w (records.Genesis x) s h e = s
 accepted_sound w (records.Block slot pulse) s h e =
     let early : slot < 2 ^ 62 = ltb-true slot (2 ^ 62) (left_of _ _ h) in

@@ -9,7 +9,6 @@ use Rattle.std.specs.List.Sorted.{IsStrictlySortedBy}
 use Rattle.std.specs.Map.{keys_of}
 use Rattle.std.proofs.lemmas.Cmp.{eq_by_cmp_equiv}
 use Rattle.std.proofs.lemmas.List.Kept.{IsStrictlySortedBy-filter}
-use Rattle.std.proofs.lemmas.List.Sums.{sum_by-cons}
 use Rattle.std.proofs.lemmas.Map.Keys.{IsDistinct-from_sorted}
 use Rattle.maps.specs.Maps.{IsMap, IsSet, in_order, sum_values}
 use Rattle.maps.specs.Words.{amount, holds}
@@ -27,6 +26,7 @@ use Rattle.book_records.specs.Outputs.{lovelace_in}
 use Rattle.book_records.specs.declared.Output.{Output}
 use Rattle.book_records.specs.declared.Registered.{Registered}
 use Rattle.book_records.specs.declared.pool.Pool.{Pool}
+use Rattle.ledger_model.proofs.SameSums.{sum_by-map, sum_by-same}
 use Rattle.ledger_model.specs.Ledger.{Ledger, account_at, is_account, live_pool_stake, output_stake}
 use Rattle.run_model.specs.Boundary.{pool_stakes}
 use Rattle.run_model.specs.Freeze.{entries_of, frozen_credentials, stake_parts}
@@ -59,15 +59,6 @@ module _ {A K : Type 0} {cmp : K → K → Ordering} (o : IsTotalOrder cmp) (f :
   pub keyed_within : (ks : List K) → IsSet cmp ks → (xs : List A) → sum_by (part f at xs) ks ≤ sum_by f xs
   keyed_within ks h xs = sorted_within cmp f at (λ k q e x t. other_key o k q e (key x) t) ks h xs
 
--- sums of numbers that are the same
-pub sum_same : {A : Type 0} (f g : A → ℕ) → ((x : A) → f x ≡ g x) → (xs : List A) → sum_by f xs ≡ sum_by g xs
-sum_same f g h [] = refl
-sum_same f g h (x ∷ xs) = omega (arith, sum_by-cons f x xs, sum_by-cons g x xs, h x, sum_same f g h xs)
-
-pub sum_made : {A B : Type 0} (f : B → ℕ) (g : A → B) (xs : List A) → sum_by f (map g xs) ≡ sum_by (λ x. f (g x)) xs
-sum_made f g [] = refl
-sum_made f g (x ∷ xs) = omega (arith, sum_by-cons f (g x) (map g xs), sum_by-cons (λ y. f (g y)) x xs, sum_made f g xs)
-
 -- the output stakes of credentials are within what outputs hold
 pub stakes_within : (l : Ledger) (cs : List Credential) → IsSet credential_cmp cs → sum_by (output_stake l) cs ≤ lovelace_in l.outputs
 stakes_within l cs h =
@@ -75,7 +66,7 @@ stakes_within l cs h =
     let key : OutRef × Output → Option Credential = λ e. e.1.address.stake in
     omega (
       arith,
-      sum_same (output_stake l) (part f (at credential_total f key) l.outputs) (λ c. sum_values-entries (λ (x : Output). x.lovelace) (filter (at credential_total f key c) l.outputs)) cs,
+      sum_by-same (output_stake l) (part f (at credential_total f key) l.outputs) (λ c. sum_values-entries (λ (x : Output). x.lovelace) (filter (at credential_total f key c) l.outputs)) cs,
       keyed_within credential_total f key cs h l.outputs,
       sum_values-entries (λ (x : Output). x.lovelace) l.outputs,
     )
@@ -90,7 +81,7 @@ brought_within l h =
     omega (
       arith,
       sum_by-plus (λ (a : Credential × Registered). output_stake l a.0) (λ (a : Credential × Registered). a.1.rewards) l.accounts,
-      sum_made (output_stake l) (λ (a : Credential × Registered). a.0) l.accounts,
+      sum_by-map (output_stake l) (λ (a : Credential × Registered). a.0) l.accounts,
       sum_values-entries (λ (r : Registered). r.rewards) l.accounts,
       stakes_within l (keys_of l.accounts) h,
     )
@@ -134,8 +125,8 @@ pools_sound s l pools accounts bound = record {
     brought_within l accounts,
     keyed_within pool_total (brought l) (λ (a : Credential × Registered). a.1.pool) (keys_of l.pools) pools l.accounts,
     sum_values-entries (λ (n : ℕ). n) (pool_stakes l),
-    sum_made (λ (e : PoolId × ℕ). e.1) (λ (e : PoolId × Pool). (e.0, live_pool_stake l e.0)) l.pools,
-    sum_made (live_pool_stake l) (λ (e : PoolId × Pool). e.0) l.pools,
+    sum_by-map (λ (e : PoolId × ℕ). e.1) (λ (e : PoolId × Pool). (e.0, live_pool_stake l e.0)) l.pools,
+    sum_by-map (live_pool_stake l) (λ (e : PoolId × Pool). e.0) l.pools,
   );
 }
 
@@ -159,7 +150,7 @@ entries_within l accounts =
     omega (
       arith,
       sum_values-entries held_by (entries_of l),
-      sum_made (λ (e : Credential × _). held_by e.1) (λ (c : Credential). (c, record { stake = output_stake l c; registered = account_at l c })) cs,
+      sum_by-map (λ (e : Credential × _). held_by e.1) (λ (c : Credential). (c, record { stake = output_stake l c; registered = account_at l c })) cs,
       sum_by-plus (output_stake l) balance cs,
       stakes_within l cs (credentials_ordered l),
       sum_values-without_keys credential_total credential_exact (λ (r : Registered). r.rewards) cs l.accounts accounts (IsDistinct-from_sorted credential_cmp cs (credentials_ordered l)),

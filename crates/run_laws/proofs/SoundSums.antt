@@ -1,14 +1,16 @@
 -- What DReps and pools weigh together, by a sound snapshot.
-use Rattle.std.proofs.Common.{◌≡◌, ℕ, ◌+◌, ◌≤◌, List, [], ◌∷◌, Bool, true, false, cond, Option, Some, None, sum_by, refl, arith}
+use Rattle.std.proofs.Common.{◌≡◌, ℕ, ◌+◌, ◌≤◌, List, [], ◌∷◌, Bool, true, false, Option, Some, None, sum_by, refl, arith}
 use Rattle.std.specs.declared.cmp.Ordering.TheVariants.{Less}
 use Rattle.std.specs.List.{AllByRecursion}
 use Rattle.std.specs.List.Sorted.{IsStrictlySortedBy}
 use Rattle.std.specs.Map.{keys_of}
 use Rattle.std.proofs.lemmas.List.Sums.{sum_by-cons}
 use Rattle.std.proofs.lemmas.Map.Keys.{IsDistinct-from_sorted}
+use Rattle.ledger_model.proofs.SameSums.{sum_by-map}
 use Rattle.maps.specs.Maps.{IsSet, value_at}
 use Rattle.maps.specs.Words.{amount, holds, some_and}
 use Rattle.maps.proofs.Credits.{sum_by-plus, sum_values-entries}
+use Rattle.maps.proofs.Joined.{at_most}
 use Rattle.maps.proofs.Several.{sum_values-without_keys}
 use Rattle.gov_ids.specs.declared.Credential.{Credential}
 use Rattle.gov_ids.specs.declared.Drep.{Drep}
@@ -27,7 +29,7 @@ use Rattle.gov_model.specs.Stake.{deposits_to, drep_stake, is_frozen_drep, is_st
 use Rattle.run_model.specs.SoundLaws.{DrepStakesAreWithin, PoolStakesAreWithin}
 use Rattle.run_model.specs.SoundWorld.{IsSoundSnapshot, held_by}
 use Rattle.run_laws.proofs.Parted.{part}
-use Rattle.run_laws.proofs.SoundStakes.{keyed_within, other_key, sorted_within, sum_made}
+use Rattle.run_laws.proofs.SoundStakes.{keyed_within, other_key, sorted_within}
 
 sum_most : {A : Type 0} (f g : A → ℕ) → ((x : A) → f x ≤ g x) → (xs : List A) → sum_by f xs ≤ sum_by g xs
 sum_most f g h [] = omega arith
@@ -42,7 +44,7 @@ weights_within s f h = omega (
   arith,
   sum_by-plus (λ (e : Credential × Entry). held_by e.1) (λ (e : Credential × Entry). deposits_to f e.0) f.entries,
   sum_values-entries held_by f.entries,
-  sum_made (deposits_to f) (λ (e : Credential × Entry). e.0) f.entries,
+  sum_by-map (deposits_to f) (λ (e : Credential × Entry). e.0) f.entries,
   deposits_within f (keys_of f.entries) h.entries,
   h.held,
 )
@@ -72,17 +74,13 @@ sum_dreps : (g : Drep → ℕ) (ds : List (Credential × ℕ)) → sum_by g (all
 sum_dreps g [] = omega (arith, sum_by-cons g drep.Abstain (drep.NoConfidence ∷ []), sum_by-cons g drep.NoConfidence [])
 sum_dreps g (d ∷ ds) = omega (arith, sum_by-cons g (drep.Registered d.0) (all_dreps ds), sum_by-cons (λ (x : Credential × ℕ). g (drep.Registered x.0)) d ds, sum_dreps g ds)
 
-either_most : (b : Bool) (n : ℕ) → cond b n 0 ≤ n
-either_most true n = omega arith
-either_most false n = omega arith
-
 pub drep_stakes_are_within : DrepStakesAreWithin
 drep_stakes_are_within s f h =
     let each : Drep → ℕ = part (weight_of f) votes_by f.entries in
     omega (
       arith,
       sum_dreps (drep_stake f) f.dreps,
-      sum_most (drep_stake f) each (λ d. either_most (is_frozen_drep f d) (each d)) (all_dreps f.dreps),
+      sum_most (drep_stake f) each (λ d. at_most (is_frozen_drep f d) (each d)) (all_dreps f.dreps),
       sorted_within drep_cmp (weight_of f) votes_by (λ k q e x t. one_drep k q e x.1.registered t) (all_dreps f.dreps) (dreps_ordered f.dreps h.dreps) f.entries,
       weights_within s f h,
     )
@@ -101,7 +99,7 @@ pool_stakes_are_within s f h m =
     let marked : PoolId → ℕ = λ p. amount (λ (n : ℕ). n) (value_at pool_cmp f.mark p) in
     omega (
       arith,
-      sum_made (pool_stake f) (λ (e : PoolId × ℕ). e.0) f.mark,
+      sum_by-map (pool_stake f) (λ (e : PoolId × ℕ). e.0) f.mark,
       sum_by-plus marked deposits ps,
       sum_values-without_keys pool_total pool_exact (λ (n : ℕ). n) ps f.mark m.pools (IsDistinct-from_sorted pool_cmp ps m.pools),
       m.sum,

@@ -13,6 +13,7 @@ use Rattle.book_records.specs.declared.Entry.{Entry}
 use Rattle.book_records.specs.declared.Registered.{Registered}
 use Rattle.book_records.specs.Outputs.{lovelace_in}
 use Rattle.tx_records.specs.declared.limits.TheConstants.{SUPPLY_LIMIT}
+use Rattle.maps.proofs.Joined.{none_from}
 use Rattle.maps.proofs.Placed.{changed_at_absent}
 use Rattle.maps.proofs.Sets.{has_member-in_order}
 use Rattle.ledger_model.specs.Changes.{without_drep}
@@ -117,10 +118,6 @@ module _ (l : Leaving) (s : Stakes) (c : Credential) (k : AreKept s) where
         | None ↦ λ there p. changed_at_absent credential_cmp c (entry_without l) live there
         | Some e ↦ λ there p. kept_there credential_total c (entry_without l) e live (unchanged l e p) there k.live
       ] refl p
-
-none_from : {A : Type 0} (o : Option A) → is_some o ≡ false → o ≡ None
-none_from None p = refl
-none_from (Some x) p = cc
 
 -- one more of some ended
 pub one_ended : (l : Leaving) (cs : List Credential) (i : ℕ) (d : Credential) (es more : List (Credential × Entry)) → i < length cs → more ≡ changed_at credential_cmp (get_or cs i d) (entry_without l) es

@@ -1,9 +1,9 @@
 -- What an entry that is put does to the sums over the entries.
-use Rattle.std.proofs.Common.{◌≡◌, ℕ, ◌+◌, ◌-◌, ◌==◌, ◌&&◌, ◌≤◌, List, [], ◌∷◌, Bool, true, false, cond, is_none, is_some, ◌⊎◌, inl, inr, Option, Some, None, refl, ap, sym, ◌∙◌, arith}
+use Rattle.std.proofs.Common.{◌≡◌, ℕ, ◌+◌, ◌-◌, ◌==◌, ◌≤◌, List, [], ◌∷◌, Bool, true, false, cond, is_none, is_some, ◌⊎◌, inl, inr, Option, Some, None, refl, ap, sym, ◌∙◌, arith}
 use Rattle.std.specs.BTreeMap.{is_at}
 use Rattle.std.specs.Map.{values_of}
 use Rattle.std.specs.Option.{option_and_then}
-use Rattle.std.proofs.lemmas.Bool.{eqb-true}
+use Rattle.std.proofs.lemmas.Bool.{eqb-true, and_parts}
 use Rattle.std.proofs.lemmas.List.Sums.{sum_by-cons}
 use Rattle.std.proofs.lemmas.Map.Entries.{sum_by-insert_entry, sum_by-remove_entry}
 use Rattle.gov_ids.specs.declared.Credential.{Credential}
@@ -25,22 +25,15 @@ use Rattle.stake_book.proofs.Pools.{itself}
 abbrev pub nothing : Entry
 nothing = record { stake = 0; registered = None }
 
-left_of : (a b : Bool) → (a && b) ≡ true → a ≡ true
-left_of true b h = refl
-left_of false b h = h
-
-right_of : (a b : Bool) → (a && b) ≡ true → b ≡ true
-right_of true b h = h
-right_of false b h = cc
-
 none_is : (o : Option Registered) → is_none o ≡ true → o ≡ None
 none_is None h = refl
 none_is (Some r) h = cc
 
 pub nothing_is : (e : Entry) → is_nothing e ≡ true → e ≡ nothing
 nothing_is e t =
-    let stake : e.stake ≡ 0 = eqb-true e.stake 0 (left_of (e.stake == 0) (is_none e.registered) t) in
-    let registered : e.registered ≡ None = none_is e.registered (right_of (e.stake == 0) (is_none e.registered) t) in
+    let parts = and_parts (e.stake == 0) (is_none e.registered) t in
+    let stake : e.stake ≡ 0 = eqb-true e.stake 0 parts.0 in
+    let registered : e.registered ≡ None = none_is e.registered parts.1 in
     λ i. record { stake = stake i; registered = registered i }
 
 pub IsMap-with_entry : (c : Credential) (e : Entry) (entries : List (Credential × Entry)) → IsMap credential_cmp entries → IsMap credential_cmp (with_entry c e entries)

@@ -14,14 +14,11 @@ use Rattle.gov_ids.proofs.Exacts.{pool_exact}
 use Rattle.gov_ids.proofs.Totals.{pool_total}
 use Rattle.coin_frac.specs.Totals.{total_of}
 use Rattle.maps.proofs.Lookups.{none_below, value_at-with_value, value_at-without_key}
+use Rattle.maps.proofs.Sums.{as_amount}
 use Rattle.maps.proofs.Ties.{all_above, same_key}
 use Rattle.maps.specs.Maps.{IsMap, value_at, has_key, with_value, without_key}
 use Rattle.maps.specs.Words.{amount, holds}
 use Rattle.stake_book.specs.Sums.{IsRaised, stake_in}
-
-as_amount : (o : Option ℕ) → unwrap_or o 0 ≡ amount (λ v. v) o
-as_amount None = refl
-as_amount (Some v) = refl
 
 pub itself : (p : PoolId) → same_pool p p ≡ true
 itself p = (eq_by_cmp_equiv pool_total).refl p

@@ -1,5 +1,5 @@
 -- What the outputs of a stake part hold after a change of the outputs.
-use Rattle.std.proofs.Common.{◌≡◌, ℕ, ◌+◌, ◌≤◌, List, [], ◌∷◌, Bool, true, false, cond, Some, None, refl, sym, ◌∙◌, arith}
+use Rattle.std.proofs.Common.{◌≡◌, ℕ, ◌+◌, List, [], ◌∷◌, true, false, cond, Some, None, refl, sym, ◌∙◌, arith}
 use Rattle.std.specs.Map.{values_of}
 use Rattle.std.proofs.lemmas.List.Sums.{sum_by-cons}
 use Rattle.gov_ids.specs.declared.Credential.{Credential}
@@ -34,7 +34,3 @@ held-without_key outputs r o c m = omega (arith, held_is outputs c, held_is (wit
 
 pub held-with_value : (outputs : List (OutRef × Output)) (r : OutRef) (o : Output) (c : Credential) → value_at outref_cmp outputs r ≡ None → stake_held (with_value outref_cmp r o outputs) c ≡ stake_held outputs c + counts c o
 held-with_value outputs r o c m = omega (arith, held_is outputs c, held_is (with_value outref_cmp r o outputs) c, sum_values-with_value_absent (counts c) outref_cmp r o outputs m)
-
-pub at_most : (b : Bool) (n : ℕ) → cond b n 0 ≤ n
-at_most true n = omega arith
-at_most false n = omega arith

@@ -18,13 +18,14 @@ use Rattle.book_records.specs.declared.Registered.{Registered}
 use Rattle.book_records.specs.Outputs.{lovelace_in}
 use Rattle.tx_records.specs.declared.limits.TheConstants.{SUPPLY_LIMIT}
 use Rattle.maps.proofs.Credits.{sum_by-plus, sum-only_at}
+use Rattle.maps.proofs.Joined.{at_most}
 use Rattle.maps.proofs.Same.{value_at_first}
 use Rattle.maps.specs.Maps.{IsMap, value_at, has_key, entries_where, sum_values}
 use Rattle.maps.specs.Words.{amount, holds}
 use Rattle.stake_book.specs.Stakes.{Stakes, AreKept, registrations, stake_held, stake_at, pool_stake_in}
 use Rattle.stake_book.specs.Sums.{balance_of, share_of, weight_in}
 use Rattle.stake_book.proofs.Registrations.{balances_is}
-use Rattle.stake_book.proofs.Sums.{counts, held_is, at_most}
+use Rattle.stake_book.proofs.Sums.{counts, held_is}
 
 -- each entry stands where its credential is looked up
 abbrev IsThere : List (Credential × Entry) → Credential × Entry → Type 0

@@ -1,7 +1,7 @@
 -- A walk from entry to entry goes over all of them.
 use Rattle.std.proofs.Common.{Bor, ◌≡◌, ◌<◌, List, [], ◌∷◌, ◌++◌, true, false, cond, flat_map, length, map, not, Option, Some, None, option_map, refl, ap, sym, ◌∙◌, arith}
 use Rattle.std.specs.declared.cmp.Ordering.{Ordering}
-use Rattle.std.specs.declared.cmp.Ordering.TheVariants.{Less, Equal, Greater}
+use Rattle.std.specs.declared.cmp.Ordering.TheVariants.{Less}
 use Rattle.std.specs.Cmp.{IsTotalOrder}
 use Rattle.std.specs.List.{AllByRecursion}
 use Rattle.std.specs.List.Sorted.{IsStrictlySortedBy}
@@ -15,17 +15,12 @@ use Rattle.gov_actions.specs.declared.state.HotState.{HotState}
 use Rattle.gov_ids.specs.declared.Credential.{Credential}
 use Rattle.gov_ids.specs.Orders.{credential_cmp}
 use Rattle.gov_model.specs.Hot.{is_member}
-use Rattle.maps.proofs.Ties.{is_equal}
+use Rattle.maps.proofs.Ties.{is_equal, is_less}
 use Rattle.maps.specs.Maps.{IsMap, comes_past, entry_after}
 use Rattle.state_print.specs.Walks.{entry_then}
 use Rattle.text_model.specs.StateLines.{hot_outside, hot_words}
 use Rattle.text_model.specs.Words.{Text}
 use Rattle.view_map.specs.Walk.{entries_past}
-
-is_less : (r : Ordering) → is_lt r ≡ true → r ≡ Less
-is_less Less e = refl
-is_less Equal e = cc
-is_less Greater e = cc
 
 module _ {K : Type 0} {cmp : K → K → Ordering} (o : IsTotalOrder cmp) where
   itself : (k : K) → is_lt (cmp k k) ≡ false

@@ -18,7 +18,8 @@ use Rattle.gov_actions.specs.declared.action.Vote.TheVariants.{Yes, No, Abstain}
 use Rattle.maps.specs.Maps.{IsMap, changed_at, each_value, sum_values, value_at, without_key}
 use Rattle.maps.proofs.Kept.{IsMap-changed_where}
 use Rattle.maps.proofs.Lookups.{none_below, value_at-changed_at}
-use Rattle.maps.proofs.Sums.{changed_at_absent, sum_values-changed_at, sum_values-without_key}
+use Rattle.maps.proofs.Placed.{changed_at_absent}
+use Rattle.maps.proofs.Sums.{sum_values-changed_at, sum_values-without_key}
 use Rattle.maps.proofs.Ties.{all_tied, is_equal}
 use Rattle.tally.specs.Adding.{IsPartOf, total_of, with_side, with_vote, without_side, yes_of}
 use Rattle.tally.specs.Silent.{Standing, count_of_standing}

@@ -1,10 +1,10 @@
 -- Each certificate that breaks no rule moves the deposits by its flows, and leaves the rewards.
-use Rattle.std.proofs.Common.{◌≡◌, ℕ, ◌+◌, List, [], ◌∷◌, Bool, true, false, cond, ◌||◌, Option, Some, None, is_some, map, sum_by, refl, ap, ◌∙◌, arith}
-use Rattle.std.specs.List.{list_any}
+use Rattle.std.proofs.Common.{◌≡◌, ℕ, ◌+◌, List, [], ◌∷◌, true, false, cond, Option, Some, None, is_some, map, sum_by, refl, ap, arith}
 use Rattle.std.specs.Ordering.{eq_by_cmp}
 use Rattle.std.proofs.lemmas.Bool.{eqb-true, not-false}
 use Rattle.maps.specs.Maps.{IsMap, value_at, sum_values, changed_at, with_value, without_key}
 use Rattle.maps.specs.Words.{amount}
+use Rattle.maps.proofs.Joined.{none_from}
 use Rattle.maps.proofs.Sums.{sum_values-with_value, sum_values-with_value_absent, sum_values-without_key}
 use Rattle.gov_ids.specs.declared.Credential.{Credential}
 use Rattle.gov_ids.specs.declared.Drep.{Drep}
@@ -22,14 +22,13 @@ use Rattle.tx_records.specs.declared.cert.Cert.{Cert}
 use Rattle.tx_records.specs.declared.cert.Cert.TheVariants.{AccountReg, AccountUnreg, Delegate, PoolReg, PoolRetire, DrepReg, DrepUnreg, DrepUpdate, HotAuth, HotResign}
 use Rattle.ledger_model.specs.Ledger.{Ledger, params_of, account_at, is_account, is_drep}
 use Rattle.ledger_model.specs.Supply.{deposits_of}
-use Rattle.ledger_model.specs.Checks.{Check}
 use Rattle.gov_model.specs.Proposals.{without_vote}
 use Rattle.ledger_model.specs.Changes.{changed_by, new_account, delegating, new_drep, having_acted, without_drep, delegates_to_drep}
 use Rattle.ledger_model.specs.CertRules.{cert_checks, account_deposit, drep_deposit_of, rewards_at}
 use Rattle.ledger_model.specs.Draft.{draft_with}
 use Rattle.ledger_model.specs.Flows.{deposits, hand, Flow, flow, flows_of_cert, source, sink, sum_at}
 use Rattle.ledger_model.proofs.DraftKeeps.{HasMaps}
-use Rattle.ledger_model.proofs.Unbroken.{IsUnbroken, unbroken-cons}
+use Rattle.ledger_model.proofs.Unbroken.{IsUnbroken, unbroken-cons, none_broken}
 use Rattle.ledger_model.proofs.SameSums.{sum_by-map, sum_values-changed_same}
 
 abbrev pub rewards_in : Ledger → ℕ
@@ -39,10 +38,6 @@ rewards_in d = sum_values (λ (r : Registered). r.rewards) d.accounts
 pub record IsMovedDraft (fs : List Flow) (d e : Ledger) : Type 0 where
   pub deposits : deposits_of e + sum_at source deposits fs ≡ deposits_of d + sum_at sink deposits fs
   pub rewards : rewards_in e ≡ rewards_in d
-
-none_by : {A : Type 0} (o : Option A) → is_some o ≡ false → o ≡ None
-none_by None h = refl
-none_by (Some x) h = cc
 
 some_by : {A : Type 0} (o : Option A) → is_some o ≡ true → (x : A) × (o ≡ Some x)
 some_by None h = cc
@@ -70,7 +65,7 @@ proposal_dep p = p.deposit
 register : (d : Ledger) (cred : Credential) (pool : Option PoolId) (drep : Option Drep) → is_account d cred ≡ false
     → IsMovedDraft (flow hand deposits (params_of d).key_deposit ∷ []) d (record d { accounts = with_value credential_cmp cred (new_account d pool drep) d.accounts })
 register d cred pool drep h =
-    let absent : value_at credential_cmp d.accounts cred ≡ None = none_by (account_at d cred) h in
+    let absent : value_at credential_cmp d.accounts cred ≡ None = none_from (account_at d cred) h in
     record {
       deposits = omega (arith, sum_values-with_value_absent account_dep credential_cmp cred (new_account d pool drep) d.accounts absent);
       rewards = omega (arith, sum_values-with_value_absent account_rew credential_cmp cred (new_account d pool drep) d.accounts absent);
@@ -124,7 +119,7 @@ drep_comes : (d : Ledger) (cred : Credential) → is_drep d cred ≡ false
     → IsMovedDraft (flow hand deposits (params_of d).drep_deposit ∷ []) d (record d { dreps = with_value credential_cmp cred (new_drep d) d.dreps })
 drep_comes d cred h =
     record {
-      deposits = omega (arith, sum_values-with_value_absent drep_dep credential_cmp cred (new_drep d) d.dreps (none_by _ h));
+      deposits = omega (arith, sum_values-with_value_absent drep_dep credential_cmp cred (new_drep d) d.dreps (none_from _ h));
       rewards = refl;
     }
 
@@ -165,12 +160,5 @@ cert_moves l d (HotAuth cold key) s h = record { deposits = refl; rewards = refl
 cert_moves l d (HotResign cold) s h = record { deposits = refl; rewards = refl }
 
 -- a certificate that breaks no rule is not refused
-any_by : (c : Check) (cs : List Check) (b : Bool) → c.broken ≡ b → b ≡ false → list_any (λ (k : Check). k.broken) cs ≡ false → list_any (λ (k : Check). k.broken) (c ∷ cs) ≡ false
-any_by c cs b e f h = ap (λ t. t || list_any (λ (k : Check). k.broken) cs) (e ∙ f) ∙ h
-
-none_broken : (cs : List Check) → IsUnbroken cs → list_any (λ (k : Check). k.broken) cs ≡ false
-none_broken [] h = refl
-none_broken (c ∷ cs) h = let both = unbroken-cons c cs h in any_by c cs c.broken refl both.0 (none_broken cs both.1)
-
 pub draft_step : (l d : Ledger) (c : Cert) → IsUnbroken (cert_checks l d c) → draft_with l d c ≡ changed_by c d
 draft_step l d c h = ap (λ b. cond b d (changed_by c d)) (none_broken (cert_checks l d c) h)

@@ -1,13 +1,13 @@
 -- Withdrawals of whole balances: what is left of the rewards, and what is withdrawn.
-use Rattle.std.proofs.Common.{◌≡◌, ℕ, ◌+◌, List, [], ◌∷◌, Bool, true, false, cond, ◌||◌, Option, Some, None, is_some, map, sum_by, refl, ap, sym, ◌∙◌, arith}
+use Rattle.std.proofs.Common.{◌≡◌, ℕ, ◌+◌, List, [], ◌∷◌, Bool, true, false, cond, Option, Some, None, is_some, map, sum_by, refl, ap, sym, ◌∙◌, arith}
 use Rattle.std.specs.Option.{option_map}
 use Rattle.std.specs.List.{AllByRecursion, IsDistinct, list_any}
 use Rattle.std.specs.Ordering.{eq_by_cmp}
 use Rattle.std.proofs.lemmas.Bool.{eqb-true, or_parts, not-false}
 use Rattle.std.proofs.lemmas.Cmp.{eq_by_cmp_equiv}
 use Rattle.std.proofs.lemmas.List.Sums.{sum_by-cons}
-use Rattle.maps.specs.Maps.{IsMap, value_at, sum_values, changed_where, changed_at}
-use Rattle.maps.specs.Words.{among, repeats, amount}
+use Rattle.maps.specs.Maps.{IsMap, value_at, sum_values, changed_at}
+use Rattle.maps.specs.Words.{repeats, amount}
 use Rattle.maps.proofs.Kept.{IsMap-changed_where}
 use Rattle.maps.proofs.Lookups.{value_at-changed_at}
 use Rattle.maps.proofs.Sums.{sum_values-changed_at}
@@ -23,6 +23,7 @@ use Rattle.ledger_model.specs.Ledger.{Ledger, account_at, is_account}
 use Rattle.ledger_model.specs.Checks.{per_place_from}
 use Rattle.ledger_model.specs.Changes.{emptied}
 use Rattle.ledger_model.specs.CertRules.{withdrawal_checks, rewards_at}
+use Rattle.ledger_model.proofs.Emptying.{emptied_among, emptied_among-cons, emptied_among-none}
 use Rattle.ledger_model.proofs.Unbroken.{IsUnbroken, unbroken-cons, unbroken-per_place}
 
 abbrev cred_of : Account × ℕ → Credential
@@ -67,25 +68,6 @@ AreWhole es xs = AllByRecursion (IsWhole es) xs
 abbrev rewards_of : Registered → ℕ
 rewards_of r = r.rewards
 
--- accounts of these credentials without their balances
-abbrev pub emptied_at : List Credential → List (Credential × Registered) → List (Credential × Registered)
-emptied_at cs es = changed_where (λ c r. among same_credential c cs) emptied es
-
-one_more : (b c : Bool) (r : Registered) → cond (b || c) (emptied r) r ≡ cond c (emptied (cond b (emptied r) r)) (cond b (emptied r) r)
-one_more true true r = refl
-one_more true false r = refl
-one_more false true r = refl
-one_more false false r = refl
-
-emptied_at-cons : (c : Credential) (cs : List Credential) (es : List (Credential × Registered)) → emptied_at (c ∷ cs) es ≡ emptied_at cs (changed_at credential_cmp c emptied es)
-emptied_at-cons c cs [] = refl
-emptied_at-cons c cs (e ∷ es) =
-    ap (λ (list : List (Credential × Registered)). (e.0, cond (same_credential e.0 c || among same_credential e.0 cs) (emptied e.1) e.1) ∷ list) (emptied_at-cons c cs es)
-    ∙ ap (λ (r : Registered). (e.0, r) ∷ emptied_at cs (changed_at credential_cmp c emptied es)) (
-    ap (λ b. cond (b || among same_credential e.0 cs) (emptied e.1) e.1) ((eq_by_cmp_equiv credential_total).symm e.0 c)
-    ∙ one_more (same_credential c e.0) (among same_credential e.0 cs) e.1
-    )
-
 -- other balances stay
 still_whole : (c : Credential) (es : List (Credential × Registered)) (xs : List (Account × ℕ)) → AllByRecursion (λ q. same_credential c q ≡ false) (map cred_of xs) → AreWhole es xs
     → AreWhole (changed_at credential_cmp c emptied es) xs
@@ -98,13 +80,9 @@ still_whole c es (x ∷ xs) o h =
 
 -- what is left, and what is withdrawn, are all
 pub withdrawals_sum : (xs : List (Account × ℕ)) (es : List (Credential × Registered)) → IsMap credential_cmp es → IsDistinct same_credential (map cred_of xs) → AreWhole es xs
-    → sum_values rewards_of (emptied_at (map cred_of xs) es) + sum_by (λ (x : Account × ℕ). x.1) xs ≡ sum_values rewards_of es
+    → sum_values rewards_of (emptied_among (map cred_of xs) es) + sum_by (λ (x : Account × ℕ). x.1) xs ≡ sum_values rewards_of es
 unfolding IsDistinct
-withdrawals_sum [] es m d h = omega (arith, ap (λ (list : List (Credential × Registered)). sum_values rewards_of list) (none_emptied es))
-  where
-    none_emptied : (es : List (Credential × Registered)) → emptied_at [] es ≡ es
-    none_emptied [] = refl
-    none_emptied (e ∷ es) = ap (λ (list : List (Credential × Registered)). e ∷ list) (none_emptied es)
+withdrawals_sum [] es m d h = omega (arith, ap (λ (list : List (Credential × Registered)). sum_values rewards_of list) (emptied_among-none es))
 withdrawals_sum (x ∷ xs) es m d h =
     let one : List (Credential × Registered) = changed_at credential_cmp x.0.cred emptied es in
     let first : sum_values rewards_of one + h.0.0.rewards ≡ sum_values rewards_of es + 0 = sum_values-changed_at rewards_of credential_cmp credential_total x.0.cred emptied h.0.0 es m h.0.1 in
@@ -112,7 +90,7 @@ withdrawals_sum (x ∷ xs) es m d h =
       arith,
       first,
       h.0.2,
-      ap (λ (list : List (Credential × Registered)). sum_values rewards_of list) (emptied_at-cons x.0.cred (map cred_of xs) es),
+      ap (λ (list : List (Credential × Registered)). sum_values rewards_of list) (emptied_among-cons x.0.cred (map cred_of xs) es),
       withdrawals_sum xs one (IsMap-changed_where credential_cmp (λ q r. eq_by_cmp credential_cmp x.0.cred q) emptied es m) d.1 (still_whole x.0.cred es xs d.0 h.1),
       sum_by-cons (λ (x : Account × ℕ). x.1) x xs,
     )

@@ -1,13 +1,13 @@
 -- Totals above 0, in order, that are what outputs hold of each asset are the list of what they hold.
-use Rattle.std.proofs.Common.{◌≡◌, ℕ, ◌+◌, ◌≤◌, List, [], ◌∷◌, ◌++◌, Bool, true, false, cond, ◌||◌, Option, Some, None, unwrap_or, nat_lt, filter, flat_map, map, sum_by, refl, ap, sym, subst, ◌∙◌, arith}
+use Rattle.std.proofs.Common.{◌≡◌, ℕ, ◌+◌, ◌≤◌, List, [], ◌∷◌, Bool, true, false, cond, ◌||◌, Option, Some, None, unwrap_or, nat_lt, filter, flat_map, map, sum_by, refl, ap, sym, subst, ◌∙◌, arith}
 use Rattle.std.specs.Ordering.{eq_by_cmp}
 use Rattle.std.specs.List.{AllByRecursion}
 use Rattle.std.specs.Map.{keys_of, values_of}
 use Rattle.std.proofs.lemmas.Bool.Decides.{nat_tests}
 use Rattle.std.proofs.lemmas.Cmp.{eq_by_cmp_equiv}
-use Rattle.std.proofs.lemmas.List.Elements.{filter-append}
-use Rattle.std.proofs.lemmas.List.Sums.{sum_by-append, sum_by-cons}
+use Rattle.std.proofs.lemmas.List.Sums.{sum_by-cons}
 use Rattle.std.proofs.lemmas.Map.Entries.{option_filter}
+use Rattle.assets.proofs.Quantities.{quantity_of-append}
 use Rattle.assets.specs.Quantities.{quantity_of}
 use Rattle.assets.specs.Totals.{AreTotals, total_at}
 use Rattle.book_records.specs.declared.Output.{Output}
@@ -18,7 +18,7 @@ use Rattle.gov_ids.specs.declared.assets.AssetId.{AssetId}
 use Rattle.gov_ids.specs.declared.OutRef.{OutRef}
 use Rattle.gov_ids.specs.Orders.{asset_cmp}
 use Rattle.gov_ids.specs.Same.{same_asset}
-use Rattle.maps.proofs.Kept.{IsMap-entries_where}
+use Rattle.maps.proofs.Kept.{IsMap-entries_where, keys_of-each}
 use Rattle.maps.proofs.Lookups.{value_at-entries_where}
 use Rattle.maps.proofs.Same.{map_from_value_at}
 use Rattle.maps.proofs.Sets.{IsSet-in_order, has_member-in_order}
@@ -35,11 +35,6 @@ unnamed (e ∷ es) a h =
       | false ↦ λ t h. ap (λ b. sum_by (λ (e : AssetId × ℕ). e.1) (cond b (e ∷ rest) rest)) ((eq_by_cmp_equiv asset_total).symm e.0 a ∙ t) ∙ unnamed es a h
     ] refl h
 
-quantity_of-append : (es fs : List (AssetId × ℕ)) (a : AssetId) → quantity_of (es ++ fs) a ≡ quantity_of es a + quantity_of fs a
-quantity_of-append es fs a =
-    ap (λ (l : List (AssetId × ℕ)). sum_by (λ (e : AssetId × ℕ). e.1) l) (filter-append (λ (e : AssetId × ℕ). same_asset e.0 a) es fs)
-    ∙ sum_by-append (λ (e : AssetId × ℕ). e.1) (filter (λ (e : AssetId × ℕ). same_asset e.0 a) es) (filter (λ (e : AssetId × ℕ). same_asset e.0 a) fs)
-
 -- all entries of all outputs
 abbrev all_assets : List (OutRef × Output) → List (AssetId × ℕ)
 all_assets outputs = flat_map (λ (o : Output). o.assets) (values_of outputs)
@@ -52,10 +47,6 @@ assets_in-all (e ∷ es) a =
     ∙ sym (quantity_of-append e.1.assets (all_assets es) a)
 
 -- each of some keys with what a function makes of it
-keys_of-each : (f : AssetId → ℕ) (ks : List AssetId) → keys_of (map (λ a. (a, f a)) ks) ≡ ks
-keys_of-each f [] = refl
-keys_of-each f (k ∷ ks) = ap (λ (l : List AssetId). k ∷ l) (keys_of-each f ks)
-
 value_at-each : (f : AssetId → ℕ) (ks : List AssetId) (q : AssetId) → value_at asset_cmp (map (λ a. (a, f a)) ks) q ≡ cond (has_member asset_cmp ks q) (Some (f q)) None
 value_at-each f [] q = refl
 value_at-each f (k ∷ ks) q =

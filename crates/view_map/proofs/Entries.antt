@@ -9,6 +9,7 @@ use Rattle.std.specs.List.{AllByRecursion}
 use Rattle.std.specs.List.Sorted.{IsStrictlySortedBy}
 use Rattle.std.specs.Map.{keys_of, lookup_entry, lookup_key}
 use Rattle.std.proofs.lemmas.Cmp.{eq_by_cmp_equiv, tied_itself}
+use Rattle.maps.proofs.Joined.{none_from, swapped}
 use Rattle.maps.proofs.Lookups.{without_key_absent}
 use Rattle.maps.proofs.Ties.{is_equal, tied, apart, all_above, all_tied}
 use Rattle.maps.specs.Maps.{IsMap, value_at, has_key, with_value, without_key}
@@ -42,22 +43,12 @@ pub some_entry : {K X : Type 0} (cmp : K → K → Ordering) (es : List (K × X)
 some_entry cmp [] k = refl
 some_entry {K} {X} cmp (e ∷ es) k = elim (eq_by_cmp cmp k e.0) as (λ b. is_some (cond b (Some e.1) (value_at cmp es k)) ≡ is_some (cond b (Some e) (entry_at cmp es k))) [ true ↦ refl | false ↦ some_entry cmp es k ]
 
-none_of : {A : Type 0} (x : Option A) → is_some x ≡ false → x ≡ None
-none_of None h = refl
-none_of (Some y) h = cc
-
 pub no_entry : {K X : Type 0} (cmp : K → K → Ordering) (es : List (K × X)) (k : K) → has_key cmp es k ≡ false → entry_at cmp es k ≡ None
-no_entry cmp es k h = none_of (entry_at cmp es k) (sym (some_entry cmp es k) ∙ h)
+no_entry cmp es k h = none_from (entry_at cmp es k) (sym (some_entry cmp es k) ∙ h)
 
 -- a key that stands nowhere leaves nothing behind
 pub untouched : {K X : Type 0} (cmp : K → K → Ordering) (k : K) (es : List (K × X)) → has_key cmp es k ≡ false → without_key cmp k es ≡ es
-untouched cmp k es h = without_key_absent cmp k es (none_of (value_at cmp es k) h)
-
--- one test beside another
-swapped : {A : Type 0} (a b : Bool) (x y z : A) → (a ≡ true → b ≡ false) → cond b y (cond a x z) ≡ cond a x (cond b y z)
-swapped true true x y z e = let never : true ≡ false = e refl in cc
-swapped true false x y z e = refl
-swapped false b x y z e = refl
+untouched cmp k es h = without_key_absent cmp k es (none_from (value_at cmp es k) h)
 
 gone : {A : Type 0} (a b : Bool) (x y z : A) → b ≡ a → (a ≡ true → z ≡ x) → z ≡ cond a x (cond b y z)
 gone true true x y z e f = f refl

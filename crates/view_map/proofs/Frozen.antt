@@ -6,6 +6,7 @@ use Rattle.std.specs.Cmp.{IsTotalOrder}
 use Rattle.std.specs.List.Sorted.{IsStrictlySortedBy}
 use Rattle.std.specs.Map.{keys_of}
 use Rattle.std.proofs.lemmas.Cmp.{eq_by_cmp_equiv}
+use Rattle.maps.proofs.Joined.{chosen_last}
 use Rattle.maps.proofs.Kept.{IsMap-with_value, IsMap-without_key}
 use Rattle.maps.proofs.Ties.{is_equal, all_tied}
 use Rattle.maps.specs.Maps.{IsMap, value_at, has_key, with_value, without_key}
@@ -16,10 +17,6 @@ use Rattle.view_map.proofs.Entries.{entry_at, none_below, value_of-entry, entry_
 abbrev pub laid : {K V : Type 0} → Option (K × Option V) → Option (K × V) → Option (K × V)
 laid None l = l
 laid (Some p) l = option_map (λ v. (p.0, v)) p.1
-
-over : {A : Type 0} (b : Bool) (x y z : A) → cond b x (cond b y z) ≡ cond b x z
-over true x y z = refl
-over false x y z = refl
 
 step : {K V : Type 0} (a b : Bool) (s : Option (K × Option V)) (p : K × Option V) (l : Option (K × V)) → a ≡ b → (b ≡ true → s ≡ None)
     → laid s (cond a (option_map (λ v. (p.0, v)) p.1) l) ≡ laid (cond b (Some p) s) l
@@ -49,7 +46,7 @@ module _ {K V : Type 0} {cmp : K → K → Ordering} (o : IsTotalOrder cmp) wher
       let none : entry_at cmp (without_key cmp k es) k ≡ None = entry_at-without_key o k es k h ∙ ap (λ b. cond b None (entry_at cmp es k)) ((eq_by_cmp_equiv o).refl k) in
       entry_at-with_value_absent o k v (without_key cmp k es) q none
       ∙ ap (λ (r : Option (K × V)). cond (eq_by_cmp cmp k q) (Some (k, v)) r) (entry_at-without_key o k es q h)
-      ∙ over (eq_by_cmp cmp k q) (Some (k, v)) None (entry_at cmp es q)
+      ∙ chosen_last (eq_by_cmp cmp k q) (Some (k, v)) None (entry_at cmp es q)
 
   IsMap-all : (saved : List (K × Option V)) (es : List (K × V)) → IsMap cmp es → IsMap cmp (fold (λ es p. laid_over cmp p.0 p.1 es) es saved)
   IsMap-all [] es h = h

@@ -1,30 +1,23 @@
 -- A walk over the live and the saved list goes over the frozen one.
-use Rattle.std.proofs.Common.{◌≡◌, List, [], ◌∷◌, Bool, true, false, cond, ◌&&◌, filter, is_some, Option, Some, None, slice_get, refl, ap, sym, ◌∙◌}
+use Rattle.std.proofs.Common.{◌≡◌, List, [], ◌∷◌, Bool, true, false, cond, filter, is_some, Option, Some, None, slice_get, refl, ap, sym, ◌∙◌}
 use Rattle.std.specs.declared.cmp.Ordering.{Ordering}
 use Rattle.std.specs.declared.cmp.Ordering.TheVariants.{Less, Equal, Greater}
 use Rattle.std.specs.declared.ops.Bound.{Bound}
 use Rattle.std.specs.declared.ops.Bound.TheVariants.{Unbounded}
-use Rattle.std.specs.BTreeMap.Range.{range_contains, entries_between}
+use Rattle.std.specs.BTreeMap.Range.{entries_between}
 use Rattle.std.specs.Ordering.{is_eq, is_lt, eq_by_cmp, match_ordering, ordering_reverse}
 use Rattle.std.specs.Cmp.{IsTotalOrder}
 use Rattle.std.specs.List.{AllByRecursion}
 use Rattle.std.specs.List.Sorted.{IsStrictlySortedBy}
 use Rattle.std.specs.Map.{keys_of}
 use Rattle.maps.proofs.Kept.{IsMap-filter}
-use Rattle.maps.proofs.Ties.{is_equal, all_above, all_tied}
+use Rattle.maps.proofs.Next.{in_range}
+use Rattle.maps.proofs.Ties.{is_equal, all_above, all_tied, turned}
 use Rattle.maps.specs.Maps.{IsMap, comes_past, start_past, with_value, without_key, entry_after}
 use Rattle.view_map.specs.View.{View, IsInOrder, laid_over, frozen_of}
 use Rattle.view_map.specs.Walk.{entries_past, first_at, merged}
 use Rattle.view_map.proofs.Entries.{entry_at, none_below, some_entry, untouched, map_from_entry_at}
 use Rattle.view_map.proofs.Frozen.{laid, IsMap-laid_over, IsMap-frozen, frozen_at}
-
-and_true : (b : Bool) → (b && true) ≡ b
-and_true true = refl
-and_true false = refl
-
-in_range : {K : Type 0} (cmp : K → K → Ordering) (after : Option K) (q : K) → range_contains cmp (start_past after) Unbounded q ≡ comes_past cmp after q
-in_range cmp None q = refl
-in_range cmp (Some k) q = and_true _
 
 module _ {K X : Type 0} (cmp : K → K → Ordering) (after : Option K) where
   pub past_range : (es part : List (K × X)) (lo hi : Bound K) → lo ≡ start_past after → hi ≡ Unbounded → part ≡ entries_between cmp lo hi es → part ≡ entries_past cmp after es
@@ -55,9 +48,6 @@ module _ {K V : Type 0} (cmp : K → K → Ordering) where
   laid_in_place_of k (Some v) es rest w h = ap (λ (l : List (K × V)). with_value cmp k v l) w ∙ put_first k v rest h
 
 module _ {K : Type 0} {cmp : K → K → Ordering} (o : IsTotalOrder cmp) where
-  turned : (a b : K) (r : Ordering) → cmp a b ≡ r → cmp b a ≡ ordering_reverse r
-  turned a b r p = o.antisymm b a ∙ ap ordering_reverse p
-
   past_tied : (after : Option K) (q e : K) → eq_by_cmp cmp q e ≡ true → comes_past cmp after q ≡ comes_past cmp after e
   past_tied None q e t = refl
   past_tied (Some k) q e t = ap is_lt (o.antisymm k q ∙ ap ordering_reverse (o.congr q e k (is_equal _ t)) ∙ sym (o.antisymm k e))

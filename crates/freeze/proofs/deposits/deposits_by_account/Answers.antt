@@ -5,7 +5,7 @@ use Rattle.std.proofs.lemmas.List.{drop_all}
 use Rattle.coin_frac.specs.Totals.{total_of}
 use Rattle.freeze.specs.Deposits.{paid_by}
 use Rattle.freeze.proofs.Adding.{amount_after, amount_at}
-use Rattle.freeze.proofs.Sums.{deposits_from, paid_from, never_past}
+use Rattle.freeze.proofs.Sums.{deposits_from, paid_from}
 use Rattle.gov_actions.specs.declared.action.Proposal.{Proposal}
 use Rattle.gov_ids.specs.declared.Credential.{Credential}
 use Rattle.gov_model.specs.Proposals.{deposits_of}
@@ -14,6 +14,7 @@ use Rattle.gov_ids.specs.Orders.{credential_cmp}
 use Rattle.gov_ids.specs.Same.{same_credential}
 use Rattle.gov_ids.proofs.Exacts.{credential_exact}
 use Rattle.gov_ids.proofs.Totals.{credential_total}
+use Rattle.maps.proofs.Lists.{never_past}
 use Rattle.maps.specs.Maps.{value_at, with_value}
 use Rattle.freeze.proofs.deposits.deposits_by_account.Goals.{in-Some+in_ok-add, in_default}
 use Rattle.freeze.proofs.deposits.deposits_by_account.Goals as goal

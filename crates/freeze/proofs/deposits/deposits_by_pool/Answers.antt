@@ -6,7 +6,7 @@ use Rattle.book_records.specs.declared.Registered.{Registered}
 use Rattle.coin_frac.specs.Totals.{total_of}
 use Rattle.freeze.specs.Deposits.{delegates_to, paid_with}
 use Rattle.freeze.proofs.Adding.{amount_after, amount_at}
-use Rattle.freeze.proofs.Sums.{deposits_from, paid_from, never_past}
+use Rattle.freeze.proofs.Sums.{deposits_from, paid_from}
 use Rattle.gov_actions.specs.declared.action.Proposal.{Proposal}
 use Rattle.gov_ids.specs.declared.PoolId.{PoolId}
 use Rattle.gov_ids.specs.Orders.{pool_cmp}
@@ -14,6 +14,7 @@ use Rattle.gov_ids.specs.Same.{same_pool}
 use Rattle.gov_ids.proofs.Exacts.{pool_exact}
 use Rattle.gov_ids.proofs.Totals.{pool_total}
 use Rattle.gov_model.specs.Proposals.{deposits_of}
+use Rattle.maps.proofs.Lists.{never_past}
 use Rattle.maps.specs.Maps.{with_value}
 use Rattle.maps.specs.Words.{holds, some_and}
 use Rattle.stake_book.specs.Stakes.{registered_at}

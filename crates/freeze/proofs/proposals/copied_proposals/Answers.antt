@@ -2,8 +2,9 @@ use Rattle.std.proofs.Common.{◌≡◌, ℕ, ◌+◌, ◌<◌, List, [], ◌∷
 use Rattle.std.specs.List.{slice_get}
 use Rattle.std.specs.Option.{option_copied}
 use Rattle.std.proofs.lemmas.List.{append-nil, drop_all}
+use Rattle.maps.proofs.Lists.{never_past}
 use Rattle.gov_actions.specs.declared.action.Proposal.{Proposal}
-use Rattle.freeze.proofs.Sums.{from_here, never_past}
+use Rattle.freeze.proofs.Sums.{from_here}
 use Rattle.freeze.proofs.proposals.copied_proposals.Goals.{in-Some+in_ok-copied+in_ok-push, in_default}
 use Rattle.freeze.proofs.proposals.copied_proposals.Goals as goal
 

@@ -1,6 +1,6 @@
-use Rattle.std.proofs.Common.{◌≡◌, Bool, true, false, not, ◌&&◌, List, [], ◌∷◌, refl, sym, subst}
+use Rattle.std.proofs.Common.{◌≡◌, Bool, true, false, not, List, [], ◌∷◌, sym, subst}
 use Rattle.std.specs.List.{All, AllByRecursion, list_all}
-use Rattle.std.proofs.lemmas.Bool.{not-true}
+use Rattle.std.proofs.lemmas.Bool.{not-true, and_parts}
 use Rattle.std.proofs.lemmas.List.Elements.{All-cons}
 use Rattle.std.proofs.lemmas.Map.Keys.{IsDistinct-cons}
 use Rattle.gov_ids.specs.declared.ActionId.{ActionId}
@@ -12,21 +12,14 @@ use Rattle.gov_model.specs.Ratified.{ids_of}
 use Rattle.maps.specs.Maps.{IsMap}
 use Rattle.pass_replay.proofs.proposals.inserted.Goals as goal
 
-left_of : (a b : Bool) → (a && b) ≡ true → a ≡ true
-left_of true b h = refl
-left_of false b h = cc
-
-right_of : (a b : Bool) → (a && b) ≡ true → b ≡ true
-right_of true b h = h
-right_of false b h = cc
-
 -- a new id is none of theirs
 apart : (id : ActionId) (ps : List Proposal) → list_all (λ (p : Proposal). not (same_action id p.id)) ps ≡ true
     → AllByRecursion (λ (k : ActionId). same_action id k ≡ false) (ids_of ps)
 apart id [] h = tt
 apart id (p ∷ ps) h =
     let rest : Bool = list_all (λ (q : Proposal). not (same_action id q.id)) ps in
-    (not-true (same_action id p.id) (left_of (not (same_action id p.id)) rest h), apart id ps (right_of (not (same_action id p.id)) rest h))
+    let parts = and_parts (not (same_action id p.id)) rest h in
+    (not-true (same_action id p.id) parts.0, apart id ps parts.1)
 
 abbrev IsOrdered : Proposal → Type 0
 IsOrdered a = IsMap voter_cmp a.votes

@@ -3,11 +3,12 @@ use Rattle.std.specs.List.{AllByRecursion}
 use Rattle.gov_ids.specs.declared.assets.AssetId.{AssetId}
 use Rattle.gov_ids.specs.Orders.{asset_cmp}
 use Rattle.gov_ids.proofs.Totals.{asset_total}
+use Rattle.maps.proofs.Placed.{set_value-with_value}
 use Rattle.maps.specs.Maps.{with_value}
 use Rattle.assets.specs.Quantities.{quantity_of}
 use Rattle.assets.specs.Totals.{AreTotals, total_at}
 use Rattle.assets.proofs.Sums.{AreTotals-with_value, AreTotals-without_key, total_at-bounded, total_at-less, total_at-none}
-use Rattle.assets.proofs.Values.{all-with_value, all-without_key, written_is}
+use Rattle.assets.proofs.Values.{all-with_value, all-without_key}
 use Rattle.assets.proofs.totals.AssetTotals.lower.Goals as goal
 
 pub invariant_of-self : goal.invariant_of-self
@@ -29,7 +30,7 @@ returns-then-left-eq0-clause-sound c = subst (λ (ts : List (AssetId × ℕ)). A
 written : (c : goal.After-self-in-Some-1) → (c.get_mut.follows.lender (c.total.result - c.from.result)).entries ≡ with_value asset_cmp c.args.asset.now (c.total.result - c.from.result) c.self.inside.totals.entries
 written c =
     (c.get_mut.follows.holds (c.total.result - c.from.result)).0
-    ∙ written_is asset_total c.args.asset.now (c.total.result - c.from.result) _ c.self.inside.totals.entries c.self.invariant.0.0 (sym c.in-Some.ensures.value)
+    ∙ set_value-with_value asset_total c.args.asset.now (c.total.result - c.from.result) _ c.self.inside.totals.entries c.self.invariant.0.0 (sym c.in-Some.ensures.value)
 
 sound : (c : goal.After-self-in-Some-1) → AreTotals (c.get_mut.follows.lender (c.total.result - c.from.result)).entries
 sound c = subst (λ (ts : List (AssetId × ℕ)). AreTotals ts) (sym (written c)) (AreTotals-with_value c.args.asset.now (c.total.result - c.from.result) c.self.inside.totals.entries c.self.invariant.0 (omega (arith, c.if-left-eq0.false)))

@@ -1,8 +1,9 @@
 use Rattle.std.proofs.Common.{◌≡◌, ℕ, List, ap, subst, sym, ◌∙◌, arith}
 use Rattle.maps.proofs.Kept.{IsMap-with_value}
+use Rattle.maps.proofs.Placed.{set_value-with_value}
 use Rattle.maps.specs.Maps.{IsMap, with_value}
 use Rattle.coin_frac.specs.Totals.{total_of}
-use Rattle.coin_frac.proofs.Totals.{set_value-with_value, total_of-with_value, total_of-without_key}
+use Rattle.coin_frac.proofs.Totals.{total_of-with_value, total_of-without_key}
 use Rattle.coin_frac.proofs.total_map.TotalMap.set.Given.{Over}
 use Rattle.coin_frac.proofs.total_map.TotalMap.set.Goals as goal
 

@@ -1,20 +1,13 @@
-use Rattle.std.proofs.Common.{◌≡◌, ◌&&◌, Bool, true, false, cond, Option, Some, refl, ap, sym, ◌∙◌}
+use Rattle.std.proofs.Common.{◌≡◌, true, false, cond, Option, Some, ap, sym, ◌∙◌}
 use Rattle.gov_ids.specs.Orders.{credential_cmp}
 use Rattle.gov_ids.specs.Same.{same_credential}
 use Rattle.gov_actions.specs.declared.state.HotState.{HotState}
 use Rattle.gov_model.specs.Hot.{is_hot_key}
+use Rattle.maps.proofs.Joined.{and_false, and_true}
 use Rattle.maps.specs.Maps.{without_member}
 use Rattle.committee_book.specs.Holders.{held_at, is_left}
 use Rattle.committee_book.proofs.Holding.{left_by}
 use Rattle.committee_book.proofs.holders.Holders.leave.Goals as goal
-
-and_true : (b : Bool) → (b && true) ≡ b
-and_true true = refl
-and_true false = refl
-
-and_false : (b : Bool) → (b && false) ≡ false
-and_false true = refl
-and_false false = refl
 
 pub returns-then-not-is_hot_key : goal.returns-then-not-is_hot_key
 returns-then-not-is_hot_key c = λ h.

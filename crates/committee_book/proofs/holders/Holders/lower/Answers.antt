@@ -8,9 +8,10 @@ use Rattle.gov_ids.specs.contracts.CredentialOrd.TheImpl as credential_ord
 use Rattle.gov_ids.specs.Derived.{credential_is}
 use Rattle.gov_ids.specs.Orders.{credential_cmp}
 use Rattle.gov_ids.specs.Same.{same_credential}
+use Rattle.maps.proofs.Joined.{chosen_last}
 use Rattle.maps.specs.Maps.{value_at, without_member}
 use Rattle.committee_book.specs.Holders.{held_at, held_in}
-use Rattle.committee_book.proofs.Holding.{Held, IsChanged, changed_by, changed_none, written_last}
+use Rattle.committee_book.proofs.Holding.{Held, IsChanged, changed_by, changed_none}
 use Rattle.committee_book.proofs.holders.Holders.lower.Goals as goal
 
 pub returns-in_default : goal.returns-in_default
@@ -53,7 +54,7 @@ returns-then-is_empty c =
     let gone = λ (q : Credential). subst (λ (cmp : Credential → Credential → Ordering). value_at cmp new q ≡ cond (eq_by_cmp cmp hot q) None (value_at cmp middle q)) credential_is (c.remove-emptied.ensures.updates.0 q) in
     subst (λ (old : Held). IsChanged hot without old new) c.self.view_is
     (changed_by hot without es new None
-    (λ q. gone q ∙ ap (λ (o : Option (BTreeSet Credential)). cond (same_credential hot q) None o) (found q) ∙ written_last (same_credential hot q) None (Some c.remove.new.self) (value_at credential_cmp es q))
+    (λ q. gone q ∙ ap (λ (o : Option (BTreeSet Credential)). cond (same_credential hot q) None o) (found q) ∙ chosen_last (same_credential hot q) None (Some c.remove.new.self) (value_at credential_cmp es q))
     (sym empty ∙ left))
 
 pub returns-else-is_empty : goal.returns-else-is_empty

@@ -9,9 +9,10 @@ use Rattle.gov_ids.specs.declared.Credential.{Credential}
 use Rattle.gov_ids.specs.contracts.CredentialOrd.TheImpl as credential_ord
 use Rattle.gov_ids.specs.Derived.{credential_is}
 use Rattle.gov_ids.specs.Orders.{credential_cmp}
+use Rattle.maps.proofs.Joined.{on_err}
 use Rattle.maps.specs.Maps.{value_at, with_key}
 use Rattle.committee_book.specs.Holders.{held_in}
-use Rattle.committee_book.proofs.Holding.{Held, IsChanged, at_err, changed_by}
+use Rattle.committee_book.proofs.Holding.{Held, IsChanged, changed_by}
 use Rattle.committee_book.proofs.holders.Holders.put.Goals as goal
 
 pub returns-in_err-insert-clause-err : goal.returns-in_err-insert-clause-err
@@ -19,7 +20,7 @@ returns-in_err-insert-clause-err c =
     let test = is_at (credential_ord.cmp-value.it c.args.hot) in
     let es = c.self.inside.holders.entries in
     let same : c.insert.new.self ≡ c.in-Some.cold_keys.now = λ i. record { keys = c.in_err-insert.ensures.err i } in
-    at_err c.from_residual.result (
+    on_err c.from_residual.result (
     (c.get_mut.follows.holds c.insert.new.self).0
     ∙ ap (λ (s : BTreeSet Credential). set_value test es s) same ∙ set_value_same test es c.in-Some.cold_keys.now (sym c.in-Some.ensures.value)
     ∙ c.self.view_is

@@ -4,10 +4,11 @@ use Rattle.gov_ids.specs.Orders.{pool_cmp}
 use Rattle.gov_ids.proofs.Exacts.{pool_exact}
 use Rattle.gov_ids.proofs.Totals.{pool_total}
 use Rattle.book_records.specs.declared.pool.Pool.{Pool}
+use Rattle.maps.proofs.Joined.{on_err}
 use Rattle.maps.specs.Maps.{has_key, without_key}
 use Rattle.maps.specs.Replaced.{with_option}
 use Rattle.draft_changes.specs.ChangedPools.{ChangedPools, IsOver, covered_by}
-use Rattle.draft_changes.proofs.Covering.{at_err, covered_more, covered_put, covered_undone, on_err, on_ok}
+use Rattle.draft_changes.proofs.Covering.{covered_more, covered_put, covered_undone, from_err, from_ok}
 use Rattle.draft_changes.proofs.pool_changes.PoolChanges.set.Goals as goal
 
 pub returns-then-is_some-clause-over : goal.returns-then-is_some-clause-over
@@ -20,7 +21,7 @@ returns-then-is_some-clause-over c =
 
 -- where memory ran out, nothing is changed and what is covered is as before
 same : (c : goal.After-forget) → c.restore-put.new.self ≡ c.self.inside.entries
-same c = on_err c.restore-put.result (sym c.is_err.ensures.value ∙ c.if-is_err.true) c.restore-put.ensures.err
+same c = from_err c.restore-put.result (sym c.is_err.ensures.value ∙ c.if-is_err.true) c.restore-put.ensures.err
 
 undone : (c : goal.After-forget) → c.forget.new.self ≡ covered_by c.self.inside.entries c.args.book.now
 undone c =
@@ -40,7 +41,7 @@ pub returns-then-is_err-clause-err : goal.returns-then-is_err-clause-err
 returns-then-is_err-clause-err c =
     let book = c.args.book.now in
     let over : c.self.inside.covered ≡ covered_by c.self.inside.entries book = subst (λ (x : ChangedPools). IsOver book x) (sym c.self.view_is) c.requires.over in
-    at_err c.restore-put.result ((λ i. record { entries = same c i; covered = (undone c ∙ sym over) i }) ∙ c.self.view_is)
+    on_err c.restore-put.result ((λ i. record { entries = same c i; covered = (undone c ∙ sym over) i }) ∙ c.self.view_is)
 
 pub returns-else-is_err-clause-over : goal.returns-else-is_err-clause-over
 returns-else-is_err-clause-over c =
@@ -48,7 +49,7 @@ returns-else-is_err-clause-over c =
     let book = c.args.book.now in
     let p = c.args.p in
     let over : c.self.inside.covered ≡ covered_by changed book = subst (λ (x : ChangedPools). IsOver book x) (sym c.self.view_is) c.requires.over in
-    let put = on_ok c.restore-put.result (sym c.is_err.ensures.value ∙ c.if-is_err.false) c.restore-put.ensures.ok in
+    let put = from_ok c.restore-put.result (sym c.is_err.ensures.value ∙ c.if-is_err.false) c.restore-put.ensures.ok in
     c.in_ok-restore.ensures.ok
     ∙ (λ i. with_option pool_cmp p (c.get-2.ensures.value i) (over i))
     ∙ covered_more pool_total p c.args.pool changed pool_exact book c.get-2.ensures.in_order

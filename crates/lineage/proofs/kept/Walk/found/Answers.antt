@@ -1,10 +1,11 @@
 use Rattle.std.proofs.Common.{◌≡◌, ◌∙◌, ◌<◌, ◌+◌, ◌++◌, Some, None, List, ap, sym, drop, filter, length, arith}
 use Rattle.std.specs.List.{slice_get}
 use Rattle.std.specs.Option.{option_copied}
+use Rattle.maps.proofs.Lists.{never_past}
 use Rattle.gov_ids.specs.declared.ActionId.{ActionId}
 use Rattle.gov_model.specs.Ratified.{ids_of}
 use Rattle.lineage.specs.Walks.{is_found}
-use Rattle.lineage.proofs.Finding.{found_more, never_past}
+use Rattle.lineage.proofs.Finding.{found_more}
 use Rattle.lineage.proofs.kept.Walk.found.Goals.{in-Some+in_ok-add_found, in_default}
 use Rattle.lineage.proofs.kept.Walk.found.Goals as goal
 

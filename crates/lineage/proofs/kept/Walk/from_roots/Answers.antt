@@ -1,8 +1,9 @@
 use Rattle.std.proofs.Common.{◌≡◌, ◌∙◌, ◌<◌, ◌+◌, Some, None, ap, sym, drop, filter, fold, length, arith}
 use Rattle.std.specs.List.{slice_get}
 use Rattle.std.specs.Option.{option_copied}
+use Rattle.maps.proofs.Lists.{never_past}
 use Rattle.lineage.specs.Walks.{Reach, is_left, noted}
-use Rattle.lineage.proofs.Finding.{never_past, noted_more}
+use Rattle.lineage.proofs.Finding.{noted_more}
 use Rattle.lineage.proofs.kept.Walk.from_roots.Goals.{in-Some+in_ok-note_left, in_default}
 use Rattle.lineage.proofs.kept.Walk.from_roots.Goals as goal
 

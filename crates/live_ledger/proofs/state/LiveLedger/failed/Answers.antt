@@ -1,11 +1,12 @@
 use Rattle.std.proofs.Common.{◌≡◌, ◌-◌, arith, sym, subst, ap, ◌∙◌}
+use Rattle.tx_records.proofs.Parts.{tx_parts}
 use Rattle.ledger_model.specs.Ledger.{Ledger}
 use Rattle.ledger_model.specs.Transaction.{ledger_after_tx}
 use Rattle.ledger_model.specs.UtxoRules.{collateral_left}
 use Rattle.live_ledger.specs.contracts.state.LiveLedger.{the_view}
 use Rattle.live_ledger.specs.Kept.{IsKept}
 use Rattle.live_ledger.specs.Standing.{Standing}
-use Rattle.live_ledger.proofs.Committing.{failing, few_outputs}
+use Rattle.live_ledger.proofs.Committing.{failing}
 use Rattle.live_ledger.proofs.Parts.{failed_parts}
 use Rattle.live_ledger.proofs.state.LiveLedger.failed.Goals as goal
 
@@ -16,7 +17,7 @@ move_collateral-requires c =
     let f = failing l c.args.self.ledger c.args.tx.now e c.self.invariant c.requires.within c.requires.allowed c.requires.failed in
     record {
       in_order = c.self.invariant.sound.outputs;
-      few = few_outputs c.args.tx.now c.requires.within;
+      few = (tx_parts c.args.tx.now c.requires.within).outputs;
       absent = f.absent;
       room = f.room;
       held = omega (arith, f.taken);

@@ -1,6 +1,7 @@
 use Rattle.std.proofs.Common.{◌≡◌, ◌+◌, List, ◌++◌, None, map, arith, sym, subst, ap, ◌∙◌}
 use Rattle.std.specs.List.{AllByRecursion}
 use Rattle.std.specs.Map.{keys_of}
+use Rattle.tx_records.proofs.Parts.{tx_parts}
 use Rattle.book_records.specs.declared.Registered.{Registered}
 use Rattle.book_records.specs.Outputs.{lovelace_in}
 use Rattle.gov_actions.specs.declared.action.Proposal.{Proposal}
@@ -18,7 +19,7 @@ use Rattle.proposal_store.specs.Leaving.{without_votes_of}
 use Rattle.live_ledger.specs.Kept.{IsKept}
 use Rattle.live_ledger.specs.Standing.{Standing}
 use Rattle.live_ledger.specs.Proposed.{IsUnknown}
-use Rattle.live_ledger.proofs.Committing.{few_outputs, few_proposals, passing}
+use Rattle.live_ledger.proofs.Committing.{passing}
 use Rattle.live_ledger.proofs.Parts.{passed_parts}
 use Rattle.live_ledger.proofs.state.LiveLedger.passed.Goals as goal
 
@@ -30,7 +31,7 @@ lay_over-requires c =
 
 -- the outputs are still those of the ledger
 pub apply-requires-clause-few_outputs : goal.apply-requires-clause-few_outputs
-apply-requires-clause-few_outputs c = few_outputs c.args.tx.now c.requires.within
+apply-requires-clause-few_outputs c = (tx_parts c.args.tx.now c.requires.within).outputs
 
 pub apply-requires-clause-absent : goal.apply-requires-clause-absent
 apply-requires-clause-absent c =
@@ -62,7 +63,7 @@ overflow_add-result-in-Ok-apply c =
     omega (arith, p.donation)
 
 pub apply-requires-clause-few_proposals : goal.apply-requires-clause-few_proposals
-apply-requires-clause-few_proposals c = few_proposals c.args.tx.now c.requires.within
+apply-requires-clause-few_proposals c = (tx_parts c.args.tx.now c.requires.within).proposals
 
 pub apply-requires-clause-unknown : goal.apply-requires-clause-unknown
 apply-requires-clause-unknown c =

@@ -5,10 +5,11 @@ use Rattle.std.specs.Map.{set_value}
 use Rattle.std.proofs.lemmas.Map.Steps.{set_value_same}
 use Rattle.gov_ids.specs.declared.ActionId.{ActionId}
 use Rattle.maps.specs.Maps.{value_at}
+use Rattle.maps.proofs.Joined.{on_err}
 use Rattle.maps.proofs.Placed.{value_at_tied}
 use Rattle.proposal_store.specs.declared.families.Parent.{Parent}
 use Rattle.proposal_store.specs.Families.{parent_cmp, ids_at}
-use Rattle.proposal_store.proofs.Index.{on_err, one_more}
+use Rattle.proposal_store.proofs.Index.{one_more}
 use Rattle.proposal_store.proofs.Parents.{parent_total}
 use Rattle.proposal_store.proofs.families.Families.add.Goals as goal
 

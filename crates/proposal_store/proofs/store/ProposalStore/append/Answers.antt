@@ -1,6 +1,7 @@
 use Rattle.std.proofs.Common.{◌≡◌, ℕ, ◌+◌, ◌||◌, List, [], ◌∷◌, ◌++◌, None, ap, sym, subst, ◌∙◌}
 use Rattle.std.specs.List.{IsDistinct}
 use Rattle.std.specs.Map.{keys_of, values_of}
+use Rattle.maps.proofs.Lists.{all_with}
 use Rattle.gov_ids.specs.declared.ActionId.{ActionId}
 use Rattle.gov_ids.specs.declared.Credential.{Credential}
 use Rattle.gov_ids.specs.contracts.ActionIdPartialEq.TheImpl as action_eq
@@ -13,7 +14,7 @@ use Rattle.ledger_model.specs.CertRules.{adds_member}
 use Rattle.proposal_store.specs.Added.{is_marked}
 use Rattle.proposal_store.specs.Store.{IsStore}
 use Rattle.proposal_store.specs.Voted.{AllNoted, IsNoted}
-use Rattle.proposal_store.proofs.Entries.{lookup_finds, values_with, all_with, IsStore-added}
+use Rattle.proposal_store.proofs.Entries.{lookup_finds, values_with, IsStore-added}
 use Rattle.proposal_store.proofs.Noting.{all_noted_more}
 use Rattle.proposal_store.proofs.store.ProposalStore.append.Goals as goal
 

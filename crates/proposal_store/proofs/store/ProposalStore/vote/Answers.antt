@@ -3,6 +3,7 @@ use Rattle.std.specs.HashMap.{HashMap}
 use Rattle.std.specs.Map.{values_of, set_value}
 use Rattle.std.proofs.lemmas.Result.{on_ok_weaker, on_err_weaker}
 use Rattle.std.proofs.lemmas.Map.Steps.{set_value_same}
+use Rattle.maps.proofs.Joined.{on_err}
 use Rattle.gov_ids.specs.declared.ActionId.{ActionId}
 use Rattle.gov_ids.specs.contracts.ActionIdPartialEq.TheImpl as action_eq
 use Rattle.gov_actions.specs.declared.action.Proposal.{Proposal}
@@ -10,7 +11,6 @@ use Rattle.gov_model.specs.Proposals.{proposal_of, with_vote, with_change}
 use Rattle.proposal_store.specs.Changes.{changing}
 use Rattle.proposal_store.specs.Store.{IsStore}
 use Rattle.proposal_store.specs.Voted.{AllNoted}
-use Rattle.proposal_store.proofs.Index.{on_err}
 use Rattle.proposal_store.proofs.Noting.{all_noted_more, all_noted_voted, found_noted}
 use Rattle.proposal_store.proofs.Entries.{lookup_finds}
 use Rattle.proposal_store.proofs.Voting.{values_each, IsStore-voted, change_absent, set_value-each, changing_votes, setting_votes, put_votes, put_ordered, found_ordered}

@@ -9,8 +9,8 @@ use Rattle.gov_ids.specs.declared.Credential.{Credential}
 use Rattle.gov_ids.specs.contracts.CredentialOrd.TheImpl as credential_ord
 use Rattle.gov_ids.specs.Derived.{credential_is}
 use Rattle.gov_ids.specs.Orders.{credential_cmp}
+use Rattle.maps.proofs.Joined.{on_err}
 use Rattle.maps.specs.Maps.{value_at}
-use Rattle.proposal_store.proofs.Index.{on_err}
 use Rattle.proposal_store.proofs.Noting.{Notes, HasOneMore, has_one_more}
 use Rattle.proposal_store.proofs.voted.VotedOn.note.Goals as goal
 
