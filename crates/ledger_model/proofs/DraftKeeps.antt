@@ -37,13 +37,13 @@ IsLiveIn ps a = (b : Proposal) × Contains ps b × (record a { votes = b.votes }
 abbrev pub changed_to : Ledger → Ledger → Ledger
 changed_to d e = record d { dormant = e.dormant; accounts = e.accounts; pools = e.pools; dreps = e.dreps; hot = e.hot; proposals = e.proposals }
 
-pub record IsKept (d e : Ledger) : Type 0 where
+pub record KeepsRest (d e : Ledger) : Type 0 where
   pub maps : HasMaps e
   pub only : changed_to d e ≡ e
   pub ids : ids_of e.proposals ≡ ids_of d.proposals
   pub live : (a : Proposal) → IsLiveIn d.proposals a → IsLiveIn e.proposals a
 
-kept_twice : (d e f : Ledger) → IsKept d e → IsKept e f → IsKept d f
+kept_twice : (d e f : Ledger) → KeepsRest d e → KeepsRest e f → KeepsRest d f
 kept_twice d e f a b =
     record { maps = b.maps; only = ap (λ (x : Ledger). changed_to x f) a.only ∙ b.only; ids = b.ids ∙ a.ids; live = λ x h. b.live x (a.live x h) }
 
@@ -63,11 +63,11 @@ unvoted v [] = refl
 unvoted v (p ∷ ps) = ap (λ (list : List ActionId). p.id ∷ list) (unvoted v ps)
 
 -- a change that leaves the proposals
-maps_alone : (d e : Ledger) → HasMaps e → changed_to d e ≡ e → e.proposals ≡ d.proposals → IsKept d e
+maps_alone : (d e : Ledger) → HasMaps e → changed_to d e ≡ e → e.proposals ≡ d.proposals → KeepsRest d e
 maps_alone d e m o p =
     record { maps = m; only = o; ids = ap (λ (ps : List Proposal). ids_of ps) p; live = λ a h. subst (λ (ps : List Proposal). IsLiveIn ps a) (sym p) h }
 
-cert_keeps : (c : Cert) (d : Ledger) → HasMaps d → IsKept d (changed_by c d)
+cert_keeps : (c : Cert) (d : Ledger) → HasMaps d → KeepsRest d (changed_by c d)
 cert_keeps (AccountReg cred deposit pool drep) d m =
     maps_alone d _ (record { accounts = IsMap-with_value credential_total cred (new_account d pool drep) d.accounts m.accounts; pools = m.pools; dreps = m.dreps; hot = m.hot }) refl refl
 cert_keeps (AccountUnreg cred refund) d m =
@@ -98,38 +98,38 @@ cert_keeps (HotAuth cold key) d m =
 cert_keeps (HotResign cold) d m =
     maps_alone d _ (record { accounts = m.accounts; pools = m.pools; dreps = m.dreps; hot = IsMap-with_value credential_total cold Resigned d.hot m.hot }) refl refl
 
-either_keeps : (b : Bool) (c : Cert) (d : Ledger) → HasMaps d → IsKept d (cond b d (changed_by c d))
+either_keeps : (b : Bool) (c : Cert) (d : Ledger) → HasMaps d → KeepsRest d (cond b d (changed_by c d))
 either_keeps true c d m = maps_alone d d m refl refl
 either_keeps false c d m = cert_keeps c d m
 
-certs_keep : (l : Ledger) (cs : List Cert) (d : Ledger) → HasMaps d → IsKept d (fold (draft_with l) d cs)
+certs_keep : (l : Ledger) (cs : List Cert) (d : Ledger) → HasMaps d → KeepsRest d (fold (draft_with l) d cs)
 certs_keep l [] d m = maps_alone d d m refl refl
 certs_keep l (c ∷ cs) d m =
-    let first : IsKept d (draft_with l d c) = either_keeps (is_refused l d c) c d m in
+    let first : KeepsRest d (draft_with l d c) = either_keeps (is_refused l d c) c d m in
     kept_twice d (draft_with l d c) (fold (draft_with l) (draft_with l d c) cs) first (certs_keep l cs (draft_with l d c) first.maps)
 
 module _ (tx : Tx) where
-  withdrawn_keeps : (d : Ledger) → HasMaps d → IsKept d (withdrawn tx d)
+  withdrawn_keeps : (d : Ledger) → HasMaps d → KeepsRest d (withdrawn tx d)
   withdrawn_keeps d m =
       maps_alone d _ (record { accounts = IsMap-changed_where credential_cmp (λ c r. is_withdrawn tx c) emptied d.accounts m.accounts; pools = m.pools; dreps = m.dreps; hot = m.hot }) refl refl
 
-  voters_keep : (d : Ledger) → HasMaps d → IsKept d (voters_refreshed tx d)
+  voters_keep : (d : Ledger) → HasMaps d → KeepsRest d (voters_refreshed tx d)
   voters_keep d m =
       maps_alone d _ (record { accounts = m.accounts; pools = m.pools; dreps = IsMap-changed_where credential_cmp (λ c x. has_voted tx c) (having_acted d) d.dreps m.dreps; hot = m.hot }) refl refl
 
-  dormant_keeps : (d : Ledger) → HasMaps d → IsKept d (dormant_added d)
+  dormant_keeps : (d : Ledger) → HasMaps d → KeepsRest d (dormant_added d)
   dormant_keeps d m =
       maps_alone d _ (record { accounts = m.accounts; pools = m.pools; dreps = IsMap-changed_where credential_cmp (λ c x. is_kept_active d.epoch d.dormant x) (extended d.dormant) d.dreps m.dreps; hot = m.hot }) refl refl
 
-  refresh_keeps : (b : Bool) (d : Ledger) → HasMaps d → IsKept d (voters_refreshed tx (cond b d (dormant_added d)))
+  refresh_keeps : (b : Bool) (d : Ledger) → HasMaps d → KeepsRest d (voters_refreshed tx (cond b d (dormant_added d)))
   refresh_keeps true d m = voters_keep d m
   refresh_keeps false d m =
       let first = dormant_keeps d m in kept_twice d (dormant_added d) (voters_refreshed tx (dormant_added d)) first (voters_keep (dormant_added d) first.maps)
 
-  pub draft_keeps : (l : Ledger) (k : ℕ) → HasMaps l → IsKept l (draft_after l tx k)
+  pub draft_keeps : (l : Ledger) (k : ℕ) → HasMaps l → KeepsRest l (draft_after l tx k)
   draft_keeps l k m =
       let d : Ledger = withdrawn tx l in
-      let a : IsKept l d = withdrawn_keeps l m in
-      let b : IsKept d (refreshed tx d) = refresh_keeps (is_empty tx.proposals) d a.maps in
-      let c : IsKept (refreshed tx d) (draft_after l tx k) = certs_keep l (take k tx.certs) (refreshed tx d) b.maps in
+      let a : KeepsRest l d = withdrawn_keeps l m in
+      let b : KeepsRest d (refreshed tx d) = refresh_keeps (is_empty tx.proposals) d a.maps in
+      let c : KeepsRest (refreshed tx d) (draft_after l tx k) = certs_keep l (take k tx.certs) (refreshed tx d) b.maps in
       kept_twice l d (draft_after l tx k) a (kept_twice d (refreshed tx d) (draft_after l tx k) b c)

@@ -31,7 +31,7 @@ use Rattle.ledger_model.specs.Moves.{IsMovedBy, held_in}
 use Rattle.ledger_model.specs.Transaction.{after_passed, after_scripts, kept_output, last_voting_epoch, made_proposal, made_proposals, with_votes}
 use Rattle.ledger_model.specs.Sound.{IsSound}
 use Rattle.tx_balance.specs.Laws.{PassedBalances, HasOwnWithdrawals}
-use Rattle.ledger_model.proofs.DraftKeeps.{HasMaps, IsKept, draft_keeps}
+use Rattle.ledger_model.proofs.DraftKeeps.{HasMaps, KeepsRest, draft_keeps}
 use Rattle.ledger_model.proofs.Unbroken.{IsUnbroken, unbroken-append, unbroken-cons}
 use Rattle.ledger_model.proofs.FlowSums.{is_end, sum-cons, sum-append, sum-map}
 use Rattle.ledger_model.proofs.SameSums.{sum_by-map, sum_values-changed_same}
@@ -167,7 +167,7 @@ module _ (l : Ledger) (tx : Tx) where
   passed_moves s own p b =
       let maps : HasMaps l = record { accounts = s.accounts; pools = s.pools; dreps = s.dreps; hot = s.hot } in
       let refresh = refresh_moves tx emptied_ledger in
-      let kept : IsKept l last = draft_keeps tx l (length tx.certs) maps in
+      let kept : KeepsRest l last = draft_keeps tx l (length tx.certs) maps in
       let moves : IsMovedDraft certified (draft_after l tx 0) last = certs_move l tx maps [] tx.certs refl b.certs in
       let dep : AreDeposits certified = all_deposits l tx maps 0 tx.certs in
       let taken_sum = withdrawn_rewards s own b in

@@ -29,7 +29,7 @@ use Rattle.ledger_model.specs.UtxoRules.{is_failed}
 use Rattle.ledger_model.specs.Broken.{is_allowed}
 use Rattle.ledger_model.specs.Sound.{IsSound}
 use Rattle.ledger_model.specs.Transaction.{after_failed, after_passed, after_scripts, kept_output, last_voting_epoch, ledger_after_tx, made_outputs, made_proposals, made_return, votes_on, with_votes}
-use Rattle.ledger_model.proofs.DraftKeeps.{IsKept, IsLiveIn, draft_keeps, live_map}
+use Rattle.ledger_model.proofs.DraftKeeps.{KeepsRest, IsLiveIn, draft_keeps, live_map}
 use Rattle.tx_balance.specs.Laws.{AllowedStaysSound, AllowedKeepsSupply, HasOwnWithdrawals}
 use Rattle.tx_balance.proofs.Failed.{failed_balances}
 use Rattle.tx_balance.proofs.Outputs.{made_not_there}
@@ -84,7 +84,7 @@ module _ (l : Ledger) (tx : Tx) (s : IsSound l) where
   abbrev last : Ledger
   last = last_draft l tx
 
-  pub kept : IsKept l last
+  pub kept : KeepsRest l last
   kept = draft_keeps tx l (length tx.certs) (record { accounts = s.accounts; pools = s.pools; dreps = s.dreps; hot = s.hot })
 
   passed_sound : IsSound (after_passed l tx)
@@ -136,7 +136,7 @@ pub record IsSteady (l m : Ledger) : Type 0 where
 passed_steady : (l : Ledger) (tx : Tx) → IsSound l → IsSteady l (after_passed l tx)
 passed_steady l tx s =
     let d : Ledger = last_draft l tx in
-    let k : IsKept l d = kept l tx s in
+    let k : KeepsRest l d = kept l tx s in
     let m : Ledger = after_passed l tx in
     record {
       only = ap (λ (x : Ledger). record x { outputs = m.outputs; used = m.used; proposals = m.proposals; fees = m.fees; donations = m.donations }) k.only;
