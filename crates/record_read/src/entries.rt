@@ -168,9 +168,9 @@ impl Kind for Member {
 }
 
 /// The members of a committee.
-struct Members;
+struct CommitteeMembers;
 
-impl Kind for Members {
+impl Kind for CommitteeMembers {
     type Entry = Listed<(Credential, u64, Option<Credential>)>;
 
     ghost use Rattle.json_fields.specs.Entries.{without_place};
@@ -204,7 +204,7 @@ impl Kind for Committee {
     #[tactic(auto, unfolding(crate::specs::Entries::committee_in))]
     fn read(alloc: Global, value: &Value<'_>) -> Result<GenesisCommittee, FieldFault> {
         let threshold = needed::<coin_frac::Unit>(alloc, value, "threshold")?;
-        let members = needed::<Members>(alloc, value, "members")?;
+        let members = needed::<CommitteeMembers>(alloc, value, "members")?;
         Ok(GenesisCommittee { threshold, members })
     }
 }

@@ -18,11 +18,11 @@ use state_lines::StateLine;
 
 /// The members of a committee.
 #[derive(Drop)]
-struct Members<'a> {
+struct CommitteeMembers<'a> {
     hot: &'a HotBook,
 }
 
-impl<'a> ItemLines for Members<'a> {
+impl<'a> ItemLines for CommitteeMembers<'a> {
     ghost use Rattle.std.specs.Prelude.{[], ◌∷◌};
     ghost use Rattle.text_model.specs.StateLines.{member_among};
 
@@ -100,7 +100,7 @@ fn put_members<T: LineTaker>(
                 to,
                 text,
                 line,
-                &Members { hot },
+                &CommitteeMembers { hot },
                 committee.members.as_slice(),
             )
         }
