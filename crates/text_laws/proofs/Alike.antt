@@ -1,7 +1,7 @@
 -- Pulses do not show in texts: two Worlds that differ in what was counted give the same lines but for it, and stay the same but for it.
-use Rattle.std.proofs.Common.{◌≡◌, ◌⊎◌, inl, inr, ℕ, ◌+◌, ◌==◌, ◌<◌, List, [], ◌∷◌, ◌++◌, Bool, true, false, Option, Some, None, codes, nat_le, nat_lt, append_assoc, subst, refl, ap, sym, arith, ◌∙◌}
+use Rattle.std.proofs.Common.{◌≡◌, inl, inr, ℕ, ◌+◌, ◌==◌, List, [], ◌∷◌, ◌++◌, Bool, true, false, Option, Some, None, codes, nat_le, nat_lt, append_assoc, subst, refl, ap, sym}
 use Rattle.std.specs.List.{AllZip}
-use Rattle.std.proofs.lemmas.Bool.{eqb-true}
+use Rattle.run_laws.proofs.Pulses.{zero_same}
 use Rattle.tx_records.specs.declared.genesis.Genesis.{Genesis}
 use Rattle.tx_records.specs.declared.genesis.GenesisRule.{GenesisRule}
 use Rattle.tx_records.specs.declared.record.Reading.{Reading}
@@ -156,15 +156,6 @@ same_reading : (n : ℕ) (w : World) (x : Reading) → AreAlike n w x x
 same_reading n w (Read r) = same_record n w r
 same_reading n w (Malformed field place) = ((inl refl, tt), refl)
 same_reading n w TooLong = ((inl refl, tt), refl)
-
--- positive pulses are refused alike
-not_zero : (b : Bool) (n : ℕ) → 0 < n → (n == 0) ≡ b → b ≡ false
-not_zero true n h e = absurd (omega (arith, h, eqb-true n 0 e))
-not_zero false n h e = refl
-
-zero_same : (p q : ℕ) → (p ≡ q) ⊎ ((0 < p) × (0 < q)) → (p == 0) ≡ (q == 0)
-zero_same p q (inl e) = ap (λ n. n == 0) e
-zero_same p q (inr both) = not_zero (p == 0) p both.0 refl ∙ sym (not_zero (q == 0) q both.1 refl)
 
 -- readings that are the same but for a pulse are the same, or two blocks; so what holds of these holds of them
 by_kind : (P : Reading → Reading → Type 0) → ((x : Reading) → P x x)
