@@ -144,24 +144,18 @@ impl AccountChanges {
         names_of(alloc, &self.left)
     }
 
-    /// The book with these changes, none of which raises a balance; `left` are the DReps that left. It walks the accounts of the book where there are any, and else the changed ones alone.
-    pub fn lay_over(self, stake: StakeBook, left: &[Credential]) -> Result<StakeBook, NoMemory>
-        requires in_order { IsMap credential_cmp (accounts_of stake) }
-        requires room { HasRoom 0 stake }
-        requires lower { NoneRises self.accounts (without_dreps self.left (accounts_of stake)) }
+    /// Lays these changes over the book, none of which raises a balance; `left` are the DReps that left. It walks the accounts of the book where there are any, and else the changed ones alone. After want of memory the caller drops the book.
+    pub fn lay_over(self, stake: &mut StakeBook, left: &[Credential]) -> Result<(), NoMemory>
+        requires in_order { IsMap credential_cmp (accounts_of stake.old) }
+        requires room { HasRoom 0 stake.old }
+        requires lower { NoneRises self.accounts (without_dreps self.left (accounts_of stake.old)) }
         requires left { left.now ≡ self.left }
-        ensures accounts { IfOk result (λ after. accounts_of after ≡
-            with_registrations self.accounts (without_dreps self.left (accounts_of stake))) }
-        ensures rest { IfOk result (λ after. KeepsOutputs stake after) }
+        ensures accounts { OnOk result (accounts_of stake.new ≡
+            with_registrations self.accounts (without_dreps self.left (accounts_of stake.old))) }
+        ensures rest { OnOk result (KeepsOutputs stake.old stake.new) }
     {
-        match without_left(stake, left) {
-            Ok(stake) => with_accounts(stake, self.entries, &self.left),
-            Err(error) => {
-                // let go in one call: a `?` would prove it part by part
-                drop(self);
-                Err(error)
-            }
-        }
+        take_left(stake, left)?;
+        put_accounts(stake, self.entries, &self.left)
     }
 }
 
@@ -173,41 +167,39 @@ fn names_of(alloc: Global, left: &BTreeMap<Credential, u64>) -> Result<Vec<Crede
     Ok(names)
 }
 
-/// The book without the delegations to the DReps that left.
-fn without_left(stake: StakeBook, left: &[Credential]) -> Result<StakeBook, NoMemory>
-    requires in_order { IsMap credential_cmp (accounts_of stake) }
-    requires room { HasRoom 0 stake }
-    ensures accounts { IfOk result (λ after. accounts_of after ≡ without_dreps left.now (accounts_of stake)) }
-    ensures in_order { IfOk result (λ after. IsMap credential_cmp (accounts_of after)) }
-    ensures room { IfOk result (λ after. HasRoom 0 after) }
-    ensures rest { IfOk result (λ after. KeepsOutputs stake after) }
+/// Ends the delegations to the DReps that left.
+fn take_left(stake: &mut StakeBook, left: &[Credential]) -> Result<(), NoMemory>
+    requires in_order { IsMap credential_cmp (accounts_of stake.old) }
+    requires room { HasRoom 0 stake.old }
+    ensures accounts { OnOk result (accounts_of stake.new ≡ without_dreps left.now (accounts_of stake.old)) }
+    ensures in_order { OnOk result (IsMap credential_cmp (accounts_of stake.new)) }
+    ensures room { OnOk result (HasRoom 0 stake.new) }
+    ensures rest { OnOk result (KeepsOutputs stake.old stake.new) }
 {
     if left.is_empty() {
-        return Ok(stake);
+        return Ok(());
     }
-    let mut stake = stake;
     stake.clear_dreps(left)?;
     // its accounts stand in order, and there is room
     let _kept = stake.book();
-    Ok(stake)
+    Ok(())
 }
 
-/// The book with these registrations as they stand, none of which raises a balance.
-fn with_accounts(
-    stake: StakeBook,
+/// Puts these registrations as they stand, none of which raises a balance.
+fn put_accounts(
+    stake: &mut StakeBook,
     changed: BTreeMap<Credential, Written>,
     left: &BTreeMap<Credential, u64>,
-) -> Result<StakeBook, NoMemory>
-    requires in_order { IsMap credential_cmp (accounts_of stake) }
-    requires room { HasRoom 0 stake }
-    requires lower { NoneRises (standing_of left.now.entries changed.entries) (accounts_of stake) }
-    ensures accounts { IfOk result (λ after. accounts_of after ≡
-        with_registrations (standing_of left.now.entries changed.entries) (accounts_of stake)) }
-    ensures rest { IfOk result (λ after. KeepsOutputs stake after) }
+) -> Result<(), NoMemory>
+    requires in_order { IsMap credential_cmp (accounts_of stake.old) }
+    requires room { HasRoom 0 stake.old }
+    requires lower { NoneRises (standing_of left.now.entries changed.entries) (accounts_of stake.old) }
+    ensures accounts { OnOk result (accounts_of stake.new ≡
+        with_registrations (standing_of left.now.entries changed.entries) (accounts_of stake.old)) }
+    ensures rest { OnOk result (KeepsOutputs stake.old stake.new) }
 {
-    let mut stake = stake;
     for (credential, written) in changed {
         stake.set_account(credential, standing(left, written.number, written.to))?;
     }
-    Ok(stake)
+    Ok(())
 }

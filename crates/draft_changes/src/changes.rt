@@ -1,4 +1,4 @@
-ghost use Rattle.std.specs.Prelude.{◌≡◌, IfOk, map};
+ghost use Rattle.std.specs.Prelude.{◌≡◌, OnOk, map};
 ghost use Rattle.book_records.specs.Dormancy.{AllFit};
 ghost use Rattle.gov_ids.specs.Orders.{credential_cmp, pool_cmp};
 ghost use Rattle.draft_changes.specs.Balances.{KeepsOutputs, NoneRises};
@@ -13,8 +13,9 @@ use crate::account_changes::AccountChanges;
 use crate::drep_changes::DrepChanges;
 use crate::hot_changes::HotChanges;
 use crate::pool_changes::PoolChanges;
-use crate::voters::{VoterChanges, Voters};
+use crate::voters::VoterChanges;
 use coin_frac::NoMemory;
+use ledger_books::Books;
 use proposal_store::ProposalStore;
 use stake_book::StakeBook;
 use std::alloc::Global;
@@ -52,93 +53,51 @@ impl Changes {
         }
     }
 
-    /// The books of an epoch with these changes. No change raises a balance, so there is room for all. After want of memory there are no books. (Own)
-    pub fn lay_over(
-        self,
-        alloc: Global,
-        epoch: u64,
-        stake: StakeBook,
-        proposals: ProposalStore,
-        voters: Voters,
-    ) -> Result<(StakeBook, ProposalStore, Voters), NoMemory>
-        requires stake { IsMap credential_cmp (accounts_of stake) × HasRoom 0 stake }
-        requires lower { NoneRises self.accounts (without_dreps self.left (accounts_of stake)) }
-        requires fit { AllFit voters.dreps.dormant voters.dreps.dreps }
-        ensures accounts { IfOk result (λ after. accounts_of after.0 ≡
-            with_registrations self.accounts (without_dreps self.left (accounts_of stake))) }
-        ensures rest { IfOk result (λ after. KeepsOutputs stake after.0) }
-        ensures proposals { IfOk result (λ after. after.1 ≡ map (without_votes_of self.left) proposals) }
-        ensures pools { IfOk result (λ after. after.2.pools ≡ with_values pool_cmp self.pools voters.pools) }
-        ensures dreps { IfOk result (λ after. after.2.dreps ≡
-            laid_over (record { dreps = self.dreps; refreshed = self.refreshed }) epoch voters.dreps) }
-        ensures hot { IfOk result (λ after. after.2.hot ≡ with_values credential_cmp self.hot voters.hot) }
+    /// Lays these changes over the books. No change raises a balance, so there is room for all. After want of memory the caller drops the books. (Own)
+    pub fn lay_over(self, alloc: Global, b: &mut Books) -> Result<(), NoMemory>
+        requires stake { IsMap credential_cmp (accounts_of b.old.stake) × HasRoom 0 b.old.stake }
+        requires lower { NoneRises self.accounts (without_dreps self.left (accounts_of b.old.stake)) }
+        requires fit { AllFit b.old.dreps.dormant b.old.dreps.dreps }
+        ensures accounts { OnOk result (accounts_of b.new.stake ≡
+            with_registrations self.accounts (without_dreps self.left (accounts_of b.old.stake))) }
+        ensures rest { OnOk result (KeepsOutputs b.old.stake b.new.stake) }
+        ensures proposals { OnOk result (b.new.proposals ≡ map (without_votes_of self.left) b.old.proposals) }
+        ensures pools { OnOk result (b.new.pools ≡ with_values pool_cmp self.pools b.old.pools) }
+        ensures dreps { OnOk result (b.new.dreps ≡
+            laid_over (record { dreps = self.dreps; refreshed = self.refreshed }) b.old.epoch b.old.dreps) }
+        ensures hot { OnOk result (b.new.hot ≡ with_values credential_cmp self.hot b.old.hot) }
+        ensures others { b.new ≡ record b.old {
+          stake = b.new.stake;
+          proposals = b.new.proposals;
+          pools = b.new.pools;
+          dreps = b.new.dreps;
+          hot = b.new.hot;
+        } }
     {
-        match self.voters.lay_over(epoch, voters) {
-            Ok(voters) => match with_accounts(alloc, self.accounts, stake, proposals) {
-                Ok((stake, proposals)) => Ok((stake, proposals, voters)),
-                Err(error) => {
-                    // let go in one call: a `?` would prove it part by part
-                    drop(voters);
-                    Err(error)
-                }
-            },
-            Err(error) => {
-                drop((self.accounts, stake, proposals));
-                Err(error)
-            }
-        }
+        self.voters
+            .lay_over(alloc, b.epoch, &mut b.pools, &mut b.dreps, &mut b.hot)?;
+        lay_accounts_over(alloc, self.accounts, &mut b.stake, &mut b.proposals)
     }
 }
 
-/// The accounts with what changed of them, and the proposals without the votes of the DReps that left.
-fn with_accounts(
+/// Lays what changed of the accounts over their book, and takes the votes of the DReps that left from the proposals.
+fn lay_accounts_over(
     alloc: Global,
     accounts: AccountChanges,
-    stake: StakeBook,
-    proposals: ProposalStore,
-) -> Result<(StakeBook, ProposalStore), NoMemory>
-    requires stake { IsMap credential_cmp (accounts_of stake) × HasRoom 0 stake }
-    requires lower { NoneRises accounts.accounts (without_dreps accounts.left (accounts_of stake)) }
-    ensures accounts { IfOk result (λ after. accounts_of after.0 ≡
-        with_registrations accounts.accounts (without_dreps accounts.left (accounts_of stake))) }
-    ensures rest { IfOk result (λ after. KeepsOutputs stake after.0) }
-    ensures proposals { IfOk result (λ after. after.1 ≡ map (without_votes_of accounts.left) proposals) }
+    stake: &mut StakeBook,
+    proposals: &mut ProposalStore,
+) -> Result<(), NoMemory>
+    requires stake { IsMap credential_cmp (accounts_of stake.old) × HasRoom 0 stake.old }
+    requires lower { NoneRises accounts.accounts (without_dreps accounts.left (accounts_of stake.old)) }
+    ensures accounts { OnOk result (accounts_of stake.new ≡
+        with_registrations accounts.accounts (without_dreps accounts.left (accounts_of stake.old))) }
+    ensures rest { OnOk result (KeepsOutputs stake.old stake.new) }
+    ensures proposals { OnOk result (proposals.new ≡ map (without_votes_of accounts.left) proposals.old) }
 {
     if accounts.is_none() {
-        return Ok((stake, proposals));
+        return Ok(());
     }
-    with_changed_accounts(alloc, accounts, stake, proposals)
-}
-
-/// The same, where an account changed or a DRep left.
-fn with_changed_accounts(
-    alloc: Global,
-    accounts: AccountChanges,
-    stake: StakeBook,
-    proposals: ProposalStore,
-) -> Result<(StakeBook, ProposalStore), NoMemory>
-    requires stake { IsMap credential_cmp (accounts_of stake) × HasRoom 0 stake }
-    requires lower { NoneRises accounts.accounts (without_dreps accounts.left (accounts_of stake)) }
-    ensures accounts { IfOk result (λ after. accounts_of after.0 ≡
-        with_registrations accounts.accounts (without_dreps accounts.left (accounts_of stake))) }
-    ensures rest { IfOk result (λ after. KeepsOutputs stake after.0) }
-    ensures proposals { IfOk result (λ after. after.1 ≡ map (without_votes_of accounts.left) proposals) }
-{
-    match accounts.left(alloc) {
-        Ok(left) => {
-            let mut proposals = proposals;
-            proposals.clear_votes_of(&left);
-            match accounts.lay_over(stake, &left) {
-                Ok(stake) => Ok((stake, proposals)),
-                Err(error) => {
-                    drop(proposals);
-                    Err(error)
-                }
-            }
-        }
-        Err(error) => {
-            drop((accounts, stake, proposals));
-            Err(error)
-        }
-    }
+    let left = accounts.left(alloc)?;
+    proposals.clear_votes_of(&left);
+    accounts.lay_over(stake, &left)
 }

@@ -1,4 +1,4 @@
-ghost use Rattle.std.specs.Prelude.{◌≡◌, ◌+◌, ◌<◌, ◌^◌, [], option_map, if◌then◌else◌, IfOk, OnOk, OnErr};
+ghost use Rattle.std.specs.Prelude.{◌≡◌, ◌+◌, ◌<◌, ◌^◌, [], option_map, if◌then◌else◌, OnOk, OnErr};
 ghost use Rattle.std.specs.Option.{ForSome};
 ghost use Rattle.gov_ids.specs.Orders.{credential_cmp};
 ghost use Rattle.book_records.specs.Dormancy.{AllFit};
@@ -97,32 +97,30 @@ impl DrepChanges {
         self.refreshed = true;
     }
 
-    /// The book with these changes, in an epoch. It walks the DReps of the book where dormant epochs were added, and else the changed ones alone.
-    pub fn lay_over(self, book: DrepBook, epoch: u64) -> Result<DrepBook, NoMemory>
-        requires fit { AllFit book.dormant book.dreps }
-        ensures { IfOk result (λ after. after ≡ laid_over self epoch book) }
+    /// Lays these changes over the book, in an epoch. It walks the DReps of the book where dormant epochs were added, and else the changed ones alone. After want of memory the caller drops the book.
+    pub fn lay_over(self, book: &mut DrepBook, epoch: u64) -> Result<(), NoMemory>
+        requires fit { AllFit book.old.dormant book.old.dreps }
+        ensures { OnOk result (book.new ≡ laid_over self epoch book.old) }
     {
-        let mut book = book;
         if self.refreshed {
             book.refresh(epoch);
         }
-        with_dreps(book, self.entries)
+        put_dreps(book, self.entries)
     }
 }
 
-/// The book with these DReps, and without those that left.
-fn with_dreps(
-    book: DrepBook,
+/// Puts these DReps into the book, and takes those out that left.
+fn put_dreps(
+    book: &mut DrepBook,
     changed: BTreeMap<Credential, Option<DrepState>>,
-) -> Result<DrepBook, NoMemory>
-    ensures { IfOk result (λ after. after ≡ record book { dreps = with_dreps changed.entries book.dreps }) }
+) -> Result<(), NoMemory>
+    ensures { OnOk result (book.new ≡ record book.old { dreps = with_dreps changed.entries book.old.dreps }) }
 {
     if changed.is_empty() {
-        return Ok(book);
+        return Ok(());
     }
-    let mut book = book;
     for (c, to) in changed {
         book.restore(c, to)?;
     }
-    Ok(book)
+    Ok(())
 }

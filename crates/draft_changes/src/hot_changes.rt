@@ -1,4 +1,4 @@
-ghost use Rattle.std.specs.Prelude.{◌≡◌, IfOk, OnOk, OnErr, option_map};
+ghost use Rattle.std.specs.Prelude.{◌≡◌, OnOk, OnErr, option_map};
 ghost use Rattle.std.specs.List.{list_any};
 ghost use Rattle.gov_ids.specs.Orders.{credential_cmp};
 ghost use Rattle.gov_model.specs.Hot.{is_hot_key, is_named, of_members};
@@ -12,6 +12,7 @@ use gov_actions::{Committee, HotState};
 use gov_ids::Credential;
 use std::alloc::Global;
 use std::marker::Model;
+use std::mem;
 
 /// The hot entries that a draft changed, and those of the book before that they cover: counts of both tell whether a hot key is named, so that no entry is walked. (Own)
 #[derive(Drop)]
@@ -107,11 +108,13 @@ impl HotChanges {
         put
     }
 
-    /// The book with these entries.
-    pub fn lay_over(self, book: HotBook) -> Result<HotBook, NoMemory>
-        ensures { IfOk result (λ after. after ≡ with_values credential_cmp self.entries book) }
+    /// Lays these entries over the book. After want of memory the caller drops the book.
+    pub fn lay_over(self, alloc: Global, book: &mut HotBook) -> Result<(), NoMemory>
+        ensures { OnOk result (book.new ≡ with_values credential_cmp self.entries book.old) }
     {
-        book.with_all(self.entries)
+        let before = mem::replace(book, HotBook::new(alloc));
+        *book = before.with_all(self.entries)?;
+        Ok(())
     }
 }
 

@@ -13,4 +13,3 @@ pub use changes::Changes;
 pub use drep_changes::DrepChanges;
 pub use hot_changes::HotChanges;
 pub use pool_changes::PoolChanges;
-pub use voters::Voters;

@@ -1,4 +1,4 @@
-ghost use Rattle.std.specs.Prelude.{◌≡◌, IfOk, OnOk, OnErr};
+ghost use Rattle.std.specs.Prelude.{◌≡◌, OnOk, OnErr};
 ghost use Rattle.gov_ids.specs.Orders.{pool_cmp};
 ghost use Rattle.book_records.specs.Pools.{is_key_of_other};
 ghost use Rattle.draft_changes.specs.ChangedPools.{IsOver, none_changed};
@@ -10,6 +10,7 @@ use coin_frac::NoMemory;
 use gov_ids::PoolId;
 use std::alloc::Global;
 use std::marker::Model;
+use std::mem;
 
 /// The pools that a draft changed, and those of the book before that they cover: counts of both tell whether a pool has a key, so that no pool is walked. (Own)
 #[derive(Drop)]
@@ -86,13 +87,15 @@ impl PoolChanges {
         put
     }
 
-    /// The book with these pools.
-    pub fn lay_over(self, book: PoolBook) -> Result<PoolBook, NoMemory>
-        ensures { IfOk result (λ after. after ≡ with_values pool_cmp self.entries book) }
+    /// Lays these pools over the book. After want of memory the caller drops the book.
+    pub fn lay_over(self, alloc: Global, book: &mut PoolBook) -> Result<(), NoMemory>
+        ensures { OnOk result (book.new ≡ with_values pool_cmp self.entries book.old) }
     {
         if !self.changed {
-            return Ok(book);
+            return Ok(());
         }
-        book.with_all(self.entries)
+        let before = mem::replace(book, PoolBook::new(alloc));
+        *book = before.with_all(self.entries)?;
+        Ok(())
     }
 }

@@ -1,4 +1,4 @@
-ghost use Rattle.std.specs.Prelude.{◌≡◌, IfOk};
+ghost use Rattle.std.specs.Prelude.{◌≡◌, OnOk};
 ghost use Rattle.book_records.specs.Dormancy.{AllFit};
 ghost use Rattle.gov_ids.specs.Orders.{credential_cmp, pool_cmp};
 ghost use Rattle.draft_changes.specs.ChangedDreps.{laid_over};
@@ -11,19 +11,9 @@ use cert_pool::PoolBook;
 use coin_frac::NoMemory;
 use committee_book::HotBook;
 use drep_book::DrepBook;
+use std::alloc::Global;
 
-/// All who can vote. (Own)
-#[derive(Drop)]
-pub struct Voters {
-    /// The registered pools.
-    pub pools: PoolBook,
-    /// The registered DReps and the dormant count.
-    pub dreps: DrepBook,
-    /// The hot keys and resignations of cold keys.
-    pub hot: HotBook,
-}
-
-/// What a draft changes of them.
+/// What a draft changes of all who can vote.
 #[derive(Drop)]
 pub(crate) struct VoterChanges {
     pub(crate) pools: PoolChanges,
@@ -32,58 +22,22 @@ pub(crate) struct VoterChanges {
 }
 
 impl VoterChanges {
-    /// The pools, the DReps and the hot keys of an epoch with these changes.
-    pub(crate) fn lay_over(self, epoch: u64, voters: Voters) -> Result<Voters, NoMemory>
-        requires fit { AllFit voters.dreps.dormant voters.dreps.dreps }
-        ensures pools { IfOk result (λ after. after.pools ≡ with_values pool_cmp self.pools.entries voters.pools) }
-        ensures dreps { IfOk result (λ after. after.dreps ≡ laid_over self.dreps epoch voters.dreps) }
-        ensures hot { IfOk result (λ after. after.hot ≡ with_values credential_cmp self.hot.entries voters.hot) }
+    /// Lays these changes over the pools, the DReps and the hot keys of an epoch. After want of memory the caller drops them.
+    pub(crate) fn lay_over(
+        self,
+        alloc: Global,
+        epoch: u64,
+        pools: &mut PoolBook,
+        dreps: &mut DrepBook,
+        hot: &mut HotBook,
+    ) -> Result<(), NoMemory>
+        requires fit { AllFit dreps.old.dormant dreps.old.dreps }
+        ensures pools { OnOk result (pools.new ≡ with_values pool_cmp self.pools.entries pools.old) }
+        ensures dreps { OnOk result (dreps.new ≡ laid_over self.dreps epoch dreps.old) }
+        ensures hot { OnOk result (hot.new ≡ with_values credential_cmp self.hot.entries hot.old) }
     {
-        with_parts(
-            epoch,
-            self.pools,
-            voters.pools,
-            self.dreps,
-            voters.dreps,
-            self.hot,
-            voters.hot,
-        )
+        self.pools.lay_over(alloc, pools)?;
+        self.dreps.lay_over(dreps, epoch)?;
+        self.hot.lay_over(alloc, hot)
     }
-}
-
-/// The pools, the DReps and the hot keys of an epoch with what changed of them. (They are passed one by one, and few are left where memory can run out: a proof follows the end of each value that is held there)
-fn with_parts(
-    epoch: u64,
-    changed_pools: PoolChanges,
-    pools: PoolBook,
-    changed_dreps: DrepChanges,
-    dreps: DrepBook,
-    changed_hot: HotChanges,
-    hot: HotBook,
-) -> Result<Voters, NoMemory>
-    requires fit { AllFit dreps.dormant dreps.dreps }
-    ensures pools { IfOk result (λ after. after.pools ≡ with_values pool_cmp changed_pools.entries pools) }
-    ensures dreps { IfOk result (λ after. after.dreps ≡ laid_over changed_dreps epoch dreps) }
-    ensures hot { IfOk result (λ after. after.hot ≡ with_values credential_cmp changed_hot.entries hot) }
-{
-    let (dreps, hot) = with_keys(epoch, changed_dreps, dreps, changed_hot, hot)?;
-    let pools = changed_pools.lay_over(pools)?;
-    Ok(Voters { pools, dreps, hot })
-}
-
-/// The DReps and the hot keys of an epoch with what changed of them.
-fn with_keys(
-    epoch: u64,
-    changed_dreps: DrepChanges,
-    dreps: DrepBook,
-    changed_hot: HotChanges,
-    hot: HotBook,
-) -> Result<(DrepBook, HotBook), NoMemory>
-    requires fit { AllFit dreps.dormant dreps.dreps }
-    ensures dreps { IfOk result (λ after. after.0 ≡ laid_over changed_dreps epoch dreps) }
-    ensures hot { IfOk result (λ after. after.1 ≡ with_values credential_cmp changed_hot.entries hot) }
-{
-    let dreps = changed_dreps.lay_over(dreps, epoch)?;
-    let hot = changed_hot.lay_over(hot)?;
-    Ok((dreps, hot))
 }

@@ -16,6 +16,7 @@ use committee_book::HotBook;
 use drep_book::DrepBook;
 use drep_pulser::Pulser;
 use gov_actions::EnactState;
+use listed::Boxed;
 use live_ledger::LiveLedger;
 use proposal_store::ProposalStore;
 use snapshots::{Frozen, Snapshots};
@@ -30,7 +31,7 @@ pub struct LedgerState {
     live: LiveLedger,
     snapshots: Snapshots,
     pending: Option<Rewards>,
-    frozen: Frozen,
+    frozen: Boxed<Frozen>,
     pulser: Pulser,
 }
 
@@ -206,7 +207,7 @@ impl LedgerState {
     pub fn frozen(&self) -> &Frozen
         ensures { result.now ≡ frozen_of self.now.frozen }
     {
-        &self.frozen
+        self.frozen.get()
     }
 
     /// The count of the frozen entries. (The DRep pulser of cardano-ledger)

@@ -251,7 +251,8 @@ fn gives_its_parts_and_takes_them(rt: HostRuntime) -> Result<(), Fail> {
     };
     let books = ledger.into_books(no_stakes(rt.alloc()), None);
     assert!(rt; books.length == 2 && books.reserves == 7 && books.snapshots.fees == 4);
-    let (ledger, snapshots, pending) = LiveLedger::of_books(rt.alloc(), books);
+    let held = Box::new(rt.alloc(), books)?;
+    let (ledger, snapshots, pending) = LiveLedger::of_books(rt.alloc(), held);
     let ledger = ledger.at_slot(9);
     let numbers = [90, 0, 0, 0, 0, 3, 7, 0, 9, 100, 2, 1, 7, 3, 0, 0, 18];
     assert!(rt; numbers_of(&ledger).as_slice() == numbers.as_slice());

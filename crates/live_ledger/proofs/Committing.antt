@@ -154,7 +154,8 @@ module _ (l : Ledger) (tx : Tx) (k : IsKept l) (within : is_within_limits tx ≡
         ended_balance changes.left l.accounts c,
       )
 
-  passes : (changes : Changed) → is_failed tx.scripts ≡ false → laid_over changes l ≡ last_draft l tx → IsPassing l tx changes
+  -- what its changes come to, where its scripts did not fail
+  pub passes : (changes : Changed) → is_failed tx.scripts ≡ false → laid_over changes l ≡ last_draft l tx → IsPassing l tx changes
   passes changes e drafted =
       let is = passed_is changes e drafted in
       let now_used : List TxId = with_key txid_cmp tx.id l.used in
@@ -179,7 +180,8 @@ module _ (l : Ledger) (tx : Tx) (k : IsKept l) (within : is_within_limits tx ≡
         is = is;
       }
 
-  fails : is_failed tx.scripts ≡ true → IsFailing l tx
+  -- and what it comes to where they failed
+  pub fails : is_failed tx.scripts ≡ true → IsFailing l tx
   fails e =
       let by = by_failed tx.scripts l tx e in
       let kept : IsKept (after_failed l tx) = kept_after (after_failed l tx) by.1 refl (used-more l.used tx.id l.proposals k.proposed) k.voted in
@@ -200,12 +202,3 @@ module _ (l : Ledger) (tx : Tx) (k : IsKept l) (within : is_within_limits tx ≡
         kept = kept;
         is = by.1;
       }
-
--- the same by what is said of the ledger as it was passed
-pub passing : (l now : Ledger) (tx : Tx) (changes : Changed) → l ≡ now → IsKept l → is_within_limits tx ≡ true → is_allowed now tx ≡ true → is_failed tx.scripts ≡ false
-    → laid_over changes now ≡ last_draft now tx → IsPassing l tx changes
-passing l now tx changes e k within allowed passed drafted =
-    passes l tx k within (ap (λ (x : Ledger). is_allowed x tx) e ∙ allowed) changes passed (subst (λ (x : Ledger). laid_over changes x ≡ last_draft x tx) (sym e) drafted)
-
-pub failing : (l now : Ledger) (tx : Tx) → l ≡ now → IsKept l → is_within_limits tx ≡ true → is_allowed now tx ≡ true → is_failed tx.scripts ≡ true → IsFailing l tx
-failing l now tx e k within allowed failed = fails l tx k within (ap (λ (x : Ledger). is_allowed x tx) e ∙ allowed) failed

@@ -10,9 +10,8 @@ use Rattle.gov_actions.specs.declared.action.Proposal.{Proposal}
 use Rattle.gov_ids.specs.Orders.{credential_cmp, txid_cmp}
 use Rattle.gov_model.specs.Sides.{members_of}
 use Rattle.maps.specs.Maps.{IsMap, has_member}
-use Rattle.view_map.specs.View.{frozen_of}
 use Rattle.proposal_store.specs.Store.{AllOrdered}
-use Rattle.stake_book.specs.Stakes.{registrations}
+use Rattle.ledger_books.specs.Parts.{frozen_entries, ledger_of_books}
 use Rattle.live_ledger.specs.Standing.{Standing}
 use Rattle.live_ledger.specs.declared.state.LiveLedger.TheInside.{Inside}
 
@@ -30,26 +29,8 @@ pub record IsKept (l : Ledger) : Type 0 where
 
 -- the ledger that these parts are
 abbrev pub ledger_view : Inside → Ledger
-ledger_view a = record {
-  network = a.network;
-  epoch_length = a.epoch_length;
-  supply = a.supply;
-  slot = a.slot;
-  epoch = a.epoch;
-  dormant = a.dreps.dormant;
-  reserves = a.reserves;
-  fees = a.fees;
-  donations = a.donations;
-  state = a.state;
-  outputs = a.stake.outputs.outputs;
-  used = a.stake.outputs.used;
-  accounts = registrations a.stake.accounts.live;
-  pools = a.pools;
-  dreps = a.dreps.dreps;
-  hot = a.hot;
-  proposals = a.proposals;
-}
+ledger_view a = ledger_of_books a.books.value
 
 -- and what was frozen beside it
 abbrev pub standing_view : Inside → Standing
-standing_view a = record { ledger = ledger_view a; frozen = frozen_of credential_cmp a.stake.accounts }
+standing_view a = record { ledger = ledger_view a; frozen = frozen_entries a.books.value }

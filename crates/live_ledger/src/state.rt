@@ -19,7 +19,7 @@ use committee_book::{HotBook, is_member};
 use drep_book::DrepBook;
 use gov_actions::EnactState;
 use gov_ids::{Credential, PoolId};
-use listed::Boxed;
+use ledger_books::Books;
 use pparams::Params;
 use proposal_store::ProposalStore;
 use stake_book::StakeBook;
@@ -32,20 +32,9 @@ use utxo_set::UtxoSet;
 #[derive(Drop)]
 pub struct LiveLedger {
     alloc: Global,
-    network: u8,
-    epoch_length: u32,
-    supply: u64,
-    slot: u64,
-    epoch: u64,
-    reserves: u64,
-    fees: u64,
-    donations: u64,
-    state: Boxed<EnactState>,
-    stake: StakeBook,
-    pools: PoolBook,
-    dreps: DrepBook,
-    hot: HotBook,
-    proposals: ProposalStore,
+    // in memory of their own: to move the ledger moves a pointer; they have no snapshots and no pending update, since
+    // whoever holds the ledger keeps these
+    books: Box<Books>,
 }
 
 impl Model for LiveLedger {
@@ -68,77 +57,77 @@ impl LiveLedger {
     pub fn network(&self) -> u8
         ensures { result ≡ self.now.ledger.network }
     {
-        self.network
+        self.books.network
     }
 
     /// Slots in an epoch. (Own)
     pub fn epoch_length(&self) -> u32
         ensures { result ≡ self.now.ledger.epoch_length }
     {
-        self.epoch_length
+        self.books.length
     }
 
     /// The supply, in lovelace. (Own)
     pub fn supply(&self) -> u64
         ensures { result ≡ self.now.ledger.supply }
     {
-        self.supply
+        self.books.supply
     }
 
     /// The last slot. (Own)
     pub fn slot(&self) -> u64
         ensures { result ≡ self.now.ledger.slot }
     {
-        self.slot
+        self.books.slot
     }
 
     /// The epoch of the last slot. (NewEpochState of the formal specification)
     pub fn epoch(&self) -> u64
         ensures { result ≡ self.now.ledger.epoch }
     {
-        self.epoch
+        self.books.epoch
     }
 
     /// The reserves, in lovelace. (Acnt of the formal specification)
     pub fn reserves(&self) -> u64
         ensures { result ≡ self.now.ledger.reserves }
     {
-        self.reserves
+        self.books.reserves
     }
 
     /// The fee pot, in lovelace. (UTxOState of the formal specification)
     pub fn fees(&self) -> u64
         ensures { result ≡ self.now.ledger.fees }
     {
-        self.fees
+        self.books.fees
     }
 
     /// The donation pot, in lovelace. (UTxOState of the formal specification)
     pub fn donations(&self) -> u64
         ensures { result ≡ self.now.ledger.donations }
     {
-        self.donations
+        self.books.donations
     }
 
     /// Parameters, version, committee, constitution, last enacted ids and the treasury in lovelace. (EnactState of the formal specification)
     pub fn state(&self) -> &EnactState
         ensures { result.now ≡ self.now.ledger.state }
     {
-        self.state.get()
+        self.books.state.get()
     }
 
     /// The protocol parameters. (PParams of the formal specification)
     pub fn params(&self) -> &Params
         ensures { result.now ≡ params_of self.now.ledger }
     {
-        &self.state.get().params
+        &self.books.state.get().params
     }
 
     /// Whether the protocol version is 11.0 or later. (Own)
     pub fn is_from_version_eleven(&self) -> bool
         ensures { result ≡ is_from_version_eleven self.now.ledger }
     {
-        self.state.get().version.0 >= 11
+        self.books.state.get().version.0 >= 11
     }
 
     /// The unspent outputs and the used transaction ids. (UTxOState of the formal specification; that used ids are kept is own)
@@ -146,7 +135,7 @@ impl LiveLedger {
         ensures outputs { result.now.outputs ≡ self.now.ledger.outputs }
         ensures used { result.now.used ≡ self.now.ledger.used }
     {
-        self.stake.outputs()
+        self.books.stake.outputs()
     }
 
     /// The same beside the accounts with their stakes, and the entries of the last freeze. (UTxOState and DState of the formal specification)
@@ -156,28 +145,28 @@ impl LiveLedger {
         ensures accounts { registrations result.now.accounts.live ≡ self.now.ledger.accounts }
         ensures frozen { frozen_of credential_cmp result.now.accounts ≡ self.now.frozen }
     {
-        &self.stake
+        &self.books.stake
     }
 
     /// The hot keys and resignations of cold keys. (GState of the formal specification)
     pub fn hot(&self) -> &HotBook
         ensures { result.now ≡ self.now.ledger.hot }
     {
-        &self.hot
+        &self.books.hot
     }
 
     /// Whether a cold key is a member of the committee, none being one where there is no committee. It is found by halves. (CIP-1694, The constitutional committee)
     pub fn is_member(&self, cold: &Credential) -> bool
         ensures { result ≡ is_member self.now.ledger.state.committee cold.now }
     {
-        is_member(self.state.get().committee.as_ref(), cold)
+        is_member(self.books.state.get().committee.as_ref(), cold)
     }
 
     /// The registered pools with their terms and retirements. (PState of the formal specification)
     pub fn pools(&self) -> &PoolBook
         ensures { result.now ≡ self.now.ledger.pools }
     {
-        &self.pools
+        &self.books.pools
     }
 
     /// A registered pool, none where it is not registered. (PState of the formal specification)
@@ -185,21 +174,21 @@ impl LiveLedger {
         ensures value { result ≡ value_at pool_cmp self.now.ledger.pools p.now }
         ensures in_order { IsMap pool_cmp self.now.ledger.pools }
     {
-        self.pools.get(p)
+        self.books.pools.get(p)
     }
 
     /// The live proposals with their votes, in order of submission. (GovState of the formal specification)
     pub fn proposals(&self) -> &ProposalStore
         ensures { result.now ≡ self.now.ledger.proposals }
     {
-        &self.proposals
+        &self.books.proposals
     }
 
     /// Whether a live proposal adds a cold key to the committee. It walks none of them. (GOVCERT of the formal specification)
     pub fn is_proposed(&self, cold: &Credential) -> bool
         ensures { result ≡ is_proposed cold.now self.now.ledger.proposals }
     {
-        self.proposals.adds(cold)
+        self.books.proposals.adds(cold)
     }
 
     /// The registered DReps and the dormant count. (GState of the formal specification; how the count acts is own)
@@ -208,7 +197,7 @@ impl LiveLedger {
         ensures dormant { result.now.dormant ≡ self.now.ledger.dormant }
         ensures kept { IsKept self.now.ledger }
     {
-        &self.dreps
+        &self.books.dreps
     }
 
     /// A registered DRep, none where it is not registered. (GState of the formal specification)
@@ -216,29 +205,26 @@ impl LiveLedger {
         ensures value { result ≡ value_at credential_cmp self.now.ledger.dreps c.now }
         ensures in_order { IsMap credential_cmp self.now.ledger.dreps }
     {
-        self.dreps.get(c)
+        self.books.dreps.get(c)
     }
 
     /// The seven pots, in lovelace. They hold the supply, so the deposits are what the others leave of it. (The preservation of value of the formal specification)
     pub fn pots(&self) -> Pots
         ensures { result ≡ pots_of self.now.ledger }
     {
-        let outputs = self.outputs().total();
-        let rewards = self.stake.balances();
-        let others = outputs
-            + rewards
-            + self.fees
-            + self.donations
-            + self.state().treasury
-            + self.reserves;
+        let b = &*self.books;
+        let outputs = b.stake.outputs().total();
+        let rewards = b.stake.balances();
+        let treasury = b.state.get().treasury;
+        let others = outputs + rewards + b.fees + b.donations + treasury + b.reserves;
         Pots {
             outputs,
-            deposits: self.supply - others,
+            deposits: b.supply - others,
             rewards,
-            fees: self.fees,
-            donations: self.donations,
-            treasury: self.state().treasury,
-            reserves: self.reserves,
+            fees: b.fees,
+            donations: b.donations,
+            treasury,
+            reserves: b.reserves,
         }
     }
 }

@@ -2,6 +2,8 @@ ghost use Rattle.std.specs.Prelude.{◌≡◌, ◌≤◌, IfOk};
 ghost use Rattle.drep_pulser.specs.Facts.{IsCountOf};
 ghost use Rattle.epoch_start.specs.Begun.{accounts_of_pools, begun_of};
 ghost use Rattle.gov_ids.specs.Orders.{credential_cmp};
+ghost use Rattle.ledger_state.specs.Parts.{world_of_parts};
+ghost use Rattle.ledger_state.specs.Worlds.{IsHeldBy};
 ghost use Rattle.run_model.specs.SoundWorld.{IsSoundWorld};
 ghost use Rattle.snapshots.specs.Frozen.{frozen_of as copy_of};
 ghost use Rattle.view_map.specs.View.{frozen_of};
@@ -11,6 +13,7 @@ use coin_frac::NoMemory;
 use drep_pulser::{Counting, Pulser};
 use epoch_start::{begun_count, frozen_copy};
 use ledger_books::Books;
+use listed::Boxed;
 use snapshots::Frozen;
 use std::alloc::Global;
 
@@ -26,7 +29,8 @@ impl LedgerState {
         books.stake.freeze();
         match begun_parts(alloc, &books, workers) {
             Ok((frozen, counting)) => {
-                Ok(LedgerState::from_books(alloc, books, frozen, Pulser::Counting(counting)))
+                let state = begun_with(alloc, books, frozen, Pulser::Counting(counting))?;
+                Ok(state)
             }
             Err(error) => {
                 drop(books);
@@ -36,8 +40,26 @@ impl LedgerState {
     }
 }
 
-/// What is frozen of these books, whose live entries are the frozen ones, and the count of it, with none visited.
-fn begun_parts(alloc: Global, books: &Books, workers: u32) -> Result<(Frozen, Counting), NoMemory>
+/// The state of these parts, its books in memory of their own.
+fn begun_with(alloc: Global, b: Books, f: Boxed<Frozen>, p: Pulser) -> Result<LedgerState, NoMemory>
+    requires { IsHeldBy (world_of_parts b f p) f p }
+    ensures { IfOk result (λ s. s ≡ world_of_parts b f p) }
+{
+    match Box::new(alloc, b) {
+        Ok(books) => Ok(LedgerState::from_books(alloc, books, f, p)),
+        Err(refused) => {
+            drop((refused, f, p));
+            Err(NoMemory)
+        }
+    }
+}
+
+/// What is frozen of these books, whose live entries are the frozen ones, in memory of its own, and the count of it, with none visited.
+fn begun_parts(
+    alloc: Global,
+    books: &Books,
+    workers: u32,
+) -> Result<(Boxed<Frozen>, Counting), NoMemory>
     requires some { 1 ≤ workers }
     requires few { workers ≤ 64 }
     requires frozen { frozen_of credential_cmp books.now.stake.accounts ≡ books.now.stake.accounts.live }
@@ -47,7 +69,7 @@ fn begun_parts(alloc: Global, books: &Books, workers: u32) -> Result<(Frozen, Co
     ensures counts { IfOk result (λ r. IsCountOf (begun_of books.now).frozen r.1) }
     ensures none_visited { IfOk result (λ r. r.1.done ≡ 0) }
 {
-    let frozen = frozen_copy(alloc, books)?;
+    let frozen = Boxed::new(alloc, frozen_copy(alloc, books)?)?;
     let counting = begun_count(alloc, books, workers)?;
     Ok((frozen, counting))
 }

@@ -5,6 +5,7 @@ ghost use Rattle.ledger_state.specs.Worlds.{IsHeldBy};
 use super::LedgerState;
 use drep_pulser::Pulser;
 use ledger_books::Books;
+use listed::Boxed;
 use live_ledger::LiveLedger;
 use snapshots::Frozen;
 use std::alloc::Global;
@@ -24,13 +25,13 @@ impl LedgerState {
             pulser,
         } = self;
         let books = live.into_books(snapshots, pending);
-        (books, frozen, pulser)
+        (books, frozen.into_value(), pulser)
     }
 
     /// The state of these parts. It takes no memory. (Own)
-    pub fn from_books(alloc: Global, b: Books, f: Frozen, p: Pulser) -> LedgerState
-        requires { IsHeldBy (world_of_parts b f p) f p }
-        ensures { result ≡ world_of_parts b f p }
+    pub fn from_books(alloc: Global, b: Box<Books>, f: Boxed<Frozen>, p: Pulser) -> LedgerState
+        requires { IsHeldBy (world_of_parts b.value f p) f p }
+        ensures { result ≡ world_of_parts b.value f p }
     {
         let (live, snapshots, pending) = LiveLedger::of_books(alloc, b);
         LedgerState {

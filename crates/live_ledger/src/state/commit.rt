@@ -8,7 +8,9 @@ ghost use Rattle.ledger_model.specs.Broken.{is_allowed};
 ghost use Rattle.ledger_model.specs.Draft.{last_draft};
 ghost use Rattle.ledger_model.specs.Transaction.{ledger_after_tx, made_outputs, made_proposals, with_votes};
 ghost use Rattle.ledger_model.specs.UtxoRules.{is_failed, returned};
+ghost use Rattle.ledger_books.specs.Parts.{frozen_entries, ledger_of_books};
 ghost use Rattle.live_ledger.specs.Books.{IsMade};
+ghost use Rattle.live_ledger.specs.Kept.{IsKept};
 ghost use Rattle.draft_changes.specs.Changed.{laid_over};
 ghost use Rattle.live_ledger.specs.Drafts.{draft_of};
 ghost use Rattle.live_ledger.specs.Proposed.{IsUnknown};
@@ -24,7 +26,8 @@ use super::LiveLedger;
 use crate::books::{move_collateral, move_outputs};
 use crate::proposals::add_tx_proposals;
 use coin_frac::NoMemory;
-use draft_changes::{Changes, Voters};
+use draft_changes::Changes;
+use ledger_books::Books;
 use proposal_store::ProposalStore;
 use stake_book::StakeBook;
 use std::alloc::Global;
@@ -47,7 +50,7 @@ impl LiveLedger {
         }
     }
 
-    /// The ledger after an allowed transaction whose scripts did not fail: it is changed, its inputs are spent, its outputs are made, its votes and then its proposals join the others, and its fee and donation their pots.
+    /// The ledger after an allowed transaction whose scripts did not fail.
     fn passed(self, changes: Changes, tx: &Tx) -> Result<LiveLedger, NoMemory>
         requires within { is_within_limits tx.now ≡ true }
         requires allowed { is_allowed self.ledger tx.now ≡ true }
@@ -55,67 +58,72 @@ impl LiveLedger {
         requires drafted { laid_over changes self.ledger ≡ last_draft self.ledger tx.now }
         ensures { IfOk result (λ s. s ≡ on_ledger (λ l. ledger_after_tx l tx.now) self) }
     {
-        let last = self.epoch + u64::from(self.params().gov_action_lifetime);
-        let voters = Voters {
-            pools: self.pools,
-            dreps: self.dreps,
-            hot: self.hot,
-        };
-        match changes.lay_over(self.alloc, self.epoch, self.stake, self.proposals, voters) {
-            Ok((mut stake, mut proposals, voters)) => {
-                match apply(self.alloc, last, &mut stake, &mut proposals, tx) {
-                    Ok(()) => Ok(LiveLedger {
-                        fees: self.fees + tx.fee,
-                        donations: self.donations + tx.donation,
-                        stake,
-                        pools: voters.pools,
-                        dreps: voters.dreps,
-                        hot: voters.hot,
-                        proposals,
-                        ..self
-                    }),
-                    Err(error) => {
-                        // let go in one call: a `?` would prove it part by part
-                        drop((self.state, stake, proposals, voters));
-                        Err(error)
-                    }
-                }
-            }
+        let mut books = self.books;
+        match pass(self.alloc, &mut books, changes, tx) {
+            Ok(()) => Ok(LiveLedger {
+                alloc: self.alloc,
+                books,
+            }),
             Err(error) => {
-                drop(self.state);
+                drop(books);
                 Err(error)
             }
         }
     }
 
-    /// The ledger after an allowed transaction whose scripts failed: its collateral is spent, and what the return leaves of it joins the fees.
+    /// The ledger after an allowed transaction whose scripts failed.
     fn failed(self, tx: &Tx) -> Result<LiveLedger, NoMemory>
         requires within { is_within_limits tx.now ≡ true }
         requires allowed { is_allowed self.ledger tx.now ≡ true }
         requires failed { is_failed tx.now.scripts ≡ true }
         ensures { IfOk result (λ s. s ≡ on_ledger (λ l. ledger_after_tx l tx.now) self) }
     {
-        let mut stake = self.stake;
-        match move_collateral(self.alloc, &mut stake, tx) {
-            Ok(collateral) => Ok(LiveLedger {
-                fees: self.fees + (collateral - returned(tx)),
-                stake,
-                ..self
+        let mut books = self.books;
+        match fail(self.alloc, &mut books, tx) {
+            Ok(()) => Ok(LiveLedger {
+                alloc: self.alloc,
+                books,
             }),
             Err(error) => {
-                // let go in one call: a `?` would prove it part by part
-                drop((
-                    self.state,
-                    stake,
-                    self.pools,
-                    self.dreps,
-                    self.hot,
-                    self.proposals,
-                ));
+                drop(books);
                 Err(error)
             }
         }
     }
+}
+
+/// Changes the books as an allowed transaction says whose scripts did not fail: its changes are laid over them, its inputs are spent, its outputs are made, its votes and then its proposals join the others, and its fee and donation their pots. After want of memory the caller drops the books.
+fn pass(alloc: Global, b: &mut Books, changes: Changes, tx: &Tx) -> Result<(), NoMemory>
+    requires kept { IsKept (ledger_of_books b.old) }
+    requires within { is_within_limits tx.now ≡ true }
+    requires allowed { is_allowed (ledger_of_books b.old) tx.now ≡ true }
+    requires passed { is_failed tx.now.scripts ≡ false }
+    requires drafted { laid_over changes (ledger_of_books b.old) ≡ last_draft (ledger_of_books b.old) tx.now }
+    ensures ledger { OnOk result (ledger_of_books b.new ≡ ledger_after_tx (ledger_of_books b.old) tx.now) }
+    ensures kept { OnOk result (IsKept (ledger_of_books b.new)) }
+    ensures frozen { OnOk result (frozen_entries b.new ≡ frozen_entries b.old) }
+{
+    let last = b.epoch + u64::from(b.state.get().params.gov_action_lifetime);
+    changes.lay_over(alloc, b)?;
+    apply(alloc, last, &mut b.stake, &mut b.proposals, tx)?;
+    b.fees += tx.fee;
+    b.donations += tx.donation;
+    Ok(())
+}
+
+/// Changes the books as an allowed transaction says whose scripts failed: its collateral is spent, and what the return leaves of it joins the fees. After want of memory the caller drops the books.
+fn fail(alloc: Global, b: &mut Books, tx: &Tx) -> Result<(), NoMemory>
+    requires kept { IsKept (ledger_of_books b.old) }
+    requires within { is_within_limits tx.now ≡ true }
+    requires allowed { is_allowed (ledger_of_books b.old) tx.now ≡ true }
+    requires failed { is_failed tx.now.scripts ≡ true }
+    ensures ledger { OnOk result (ledger_of_books b.new ≡ ledger_after_tx (ledger_of_books b.old) tx.now) }
+    ensures kept { OnOk result (IsKept (ledger_of_books b.new)) }
+    ensures frozen { OnOk result (frozen_entries b.new ≡ frozen_entries b.old) }
+{
+    let collateral = move_collateral(alloc, &mut b.stake, tx)?;
+    b.fees += collateral - returned(tx);
+    Ok(())
 }
 
 /// Changes the outputs and the proposals as an allowed transaction says, over which its changes are laid. After want of memory the caller drops both.

@@ -8,6 +8,7 @@ ghost use Rattle.tx_records.specs.GenesisLimits.{is_within_limits};
 ghost use Rattle.live_ledger.specs.Starts.{StartsAs};
 
 use super::LiveLedger;
+use super::parts::no_snapshots;
 use crate::fault::GenesisFault;
 use cert_pool::PoolBook;
 use coin_frac::NoMemory;
@@ -15,6 +16,7 @@ use committee_book::HotBook;
 use drep_book::DrepBook;
 use genesis_books::{broken_rule, first_committee, first_holdings, first_keys};
 use gov_actions::{EnactState, LastIds};
+use ledger_books::Books;
 use listed::Boxed;
 use proposal_store::ProposalStore;
 use stake_book::StakeBook;
@@ -32,23 +34,28 @@ impl LiveLedger {
         }
         let state = first_state(alloc, genesis)?;
         match first_books(alloc, genesis) {
-            Ok((stake, pools, dreps, hot)) => Ok(LiveLedger {
-                alloc,
-                network: genesis.network,
-                epoch_length: genesis.epoch_length,
-                supply: genesis.supply,
-                slot: genesis.slot,
-                epoch: genesis.slot / u64::from(genesis.epoch_length),
-                reserves: genesis.reserves,
-                fees: 0,
-                donations: 0,
-                state,
-                stake,
-                pools,
-                dreps,
-                hot,
-                proposals: ProposalStore::new(alloc),
-            }),
+            Ok((stake, pools, dreps, hot)) => {
+                let books = Books {
+                    network: genesis.network,
+                    length: genesis.epoch_length,
+                    supply: genesis.supply,
+                    slot: genesis.slot,
+                    epoch: genesis.slot / u64::from(genesis.epoch_length),
+                    stake,
+                    pools,
+                    dreps,
+                    hot,
+                    proposals: ProposalStore::new(alloc),
+                    snapshots: no_snapshots(alloc),
+                    state,
+                    pending: None,
+                    reserves: genesis.reserves,
+                    fees: 0,
+                    donations: 0,
+                };
+                let books = boxed(alloc, books)?;
+                Ok(LiveLedger { alloc, books })
+            }
             Err(error) => {
                 // let go in one call: a `?` would prove it part by part
                 drop(state);
@@ -56,6 +63,13 @@ impl LiveLedger {
             }
         }
     }
+}
+
+/// These books, in memory of their own.
+fn boxed(alloc: Global, books: Books) -> Result<Box<Books>, NoMemory>
+    ensures { IfOk result (λ boxed. boxed.value ≡ books) }
+{
+    Ok(Box::new(alloc, books)?)
 }
 
 /// The books of a genesis: of accounts and outputs, of pools, of DReps and of hot keys.

@@ -5,8 +5,10 @@ ghost use Rattle.live_ledger.specs.Standing.{on_ledger};
 
 use super::LiveLedger;
 use ledger_books::Books;
+use listed::Listed;
 use snapshots::Snapshots;
 use std::alloc::Global;
+use std::mem;
 use tx_records::Rewards;
 
 impl LiveLedger {
@@ -19,57 +21,45 @@ impl LiveLedger {
         ensures kept { IsKept self.ledger }
     {
         Books {
-            network: self.network,
-            length: self.epoch_length,
-            supply: self.supply,
-            slot: self.slot,
-            epoch: self.epoch,
-            stake: self.stake,
-            pools: self.pools,
-            dreps: self.dreps,
-            hot: self.hot,
-            proposals: self.proposals,
             snapshots,
-            state: self.state,
             pending,
-            reserves: self.reserves,
-            fees: self.fees,
-            donations: self.donations,
+            ..Box::into_inner(self.books)
         }
     }
 
     /// The ledger of these parts, and those that are none of it. It takes no memory. (Own)
-    pub fn of_books(alloc: Global, b: Books) -> (LiveLedger, Snapshots, Option<Rewards>)
-        requires { IsKept (ledger_of_books b) }
-        ensures ledger { result.0.ledger ≡ ledger_of_books b }
-        ensures frozen { result.0.frozen ≡ frozen_entries b }
-        ensures snapshots { result.1 ≡ b.snapshots }
-        ensures pending { result.2 ≡ b.pending }
+    pub fn of_books(alloc: Global, b: Box<Books>) -> (LiveLedger, Snapshots, Option<Rewards>)
+        requires { IsKept (ledger_of_books b.value) }
+        ensures ledger { result.0.ledger ≡ ledger_of_books b.value }
+        ensures frozen { result.0.frozen ≡ frozen_entries b.value }
+        ensures snapshots { result.1 ≡ b.value.snapshots }
+        ensures pending { result.2 ≡ b.value.pending }
     {
-        let ledger = LiveLedger {
-            alloc,
-            network: b.network,
-            epoch_length: b.length,
-            supply: b.supply,
-            slot: b.slot,
-            epoch: b.epoch,
-            reserves: b.reserves,
-            fees: b.fees,
-            donations: b.donations,
-            state: b.state,
-            stake: b.stake,
-            pools: b.pools,
-            dreps: b.dreps,
-            hot: b.hot,
-            proposals: b.proposals,
-        };
-        (ledger, b.snapshots, b.pending)
+        let mut books = b;
+        let snapshots = mem::replace(&mut books.snapshots, no_snapshots(alloc));
+        let pending = mem::replace(&mut books.pending, None);
+        (LiveLedger { alloc, books }, snapshots, pending)
     }
 
     /// The ledger at this slot. (TICK of the formal specification)
     pub fn at_slot(self, slot: u64) -> LiveLedger
         ensures { result ≡ on_ledger (λ l. record l { slot = slot }) self }
     {
-        LiveLedger { slot, ..self }
+        let mut books = self.books;
+        books.slot = slot;
+        LiveLedger {
+            alloc: self.alloc,
+            books,
+        }
+    }
+}
+
+/// The stakes of no pool, and no fees. (Own)
+pub(crate) fn no_snapshots(alloc: Global) -> Snapshots {
+    Snapshots {
+        mark: Listed::new(alloc),
+        set: Listed::new(alloc),
+        go: Listed::new(alloc),
+        fees: 0,
     }
 }

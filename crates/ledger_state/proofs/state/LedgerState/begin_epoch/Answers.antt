@@ -12,8 +12,8 @@ begun_parts-requires c = record {
   sound = begun_sound c.args.b c.freeze.new.self c.freeze.ensures.fields c.requires.sound;
 }
 
-pub from_books-requires : goal.from_books-requires
-from_books-requires c =
+pub begun_with-requires : goal.begun_with-requires
+begun_with-requires c =
     let e = c.freeze.ensures in
     let parts = c.in-Ok.ensures in
     let p = Counting c.in-Ok.counting in
@@ -21,10 +21,10 @@ from_books-requires c =
     (sym (begun_again (record c.args.b { stake = c.freeze.new.self }) c.in-Ok.frozen p (begun_entries c.args.b c.freeze.new.self e.kept e.fields e.frozen) parts.copy parts.accounts parts.none_visited))
     (record { sound = begun_sound c.args.b c.freeze.new.self e.fields c.requires.sound; copied = parts.copy; counts = parts.counts })
 
-pub returns-in-Ok : goal.returns-in-Ok
-returns-in-Ok c =
+pub returns-in_ok-state-in-Ok : goal.returns-in_ok-state-in-Ok
+returns-in_ok-state-in-Ok c =
     let e = c.freeze.ensures in
     let parts = c.in-Ok.ensures in
-    c.from_books.ensures
+    c.in_ok-state-in-Ok.ensures
     ∙ begun_again (record c.args.b { stake = c.freeze.new.self }) c.in-Ok.frozen (Counting c.in-Ok.counting) (begun_entries c.args.b c.freeze.new.self e.kept e.fields e.frozen) parts.copy parts.accounts parts.none_visited
     ∙ begun_same c.args.b c.freeze.new.self e.fields

@@ -1,6 +1,6 @@
 use Rattle.std.proofs.Common.{◌≡◌}
 use Rattle.draft_changes.specs.Changed.{with_dreps}
-use Rattle.draft_changes.proofs.drep_changes.with_dreps.Given as goal
+use Rattle.draft_changes.proofs.drep_changes.put_dreps.Given as goal
 
 -- what is left laid over the DReps so far is all laid over the first
 abbrev pub invariant-loop-c : goal.invariant-loop-c
