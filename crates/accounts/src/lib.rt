@@ -18,7 +18,7 @@ pub use view_map::FrozenIter;
 use view_map::ViewMap;
 
 /// The account entries by credential, live and frozen. Contracts see it as the `ViewMap` that it is. (DState of the formal specification; the frozen entries are own)
-#[derive(Debug, Drop)]
+#[derive(Drop)]
 pub struct AccountBook {
     view: ViewMap<Credential, Entry>,
 }

@@ -20,7 +20,7 @@ use std::collections::BTreeMap;
 use std::marker::Model;
 
 /// The accounts, with the sums over them. Contracts see it as the accounts. (Own)
-#[derive(Debug, Drop)]
+#[derive(Drop)]
 pub struct SummedAccounts {
     accounts: AccountBook,
     balances: u64,

@@ -4,6 +4,7 @@ ghost use Rattle.std.specs.Map.Iter.{TakesFirst, deref_pair};
 ghost use Rattle.view_map.specs.Walk.{merged};
 
 use crate::peeked::Peeked;
+use listed::Boxed;
 use std::collections::btree_map::Range;
 use std::marker::Model;
 
@@ -12,7 +13,7 @@ use std::marker::Model;
 #[derive(Drop)]
 pub struct FrozenIter<'a, K: Ord, V> {
     live: Peeked<'a, K, V>,
-    saved: Peeked<'a, K, Option<V>>,
+    saved: Peeked<'a, K, Option<Boxed<V>>>,
 }
 
 impl<'a, K: Ord, V> Model for FrozenIter<'a, K, V> {
@@ -26,7 +27,10 @@ impl<'a, K: Ord, V> Model for FrozenIter<'a, K, V> {
 
 impl<'a, K: Ord, V> FrozenIter<'a, K, V> {
     // A walk over a range of the live list and the same range of the saved one.
-    pub(crate) fn new(live: Range<'a, K, V>, saved: Range<'a, K, Option<V>>) -> FrozenIter<'a, K, V>
+    pub(crate) fn new(
+        live: Range<'a, K, V>,
+        saved: Range<'a, K, Option<Boxed<V>>>,
+    ) -> FrozenIter<'a, K, V>
         ensures { result ≡ merged K.cmp saved.entry live.entry }
     {
         FrozenIter {
@@ -56,7 +60,7 @@ impl<'a, K: Ord, V> FrozenIter<'a, K, V> {
             }
             self.saved.next();
             if let Some(v) = first {
-                return Some((key, v));
+                return Some((key, v.get()));
             }
         }
         self.live.next()

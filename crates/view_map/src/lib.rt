@@ -13,6 +13,7 @@ mod peeked;
 
 use coin_frac::NoMemory;
 pub use frozen_iter::FrozenIter;
+use listed::Boxed;
 use maps::keys_past;
 use std::alloc::Global;
 use std::collections::BTreeMap;
@@ -20,12 +21,13 @@ use std::collections::btree_map::Entry;
 use std::marker::Model;
 
 /// A live list, and a frozen one that no change of the live one alters. Contracts see both fields as lists in the order of keys. (Own)
-#[derive(Debug, Drop)]
+#[derive(Drop)]
 pub struct ViewMap<K: Ord, V> {
     /// The live list.
     pub live: BTreeMap<K, V>,
-    /// The keys changed since the freeze, each with its value at the freeze, none where it was absent then.
-    pub saved: BTreeMap<K, Option<V>>,
+    /// The keys changed since the freeze, each with its value at the freeze, none where it was absent then. The values stand in memory of their own, so that an absence takes no room of a value.
+    pub saved: BTreeMap<K, Option<Boxed<V>>>,
+    alloc: Global,
 }
 
 impl<K: Ord, V> Model for ViewMap<K, V> {
@@ -79,9 +81,30 @@ fn put_back<K: Copy + Ord, V: Copy>(live: &mut BTreeMap<K, V>, k: &K, before: Op
     }
 }
 
+// A value in memory of its own; none takes no memory.
+fn boxed<V: Copy>(alloc: Global, value: Option<V>) -> Result<Option<Boxed<V>>, NoMemory>
+    ensures { IfOk result (λ boxed. boxed ≡ value) }
+{
+    match value {
+        Some(v) => Ok(Some(Boxed::new(alloc, v)?)),
+        None => Ok(None),
+    }
+}
+
+// The value, if there is one.
+fn unboxed<V: Copy>(value: &Option<Boxed<V>>) -> Option<V>
+    ensures { result ≡ value.now }
+{
+    match value {
+        Some(v) => Some(*v.get()),
+        None => None,
+    }
+}
+
 // Saves what was at a key before its first change, in one search; what is saved there already stays.
 fn save<K: Copy + Ord, V: Copy>(
-    saved: &mut BTreeMap<K, Option<V>>,
+    alloc: Global,
+    saved: &mut BTreeMap<K, Option<Boxed<V>>>,
     k: K,
     before: Option<V>,
 ) -> Result<(), NoMemory>
@@ -89,7 +112,8 @@ fn save<K: Copy + Ord, V: Copy>(
         (if has_key K.cmp saved.old.entries k then saved.old.entries else with_value K.cmp k before saved.old.entries)) }
     ensures err { OnErr result (saved.new.entries ≡ saved.old.entries) }
 {
-    saved.entry(k)?.or_insert(before);
+    let first = boxed(alloc, before)?;
+    saved.entry(k)?.or_insert(first);
     Ok(())
 }
 
@@ -101,16 +125,21 @@ impl<K: Copy + Ord, V: Copy> ViewMap<K, V> {
         ViewMap {
             live: BTreeMap::new(alloc),
             saved: BTreeMap::new(alloc),
+            alloc,
         }
     }
 
     /// The live entries, and of each key that has changed since the freeze what was there then: all that a map holds. (Own)
-    pub fn into_maps(self) -> (BTreeMap<K, V>, BTreeMap<K, Option<V>>)
+    pub fn into_maps(self) -> (BTreeMap<K, V>, BTreeMap<K, Option<Boxed<V>>>)
         ensures live { result.0.entries ≡ self.live }
         ensures saved { result.1.entries ≡ self.saved }
     {
         // The pattern has no rest: with a further field it does not compile.
-        let ViewMap { live, saved } = self;
+        let ViewMap {
+            live,
+            saved,
+            alloc: _alloc,
+        } = self;
         (live, saved)
     }
 
@@ -127,7 +156,7 @@ impl<K: Copy + Ord, V: Copy> ViewMap<K, V> {
         ensures { result ≡ value_at K.cmp (frozen_of K.cmp self.now) k.now }
     {
         match self.saved.get(k) {
-            Some(first) => *first,
+            Some(first) => unboxed(first),
             None => self.get(k),
         }
     }
@@ -140,7 +169,7 @@ impl<K: Copy + Ord, V: Copy> ViewMap<K, V> {
         ensures err { OnErr result (self.new ≡ self.old) }
     {
         let (key, before) = replace(&mut self.live, k, v)?;
-        if let Err(error) = save(&mut self.saved, key, before) {
+        if let Err(error) = save(self.alloc, &mut self.saved, key, before) {
             put_back(&mut self.live, &k, before);
             return Err(error);
         }
@@ -158,7 +187,7 @@ impl<K: Copy + Ord, V: Copy> ViewMap<K, V> {
         let Some((key, v)) = self.live.get_key_value(k) else {
             return Ok(None);
         };
-        save(&mut self.saved, *key, Some(*v))?;
+        save(self.alloc, &mut self.saved, *key, Some(*v))?;
         Ok(self.live.remove(k))
     }
 

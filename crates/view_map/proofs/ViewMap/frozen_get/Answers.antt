@@ -6,7 +6,7 @@ use Rattle.view_map.proofs.ViewMap.frozen_get.Goals as goal
 
 pub returns-in-Some : goal.returns-in-Some
 returns-in-Some g c =
-    ap (λ (s : Option (Option g.row.V.Denot)). unwrap_or s (value_at g.K.Ord.cmp c.self.inside.live.entries c.args.k.now)) c.in-Some.ensures.value
+    c.unboxed.ensures ∙ ap (λ (s : Option (Option g.row.V.Denot)). unwrap_or s (value_at g.K.Ord.cmp c.self.inside.live.entries c.args.k.now)) c.in-Some.ensures.value
     ∙ sym (frozen_value g.met.K.Ord.total _ c.args.k.now c.self.invariant)
     ∙ ap (λ (m : View g.row.K.Denot g.row.V.Denot). value_at g.K.Ord.cmp (frozen_of g.K.Ord.cmp m) c.args.k.now) c.self.view_is
 
