@@ -23,7 +23,7 @@ use Rattle.gov_model.specs.Enacted.{last_id_after, last_ids_after}
 use Rattle.gov_model.specs.Kept.{is_kept, is_parent}
 use Rattle.gov_model.specs.Laws.{HaveDistinctIds}
 use Rattle.gov_model.specs.Lineage.{is_last_enacted, is_live_of, may_follow}
-use Rattle.gov_model.specs.Ratified.{expired_of, ids_of, is_one_of, order_of, ratified_of}
+use Rattle.gov_model.specs.Ratified.{expired_of, is_one_of, order_of, ratified_of}
 use Rattle.gov_model.proofs.KeptOf.{own_filter}
 use Rattle.tx_records.specs.declared.record.Record.{Record}
 use Rattle.tx_records.specs.declared.record.Record.TheVariants as records
@@ -55,6 +55,7 @@ use Rattle.dormant_laws.proofs.Lists.{all_append, all_passing, all_weaken, left_
 use Rattle.run_laws.proofs.Good.{IsGood}
 use Rattle.run_laws.proofs.GoodBlock.{update_good, update_only}
 use Rattle.run_laws.proofs.Reach.{allowed, record_good}
+use Rattle.run_laws.proofs.Sound.{from_ids}
 use Rattle.run_laws.proofs.Start.{genesis_good}
 use Rattle.checkpoint_model.specs.Resumable.{are_chained, unvoted}
 use Rattle.further_laws.proofs.Chained.{Chained, IsUsed, NamesUsed, NoneLater, all_unvoted, chained_append, chained_test, chained_unvoted, chained_voted, follow_grows, later_append, later_filter, later_unvoted, later_voted, live_unvoted, names_unvoted, names_voted, new_chained, new_later, none_new, stay_chained}
@@ -201,10 +202,6 @@ chained_scripts : (sc : Scripts) (l : Ledger) (tx : Tx) → IsUnbroken (unless_f
 chained_scripts Absent l tx h state c used fresh = chained_passed l tx state c used fresh (body_follows l tx h)
 chained_scripts Passed l tx h state c used fresh = chained_passed l tx state c used fresh (body_follows l tx h)
 chained_scripts Failed l tx h state c used fresh = chained_same l (after_scripts Failed l tx) refl refl (λ o k. used_grows l.used tx.id o k) c
-
-from_ids : (P : ActionId → Type 0) (ps : List Proposal) → AllByRecursion P (ids_of ps) → AllByRecursion (λ (p : Proposal). P p.id) ps
-from_ids P [] h = tt
-from_ids P (p ∷ ps) h = (h.0, from_ids P ps h.1)
 
 ids_used : (w : World) → IsGood w → AllByRecursion (λ (q : Proposal). has_member txid_cmp w.ledger.used q.id.tx ≡ true) w.ledger.proposals
 ids_used w g = from_ids (λ (id : ActionId). has_member txid_cmp w.ledger.used id.tx ≡ true) w.ledger.proposals g.ledger.used

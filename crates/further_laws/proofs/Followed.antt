@@ -1,7 +1,7 @@
 -- Followed streams: without rollbacks they are replays, what stands is accepted and sound, and the count never falls within an epoch.
-use Rattle.std.proofs.Common.{◌≡◌, ℕ, ◌+◌, ◌/◌, ◌==◌, ◌<◌, ◌≤◌, min, List, [], ◌∷◌, ◌++◌, Bool, true, false, cond, Option, Some, None, is_none, filter_map, map, nat_le, sum_by, refl, ap, sym, subst, ◌∙◌, arith, append_assoc, append-nil}
+use Rattle.std.proofs.Common.{◌≡◌, ℕ, ◌+◌, ◌/◌, ◌<◌, ◌≤◌, min, List, [], ◌∷◌, ◌++◌, Bool, true, false, cond, Option, Some, None, is_none, filter_map, map, nat_le, sum_by, refl, ap, sym, subst, ◌∙◌, arith, append_assoc, append-nil}
 use Rattle.std.specs.List.{cons_option, list_all}
-use Rattle.std.proofs.Math.Nat.{min-eq_left, min-eq_right, min-le_left}
+use Rattle.std.proofs.Math.Nat.{min-eq_left, min-le_left}
 use Rattle.std.proofs.lemmas.Bool.{and_from, eqb-true, leb-true, leb-false, not-false}
 use Rattle.std.proofs.lemmas.List.Elements.{filter_map-append}
 use Rattle.std.proofs.lemmas.List.Sums.{fold-append, sum_by-append}
@@ -19,7 +19,7 @@ use Rattle.run_model.specs.SoundWorld.{IsSoundWorld}
 use Rattle.run_model.specs.Step.{acceptance_of, epoch_at, refusal_of, step, step_by, world_after_accepted}
 use Rattle.run_model.specs.World.{World}
 use Rattle.dormant_laws.proofs.Lists.{left_of, right_of}
-use Rattle.run_laws.proofs.Counted.{counted_is_the_pulses}
+use Rattle.run_laws.proofs.Counted.{counted_is_the_pulses, min_right, same_pulse}
 use Rattle.run_laws.proofs.Good.{IsGood}
 use Rattle.run_laws.proofs.Sound.{genesis_begins_sound, records_keep_sound}
 use Rattle.run_laws.proofs.Start.{genesis_good}
@@ -201,9 +201,6 @@ followed_is_sound g rs h =
 
 -- ---- the count
 
-min_right : (n s : ℕ) → s < n → min n s ≡ s
-min_right n s l = let at_most : s ≤ n = omega (arith, l) in min-eq_right at_most
-
 min_grows : (n a b : ℕ) → a ≤ b → min n a ≤ min n b
 min_grows n a b h = elim (nat_le n b) as (λ t. nat_le n b ≡ t → min n a ≤ min n b) [
   | true ↦ λ e. let all : min n b ≡ n = min-eq_left (leb-true n b e) in omega (arith, all, min-le_left n a)
@@ -212,13 +209,6 @@ min_grows n a b h = elim (nat_le n b) as (λ t. nat_le n b ≡ t → min n a ≤
       let first : min n a ≡ a = min_right n a (omega (arith, less, h)) in
       omega (arith, min_right n b less, first, h)
 ] refl
-
-same_pulse : (v w : World) (r : Record) → v.ledger.epoch ≡ w.ledger.epoch → v.ledger.epoch_length ≡ w.ledger.epoch_length → pulse_in v r ≡ pulse_in w r
-same_pulse v w (records.Genesis g) e l = refl
-same_pulse v w (records.Block slot pulse) e l = ap (λ (n : ℕ). cond (slot / n == v.ledger.epoch) (Some pulse) None) l ∙ ap (λ (n : ℕ). cond (slot / w.ledger.epoch_length == n) (Some pulse) None) e
-same_pulse v w (records.Rewards u) e l = refl
-same_pulse v w (records.Tx tx) e l = refl
-same_pulse v w (records.Print what) e l = refl
 
 same_pulses : (v w : World) (rs : List Record) → v.ledger.epoch ≡ w.ledger.epoch → v.ledger.epoch_length ≡ w.ledger.epoch_length → filter_map (pulse_in v) rs ≡ filter_map (pulse_in w) rs
 same_pulses v w [] e l = refl

@@ -5,6 +5,7 @@ use Rattle.std.proofs.lemmas.Bool.{or_left, or_right}
 use Rattle.std.proofs.lemmas.Cmp.{eq_by_cmp_equiv}
 use Rattle.std.proofs.lemmas.List.{map-append}
 use Rattle.std.proofs.lemmas.List.Elements.{filter-append}
+use Rattle.run_laws.proofs.GoodTx.{ids_append}
 use Rattle.maps.specs.Words.{is_empty}
 use Rattle.gov_ids.specs.declared.ActionId.{ActionId}
 use Rattle.gov_ids.specs.declared.Voter.TheVariants as voter
@@ -135,10 +136,6 @@ reached_fronted w h = subst (λ (v : World). IsFronted v) h.reached (fronted_all
 same_ids : (ps : List Proposal) → ids_of (map unvoted ps) ≡ ids_of ps
 same_ids [] = refl
 same_ids (p ∷ ps) = ap (λ (xs : List ActionId). p.id ∷ xs) (same_ids ps)
-
-ids_append : (ps qs : List Proposal) → ids_of (ps ++ qs) ≡ ids_of ps ++ ids_of qs
-ids_append [] qs = refl
-ids_append (p ∷ ps) qs = ap (λ (xs : List ActionId). p.id ∷ xs) (ids_append ps qs)
 
 filter_unvoted_by : (b : Bool) (p : Proposal) (ps qs : List Proposal) → map unvoted ps ≡ qs → map unvoted (cond b (p ∷ ps) ps) ≡ cond b (unvoted p ∷ qs) qs
 filter_unvoted_by true p ps qs e = ap (λ (xs : List Proposal). unvoted p ∷ xs) e

@@ -1,7 +1,7 @@
 -- A World that is sound to be resumed is sound.
 use Rattle.std.proofs.Common.{◌≡◌, ℕ, ◌+◌, ◌/◌, ◌^◌, ◌==◌, ◌<◌, ◌≤◌, zero, suc, List, [], ◌∷◌, Bool, true, false, ◌||◌, cond, Contains, Option, Some, None, get_or, length, map, nat_le, unwrap_or, refl, ap, sym, subst, ◌∙◌, arith, inl, inr, ◌⊎◌}
 use Rattle.std.specs.declared.cmp.Ordering.{Ordering}
-use Rattle.std.specs.declared.cmp.Ordering.TheVariants.{Less, Equal, Greater}
+use Rattle.std.specs.declared.cmp.Ordering.TheVariants.{Less}
 use Rattle.std.specs.BTreeMap.{is_at}
 use Rattle.std.specs.List.{AllByRecursion, list_all}
 use Rattle.std.specs.List.Sorted.{IsStrictlySortedBy}
@@ -14,6 +14,7 @@ use Rattle.std.proofs.lemmas.Option.{none-some, same_Some}
 use Rattle.maps.specs.Maps.{IsMap, IsSet, has_member, sum_values, value_at}
 use Rattle.maps.specs.Words.{is_empty, none_or}
 use Rattle.maps.proofs.Fresh.{distinct_from_repeats}
+use Rattle.maps.proofs.Ties.{is_less}
 use Rattle.gov_ids.specs.declared.OutRef.{OutRef}
 use Rattle.gov_ids.specs.declared.PoolId.{PoolId}
 use Rattle.gov_ids.specs.Orders.{action_id_cmp, credential_cmp, outref_cmp, pool_cmp, txid_cmp, voter_cmp}
@@ -48,14 +49,9 @@ use Rattle.checkpoint_model.specs.Resumable.{IsResumable, are_within, has_book_f
 
 -- ---- tests as facts
 
-less : (r : Ordering) → is_lt r ≡ true → r ≡ Less
-less Less e = refl
-less Equal e = absurd (false≢true e)
-less Greater e = absurd (false≢true e)
-
 all_less : {K : Type 0} (cmp : K → K → Ordering) (k : K) (ks : List K) → list_all (λ q. is_lt (cmp k q)) ks ≡ true → AllByRecursion (λ q. cmp k q ≡ Less) ks
 all_less cmp k [] h = tt
-all_less cmp k (q ∷ ks) h = (less (cmp k q) (left_of _ _ h), all_less cmp k ks (right_of _ _ h))
+all_less cmp k (q ∷ ks) h = (is_less (cmp k q) (left_of _ _ h), all_less cmp k ks (right_of _ _ h))
 
 pub set_from_rising : {K : Type 0} (cmp : K → K → Ordering) (ks : List K) → is_rising cmp ks ≡ true → IsSet cmp ks
 unfolding IsStrictlySortedBy

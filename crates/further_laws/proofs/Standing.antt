@@ -1,9 +1,8 @@
 -- Runs of accepted records: which World they leave, that its epoch is that of its slot, and what stays while the epoch stays.
-use Rattle.std.proofs.Common.{◌≡◌, ℕ, ◌+◌, ◌/◌, ◌==◌, ◌<◌, ◌≤◌, List, [], ◌∷◌, ◌++◌, Bool, true, false, cond, ◌||◌, Option, Some, None, refl, ap, sym, subst, ◌∙◌, arith}
+use Rattle.std.proofs.Common.{◌≡◌, ℕ, ◌+◌, ◌/◌, ◌<◌, ◌≤◌, List, [], ◌∷◌, ◌++◌, Bool, true, false, cond, ◌||◌, Option, Some, None, refl, ap, sym, subst, ◌∙◌, arith}
 use Rattle.std.specs.List.{list_all, list_any}
-use Rattle.std.proofs.Math.Nat.{div-mul-le_self}
-use Rattle.std.proofs.lemmas.Nat.{le-div}
-use Rattle.std.proofs.lemmas.Bool.{and_from, false≢true, eqb-true, eq-eqb, ltb-false, ltb-true, leb-false}
+use Rattle.std.proofs.lemmas.Bool.{and_from, false≢true, eqb-true, ltb-false, leb-false}
+use Rattle.tx_records.proofs.Parts.{genesis_parts}
 use Rattle.tx_records.specs.declared.genesis.Genesis.{Genesis}
 use Rattle.tx_records.specs.declared.record.Record.{Record}
 use Rattle.tx_records.specs.declared.record.Record.TheVariants as records
@@ -19,6 +18,7 @@ use Rattle.run_model.specs.Runs.{world_after_all}
 use Rattle.run_model.specs.Step.{block_checks, crossed, enters_next, epoch_at, pulsed, refusal_of, step, step_by, world_after_accepted}
 use Rattle.dormant_laws.proofs.Lists.{left_of, right_of}
 use Rattle.tx_balance.proofs.Sounds.{tx_steady}
+use Rattle.run_laws.proofs.Counted.{later_epoch, not_equal}
 use Rattle.run_laws.proofs.Good.{IsGood}
 use Rattle.run_laws.proofs.GoodBlock.{boundary_epoch, boundary_length}
 use Rattle.run_laws.proofs.Reach.{accepted_good, record_good}
@@ -98,12 +98,6 @@ goes_accepted w (records.Tx tx) good =
     goes_same w (world_after_accepted w (records.Tx tx)) (ap (λ (l : Ledger). l.epoch) (sym s)) (ap (λ (l : Ledger). l.epoch_length) (sym s)) refl
 goes_accepted w (records.Print what) good = goes_same w w refl refl refl
 
-later_epoch : (a b k : ℕ) → 0 < k → a ≤ b → a / k ≤ b / k
-later_epoch a b k h l = le-div (a / k) b k h (omega (arith, div-mul-le_self a k, l))
-
-not_equal : (n m : ℕ) → (n == m) ≡ false → n ≡ m → ⊥
-not_equal n m h e = let both : false ≡ true = sym h ∙ eq-eqb n m e in cc
-
 timed_block : (b : Bool) (w : World) (slot pulse : ℕ) → IsTimed w → enters_next w.ledger slot ≡ b → w.ledger.slot < slot → epoch_at w.ledger slot ≤ w.ledger.epoch + 1
     → IsTimed (pulsed slot pulse (crossed b w))
 timed_block false w slot pulse t e after within =
@@ -159,13 +153,8 @@ goes_all (r ∷ rs) w good h s =
     let later : Goes v (world_after_all v rs) = goes_all rs v (accepted_good w r good (left_of _ _ h) s.0) (right_of _ _ h) s.1 in
     subst (λ (u : World). Goes w u) (sym (after_first w r rs s.0)) (goes_on w v (world_after_all v rs) (goes_accepted w r good) later)
 
--- the length of an epoch of a genesis
-pub long_epochs : (g : Genesis) → genesis_limits.is_within_limits g ≡ true → 0 < g.epoch_length
-long_epochs g h =
-    ltb-true 0 g.epoch_length (right_of _ _ (left_of _ _ (left_of _ _ (left_of _ _ (left_of _ _ (left_of _ _ (left_of _ _ (left_of _ _ (left_of _ _ (left_of _ _ (left_of _ _ (left_of _ _ (left_of _ _ h)))))))))))))
-
 pub genesis_timed : (g : Genesis) → genesis_limits.is_within_limits g ≡ true → IsTimed (world_of_genesis g)
-genesis_timed g h = record { clock = refl; long = long_epochs g h }
+genesis_timed g h = record { clock = refl; long = (genesis_parts g h).long }
 
 -- ---- the parts of a run
 
