@@ -1,14 +1,15 @@
 -- A sound World stays sound where a record that breaks no rule acts.
-use Rattle.std.proofs.Common.{◌≡◌, ℕ, zero, suc, ◌+◌, ◌==◌, ◌^◌, ◌<◌, ◌≤◌, ◌&&◌, [], ◌∷◌, Bool, true, false, Option, Some, None, Ok, Err, cond, find, is_none, nat_le, nat_lt, option_map, refl, ap, subst, ◌∙◌, arith}
+use Rattle.std.proofs.Common.{◌≡◌, ℕ, zero, suc, ◌+◌, ◌==◌, ◌^◌, ◌<◌, ◌≤◌, ◌&&◌, [], ◌∷◌, Bool, true, false, Option, Some, None, Ok, Err, cond, find, nat_le, nat_lt, option_map, refl, ap, subst, ◌∙◌, arith}
 use Rattle.std.proofs.lemmas.Bool.{lt-ltb}
+use Rattle.run_laws.proofs.Sound.{accepted_sound}
 use Rattle.tx_records.specs.declared.record.Record.{Record}
 use Rattle.tx_records.specs.declared.record.Record.TheVariants as records
 use Rattle.tx_records.specs.declared.record.Rewards.{Rewards}
-use Rattle.tx_records.specs.declared.reply.Reply.{Reply}
 use Rattle.tx_records.specs.declared.reply.Reply.TheVariants.{Refused}
 use Rattle.tx_records.specs.declared.reply.Rule.{Rule}
 use Rattle.tx_records.specs.declared.tx.Tx.{Tx}
 use Rattle.tx_records.specs.RecordLimits.{is_within_limits}
+use Rattle.ledger_model.proofs.Unbroken.{unbroken_from}
 use Rattle.ledger_model.specs.Broken.{is_allowed}
 use Rattle.ledger_model.specs.Checks.{Check, answer_by, breaks, breaks_keeping, first_among, is_broken, rule_of}
 use Rattle.tx_records.specs.declared.rules.TheConstants.{EPOCH_SKIPPED, SLOT_NOT_LATER, ZERO_PULSE}
@@ -17,14 +18,9 @@ use Rattle.ledger_model.specs.Transaction.{ledger_after_tx}
 use Rattle.run_model.specs.SoundWorld.{IsSoundWorld}
 use Rattle.run_model.specs.Step.{acceptance_of, block_checks, enters_next, epoch_at, in_order_of_credential, pulsed, refusal_of, reward_checks, step, step_by, world_after_accepted, world_after_block, crossed}
 use Rattle.run_model.specs.World.{World, on_ledger}
-use Rattle.run_laws.proofs.Sound.{records_keep_sound}
 use Rattle.ledger_state.specs.Blocks.{StaysInEpoch, entry_by}
 
 -- ---- what an answer says
-
-pub not_broken : (o : Option Rule) → is_none o ≡ true → o ≡ None
-not_broken None h = refl
-not_broken (Some rule) h = cc
 
 pub not_entered : (o : Option Rule) (b : Bool) (rule : Rule) → Err rule ≡ entry_by o b → o ≡ Some rule
 not_entered None b rule h = cc
@@ -44,12 +40,9 @@ step_accepted w r none = ap (λ (o : Option Rule). step_by o w r) none
 pub step_refused : (w : World) (r : Record) (rule : Rule) → refusal_of w r ≡ Some rule → step w r ≡ (w, Refused rule)
 step_refused w r rule some = ap (λ (o : Option Rule). step_by o w r) some
 
-accepted_sound : (w : World) (r : Record) → IsSoundWorld w → is_within_limits r ≡ true → refusal_of w r ≡ None → IsSoundWorld (world_after_accepted w r)
-accepted_sound w r s within none = subst (λ (x : World × Reply). IsSoundWorld x.0) (step_accepted w r none) (records_keep_sound w r s within)
-
 -- a transaction
 pub tx_sound : (w : World) (tx : Tx) → IsSoundWorld w → is_within_limits (records.Tx tx) ≡ true → is_allowed w.ledger tx ≡ true → IsSoundWorld (on_ledger (λ l. ledger_after_tx l tx) w)
-tx_sound w tx s within allowed = accepted_sound w (records.Tx tx) s within (not_broken _ allowed)
+tx_sound w tx s within allowed = accepted_sound w (records.Tx tx) s within (unbroken_from _ allowed)
 
 -- a reward update
 pub rewards_sound : (w : World) (u : Rewards) → IsSoundWorld w → is_within_limits (records.Rewards u) ≡ true → first_among (reward_checks w u) ≡ None → IsSoundWorld (record w { pending = Some (in_order_of_credential u) })

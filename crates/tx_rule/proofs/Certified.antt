@@ -1,16 +1,14 @@
 -- Certificates one after the other: what each breaks, changes and moves.
-use Rattle.std.proofs.Common.{◌≡◌, ℕ, ◌+◌, ◌<◌, ◌≤◌, List, [], ◌∷◌, false, ◌||◌, cond, Option, Some, None, map, drop, length, get_or, refl, ap, sym, ◌∙◌, add-one}
+use Rattle.std.proofs.Common.{◌≡◌, ℕ, ◌+◌, ◌<◌, ◌≤◌, List, ◌∷◌, false, cond, Option, None, map, drop, length, get_or, ap, sym, ◌∙◌, add-one}
 use Rattle.std.proofs.Math.ListN.{drop_of_length-le}
 use Rattle.std.proofs.Math.Seq.{drop-cons}
 use Rattle.std.proofs.lemmas.List.Sums.{fold_more}
-use Rattle.std.specs.List.{enumerate_from, list_any}
-use Rattle.std.specs.Option.{option_map}
+use Rattle.std.specs.List.{enumerate_from}
 use Rattle.std.specs.Prelude.{flat_map}
 use Rattle.maps.specs.Words.{or_else}
 use Rattle.tx_records.specs.declared.cert.Cert.{Cert}
 use Rattle.tx_records.specs.declared.reply.Rule.{Rule}
 use Rattle.tx_records.specs.declared.tx.Tx.{Tx}
-use Rattle.tx_records.specs.Rules.{placed}
 use Rattle.ledger_model.specs.CertRules.{cert_checks}
 use Rattle.ledger_model.specs.Changes.{changed_by}
 use Rattle.ledger_model.specs.Checks.{Check, at_place, first_among, per_place_from}
@@ -19,18 +17,7 @@ use Rattle.ledger_model.specs.Flows.{End, Flow, flows_of_cert, hand, sum_at}
 use Rattle.ledger_model.specs.Ledger.{Ledger}
 use Rattle.ledger_model.proofs.CheckLaws.{first_among-append, first_among-at_place}
 use Rattle.ledger_model.proofs.FlowSums.{sum-append}
-use Rattle.ledger_model.proofs.Unbroken.{IsUnbroken, unbroken-cons}
-
--- a list of checks of which none is broken
-unbroken_any : (cs : List Check) → IsUnbroken cs → list_any (λ (k : Check). k.broken) cs ≡ false
-unbroken_any [] h = refl
-unbroken_any (c ∷ cs) h =
-    let both = unbroken-cons c cs h in
-    ap (λ b. b || list_any (λ (k : Check). k.broken) cs) both.0 ∙ unbroken_any cs both.1
-
-unplaced : (n : ℕ) (o : Option Rule) → option_map (placed n) o ≡ None → o ≡ None
-unplaced n None h = refl
-unplaced n (Some r) h = cc
+use Rattle.ledger_model.proofs.Unbroken.{none_broken, not_placed}
 
 module _ (l : Ledger) (tx : Tx) where
   abbrev pub checks_at : ℕ → Cert → List Check
@@ -63,7 +50,7 @@ module _ (l : Ledger) (tx : Tx) where
 
     not_refused : first_among (map (at_place i) (checks_at i c)) ≡ None → is_refused l (draft_after l tx i) c ≡ false
     not_refused none =
-        unbroken_any (checks_at i c) (record { none = unplaced i (first_among (checks_at i c)) (sym (first_among-at_place i (checks_at i c)) ∙ none) })
+        none_broken (checks_at i c) (record { none = not_placed i (first_among (checks_at i c)) (sym (first_among-at_place i (checks_at i c)) ∙ none) })
 
     pub next_draft : first_among (map (at_place i) (checks_at i c)) ≡ None → changed_by c (draft_after l tx i) ≡ draft_after l tx (i + 1)
     next_draft none =

@@ -1,5 +1,5 @@
 use Rattle.std.proofs.Common.{◌∙◌}
-use Rattle.epoch_rule.proofs.Counting.{total_is}
+use Rattle.ledger_state.proofs.Worlds.{total_is}
 use Rattle.epoch_rule.proofs.rule.reported.Goals as goal
 
 pub returns-clause-report : goal.returns-clause-report
