@@ -32,7 +32,7 @@ weight None = 1
 weight (Some line) = length line
 
 -- what holds of the fields of a reader
-pub record IsSound (state : State) (line_max stream_max taken number : ℕ) (begun : LineBegun) (ahead : BytesAhead) (text : List ℕ) : Type 0 where
+pub record AreSoundFields (state : State) (line_max stream_max taken number : ℕ) (begun : LineBegun) (ahead : BytesAhead) (text : List ℕ) : Type 0 where
   -- each line took a byte
   pub few : number + length ahead.bytes + weight begun.line ≤ taken
   pub within : taken ≤ stream_max

@@ -98,7 +98,7 @@ pub struct Lines {
 impl Model for Lines {
     ghost use Rattle.std.specs.Prelude.{◌+◌};
     ghost use Rattle.byte_lines.specs.Reader.{Reader};
-    ghost use Rattle.byte_lines.specs.States.{is_ended, is_failed, bytes_over, IsSound};
+    ghost use Rattle.byte_lines.specs.States.{is_ended, is_failed, bytes_over, AreSoundFields};
 
     ghost Value = { Reader };
 
@@ -115,7 +115,7 @@ impl Model for Lines {
       failed = is_failed a.state;
     } };
 
-    ghost invariant = { λ a. IsSound a.state a.line_max a.stream_max a.taken a.number a.begun a.ahead a.text.items };
+    ghost invariant = { λ a. AreSoundFields a.state a.line_max a.stream_max a.taken a.number a.begun a.ahead a.text.items };
 }
 
 impl Lines {

@@ -25,7 +25,7 @@ use crate::rules::check_cert;
 use crate::withdrawals::{check_withdrawals, empty_accounts};
 pub use kinds::is_account_or_pool_cert;
 use live_ledger::Draft;
-use rule_checks::{as_fault, at_place};
+use rule_checks::{answer_at, as_fault};
 use tx_records::{Cert, Tx, TxFault};
 
 /// Empties each account that a transaction withdraws from, or refuses with the first broken rule of a withdrawal and its place. The rules look at the ledger before the transaction. (CERTS of the formal specification; that the vote delegation is that of the ledger before the transaction is own)
@@ -53,7 +53,7 @@ pub fn cert(d: &mut Draft, place: u32, c: &Cert) -> Result<(), TxFault>
     ensures start { d.new.start ≡ d.old.start }
     ensures few { d.new.changes ≤ d.old.changes + 1 }
 {
-    as_fault(at_place(check_cert(d, c), place as usize))?;
+    as_fault(answer_at(check_cert(d, c), place as usize))?;
     change(d, c)?;
     Ok(())
 }

@@ -24,7 +24,7 @@ use Rattle.utxo_set.specs.Utxos.{Utxos}
 use Rattle.tx_records.specs.declared.limits.TheConstants.{SUPPLY_LIMIT}
 use Rattle.view_map.specs.View.{frozen_of}
 use Rattle.draft_changes.specs.Balances.{KeepsOutputs, NoneRises, balance_in}
-use Rattle.draft_changes.specs.Changed.{with_registration, with_registrations}
+use Rattle.draft_changes.specs.Changed.{with_registered, with_registrations}
 use Rattle.draft_changes.specs.ChangedAccounts.{standing_of}
 use Rattle.draft_changes.specs.declared.account_changes.Written.{Written}
 use Rattle.draft_changes.proofs.AccountChanging.{IsMap-mapped, stands}
@@ -72,7 +72,7 @@ module _ (e : Credential × Option Registered) (changes : List (Credential × Op
     (g : IsMap credential_cmp (e ∷ changes)) (h : IsMap credential_cmp accounts) (low : NoneRises (e ∷ changes) accounts) where
   -- with the first change
   abbrev next : List (Credential × Registered)
-  next = with_registration e.0 e.1 accounts
+  next = with_registered e.0 e.1 accounts
 
   next_at : (q : Credential) → value_at credential_cmp next q ≡ cond (eq_by_cmp credential_cmp e.0 q) e.1 (value_at credential_cmp accounts q)
   next_at q = value_at-with_option credential_total e.0 e.1 accounts q h
@@ -139,15 +139,15 @@ module _ (left : List (Credential × ℕ)) (all rest : List (Credential × Writt
   changes_map : IsMap credential_cmp (standing_of left ((c, w) ∷ rest))
   changes_map = IsMap-mapped (stands left) credential_cmp ((c, w) ∷ rest) h.ordered
 
-  laying_sum : balances_in (with_registration c (stands left w) (accounts_of now)) ≤ balances_in (accounts_of now)
+  laying_sum : balances_in (with_registered c (stands left w) (accounts_of now)) ≤ balances_in (accounts_of now)
   laying_sum = next_sum change (standing_of left rest) (accounts_of now) changes_map h.in_order h.lower
 
   -- there is room for the next
-  pub laying_room : lovelace_in now.outputs.outputs + balances_in (with_registration c (stands left w) (accounts_of now)) ≤ SUPPLY_LIMIT
+  pub laying_room : lovelace_in now.outputs.outputs + balances_in (with_registered c (stands left w) (accounts_of now)) ≤ SUPPLY_LIMIT
   laying_room = omega (arith, laying_sum, h.room)
 
   -- it is laid
-  pub laying_next : (new : Stakes) → accounts_of new ≡ with_registration c (stands left w) (accounts_of now) → new.outputs ≡ now.outputs
+  pub laying_next : (new : Stakes) → accounts_of new ≡ with_registered c (stands left w) (accounts_of now) → new.outputs ≡ now.outputs
       → frozen_of credential_cmp new.accounts ≡ frozen_of credential_cmp now.accounts → IsLaying left all rest first new
   laying_next new is outputs frozen = record {
     ordered = behind_first (c, w) rest h.ordered;

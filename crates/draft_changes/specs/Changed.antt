@@ -28,12 +28,12 @@ pub record Changed : Type 0 where
   pub hot : List (Credential × HotState)
 
 -- the registrations with that one for c, or without one
-abbrev pub with_registration : Credential → Option Registered → List (Credential × Registered) → List (Credential × Registered)
-with_registration c to accounts = with_option credential_cmp c to accounts
+abbrev pub with_registered : Credential → Option Registered → List (Credential × Registered) → List (Credential × Registered)
+with_registered c to accounts = with_option credential_cmp c to accounts
 
 -- the registrations with each of these changes
 abbrev pub with_registrations : List (Credential × Option Registered) → List (Credential × Registered) → List (Credential × Registered)
-with_registrations changes accounts = fold (λ es p. with_registration p.0 p.1 es) accounts changes
+with_registrations changes accounts = fold (λ es p. with_registered p.0 p.1 es) accounts changes
 
 -- the DReps with each of these changes
 abbrev pub with_dreps : List (Credential × Option DrepState) → List (Credential × DrepState) → List (Credential × DrepState)

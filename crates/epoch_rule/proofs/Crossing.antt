@@ -20,8 +20,8 @@ use Rattle.run_model.specs.BoundaryFlows.{flows_of_boundary}
 use Rattle.run_model.specs.SoundWorld.{IsSoundWorld}
 use Rattle.run_model.specs.World.{World}
 use Rattle.snapshots.specs.declared.frozen.Frozen.{Frozen}
-use Rattle.snapshots.specs.Frozen.{frozen_of}
-use Rattle.view_map.specs.View.{frozen_of as frozen_of_accounts}
+use Rattle.snapshots.specs.Frozen.{frozen_copy_of}
+use Rattle.view_map.specs.View.{frozen_copy_of as frozen_of_accounts}
 use Rattle.epoch_rule.specs.declared.books.Lists.{Lists}
 use Rattle.epoch_rule.specs.Lists.{lists_of}
 use Rattle.epoch_rule.specs.Sounds.{AreSoundBooks}
@@ -46,7 +46,7 @@ module _ (w : World) (b : Books) (f : Frozen) (p : Pulser) (parts : world_of_par
   sound_books a same c finished = record {
     sound = subst (λ (v : World). IsSoundWorld v) (sym parts) held.sound;
     frozen = record {
-      frozen = held.copied ∙ ap frozen_of (sym is_frozen);
+      frozen = held.copied ∙ ap frozen_copy_of (sym is_frozen);
       counted = finished snapshot_held (ap (λ (x : Accounts). frozen_of_accounts credential_cmp x) (sym same)) counts;
     };
   }

@@ -3,7 +3,7 @@ ghost use Rattle.drep_pulser.specs.Facts.{IsCountedOf};
 ghost use Rattle.epoch_steps.specs.Decisions.{enacted_by};
 ghost use Rattle.gov_model.specs.Enacted.{enacted_after};
 ghost use Rattle.gov_model.specs.Ratified.{expired_of, ratified_of, tallies_of};
-ghost use Rattle.snapshots.specs.Frozen.{frozen_of};
+ghost use Rattle.snapshots.specs.Frozen.{frozen_copy_of};
 ghost use Rattle.tally.specs.Counted.{CanBeCounted};
 
 use crate::counts::finished_alone;
@@ -30,7 +30,7 @@ pub fn next_outcome(alloc: Global, s: &LedgerState) -> Result<Outcome, NoMemory>
 // The count of the frozen epoch, ended, by which its proposals can be counted.
 fn counted_copy(alloc: Global, s: &LedgerState) -> Result<Counted, NoMemory>
     ensures counted { IfOk result (IsCountedOf s.now.frozen) }
-    ensures fits { IfOk result (CanBeCounted (frozen_of s.now.frozen)) }
+    ensures fits { IfOk result (CanBeCounted (frozen_copy_of s.now.frozen)) }
 {
     sound_can_be_counted();
     let pulser = s.pulser().copied(alloc)?;

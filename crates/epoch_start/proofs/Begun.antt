@@ -23,9 +23,9 @@ use Rattle.ledger_books.specs.declared.Books.{Books}
 use Rattle.ledger_books.specs.Parts.{ledger_of_books}
 use Rattle.run_model.specs.SoundWorld.{IsSoundWorld}
 use Rattle.run_model.specs.SoundWorld.{held_by as held_by_entry}
-use Rattle.snapshots.specs.Frozen.{frozen_of}
+use Rattle.snapshots.specs.Frozen.{frozen_copy_of}
 use Rattle.stake_book.specs.Stakes.{AreKept}
-use Rattle.view_map.specs.View.{frozen_of as frozen_entries_of}
+use Rattle.view_map.specs.View.{frozen_copy_of as frozen_entries_of}
 use Rattle.epoch_start.specs.Begun.{accounts_of_pools, begun_of}
 
 -- the frozen entries are the live ones
@@ -60,7 +60,7 @@ has_frozen b a deposits k s book frozen paid total = record {
 -- the pools of mark, as they are frozen
 pub pools_are : PoolsAreFrozen → (b : Books) (a : Accounts) (deposits : List (PoolId × ℕ)) → AreKept b.stake → IsSoundWorld (begun_of b) → a ≡ b.stake.accounts
     → ((p : PoolId) → unwrap_or (value_at pool_cmp deposits p) 0 ≡ paid_with a.live b.proposals p)
-    → map (pool_by b.pools a.live deposits) b.snapshots.mark ≡ (frozen_of (begun_of b).frozen).pools
+    → map (pool_by b.pools a.live deposits) b.snapshots.mark ≡ (frozen_copy_of (begun_of b).frozen).pools
 pools_are pools_are_frozen b a deposits k s book paid =
     let live : a.live ≡ (begun_of b).frozen.entries = ap (λ (x : Accounts). x.live) book ∙ entries_are b k in
     ap (λ (es : List (Credential × Entry)). map (pool_by b.pools es deposits) b.snapshots.mark) live

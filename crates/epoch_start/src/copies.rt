@@ -1,7 +1,7 @@
 ghost use Rattle.std.specs.Prelude.{◌≡◌, IfOk};
 ghost use Rattle.epoch_start.specs.Begun.{accounts_of_pools, begun_of};
 ghost use Rattle.run_model.specs.SoundWorld.{IsSoundWorld};
-ghost use Rattle.snapshots.specs.Frozen.{frozen_of};
+ghost use Rattle.snapshots.specs.Frozen.{frozen_copy_of};
 
 use coin_frac::NoMemory;
 use freeze::{copied_proposals, deposits_by_pool, frozen_pools, pools_are_frozen};
@@ -13,7 +13,7 @@ use std::alloc::Global;
 /// What is frozen of these books when their epoch begins, in memory of its own. (CIP-1694, Changes to the stake snapshot; EPOCH of the formal specification)
 pub fn frozen_copy(alloc: Global, b: &Books) -> Result<Frozen, NoMemory>
     requires { IsSoundWorld (begun_of b.now) }
-    ensures copy { IfOk result (λ f. f ≡ frozen_of (begun_of b.now).frozen) }
+    ensures copy { IfOk result (λ f. f ≡ frozen_copy_of (begun_of b.now).frozen) }
     ensures accounts { IfOk result (λ f. accounts_of_pools f.pools ≡ (begun_of b.now).frozen.pool_accounts) }
 {
     let start = b.state.get().copied(alloc)?;
@@ -34,7 +34,7 @@ pub fn frozen_copy(alloc: Global, b: &Books) -> Result<Frozen, NoMemory>
 /// The pools of mark as they are frozen. (RatifyEnv of the formal specification)
 fn pools_copy(alloc: Global, b: &Books) -> Result<Listed<FrozenPool>, NoMemory>
     requires { IsSoundWorld (begun_of b.now) }
-    ensures copy { IfOk result (λ l. l ≡ (frozen_of (begun_of b.now).frozen).pools) }
+    ensures copy { IfOk result (λ l. l ≡ (frozen_copy_of (begun_of b.now).frozen).pools) }
     ensures accounts { IfOk result (λ l. accounts_of_pools l ≡ (begun_of b.now).frozen.pool_accounts) }
 {
     pools_are_frozen();

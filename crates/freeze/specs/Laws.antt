@@ -8,7 +8,7 @@ use Rattle.book_records.specs.declared.pool.Pool.{Pool}
 use Rattle.gov_model.specs.Sides.{default_of_delegation, default_vote}
 use Rattle.gov_model.specs.Snapshot.{Snapshot}
 use Rattle.gov_model.specs.Stake.{deposits_to, is_staked_with}
-use Rattle.snapshots.specs.Frozen.{frozen_of}
+use Rattle.snapshots.specs.Frozen.{frozen_copy_of}
 use Rattle.freeze.specs.Deposits.{paid_by, paid_with, delegates_to}
 use Rattle.freeze.specs.Pools.{delegation_of, pool_by}
 
@@ -30,4 +30,4 @@ abbrev pub PoolsAreFrozen : Type 0
 PoolsAreFrozen = (s : Snapshot) (pools : List (PoolId × Pool)) (deposits : List (PoolId × ℕ)) → IsMap pool_cmp s.mark
     → s.pool_accounts ≡ filter_map (λ m. option_map (λ (p : Pool). (m.0, p.terms.account)) (value_at pool_cmp pools m.0)) s.mark
     → ((p : PoolId) → unwrap_or (value_at pool_cmp deposits p) 0 ≡ paid_with s.entries s.proposals p)
-    → map (pool_by pools s.entries deposits) s.mark ≡ (frozen_of s).pools
+    → map (pool_by pools s.entries deposits) s.mark ≡ (frozen_copy_of s).pools

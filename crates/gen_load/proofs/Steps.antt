@@ -6,7 +6,7 @@ use Rattle.text_model.specs.Words.{Text}
 use Rattle.load_model.specs.Amounts.{registration_count, spent_before, spent_by_registration}
 use Rattle.load_model.specs.Genesis.{genesis_line}
 use Rattle.load_model.specs.Stream.{bytes_of_lines, epoch_lines, registration_line}
-use Rattle.gen_load.specs.Position.{Gives, IsLoad, IsSound, after_epoch_line, after_registration, line_of_epoch, lines_from, lines_of_epochs}
+use Rattle.gen_load.specs.Position.{Gives, IsLoad, IsSoundPosition, after_epoch_line, after_registration, line_of_epoch, lines_from, lines_of_epochs}
 use Rattle.gen_load.specs.declared.position.EpochLine.{EpochLine}
 use Rattle.gen_load.specs.declared.position.EpochLine.TheVariants.{FirstBlock, Proposal, Votes, VotesAgain, Rewards, LastBlock}
 use Rattle.gen_load.specs.declared.position.Load.{Load}
@@ -69,7 +69,7 @@ registration_step x j below = registration_to x j (nat_lt (j + 1) (registration_
 
 registration_sound_to : (x : Load) (j spent : ℕ) (b : Bool) → nat_lt (j + 1) (registration_count x.accounts) ≡ b → IsLoad x → j < registration_count x.accounts
     → spent ≡ spent_before x.seed x.accounts (j + 1) → spent ≤ 1000501 * (j + 1)
-    → IsSound x (record { next = cond b (Registration (j + 1)) (Epoch 0 FirstBlock); spent = spent })
+    → IsSoundPosition x (record { next = cond b (Registration (j + 1)) (Epoch 0 FirstBlock); spent = spent })
 registration_sound_to x j spent true test load below is most = record {
   load = load;
   next = is_below (j + 1) (registration_count x.accounts) test;
@@ -88,7 +88,7 @@ registration_sound_to x j spent false test load below is most =
 
 pub registration_sound : (x : Load) (j spent : ℕ) → IsLoad x → j < registration_count x.accounts
     → spent ≡ spent_before x.seed x.accounts (j + 1) → spent ≤ 1000501 * (j + 1)
-    → IsSound x (record { next = after_registration x.accounts j; spent = spent })
+    → IsSoundPosition x (record { next = after_registration x.accounts j; spent = spent })
 registration_sound x j spent load below is most =
     registration_sound_to x j spent (nat_lt (j + 1) (registration_count x.accounts)) refl load below is most
 
@@ -120,7 +120,7 @@ epoch_step x e LastBlock below =
 
 pub epoch_sound : (x : Load) (e spent : ℕ) (part : EpochLine) → IsLoad x → e < x.epochs
     → spent ≡ spent_before x.seed x.accounts (registration_count x.accounts) → spent ≤ 1000501 * registration_count x.accounts
-    → IsSound x (record { next = after_epoch_line e part; spent = spent })
+    → IsSoundPosition x (record { next = after_epoch_line e part; spent = spent })
 epoch_sound x e spent FirstBlock load below is most = record { load = load; next = omega arith; spent = is; most = most }
 epoch_sound x e spent Proposal load below is most = record { load = load; next = omega arith; spent = is; most = most }
 epoch_sound x e spent Votes load below is most = record { load = load; next = omega arith; spent = is; most = most }

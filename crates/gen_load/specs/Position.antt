@@ -77,7 +77,7 @@ pub record IsLoad (x : Load) : Type 0 where
   pub epochs : x.epochs ≤ 100
 
 -- where the program may be
-pub record IsSound (x : Load) (p : Position) : Type 0 where
+pub record IsSoundPosition (x : Load) (p : Position) : Type 0 where
   pub load : IsLoad x
   pub next : IsWithin x p.next
   pub spent : p.spent ≡ spent_before x.seed x.accounts (registered x p.next)

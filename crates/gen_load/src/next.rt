@@ -1,7 +1,7 @@
 //! The lines of the stream, one after another.
 ghost use Rattle.std.specs.Prelude.{◌≡◌, ◌+◌, ◌*◌, ◌<◌, ◌≤◌, []};
 ghost use Rattle.load_model.specs.Amounts.{registration_count, spent_before};
-ghost use Rattle.gen_load.specs.Position.{Gives, IsLoad, IsSound, bytes_from};
+ghost use Rattle.gen_load.specs.Position.{Gives, IsLoad, IsSoundPosition, bytes_from};
 
 use crate::accounts::spent_by;
 use crate::epochs::{FUNDS, push_epoch_line};
@@ -14,7 +14,7 @@ use crate::registrations::push_registration_line;
 fn push_first(line: &mut LineBuffer, load: Load) -> Position
     requires empty { line.old ≡ [] }
     requires load { IsLoad load }
-    ensures sound { IsSound load result }
+    ensures sound { IsSoundPosition load result }
     ensures gives { Gives (bytes_from load NextLine.Genesis) line.new (bytes_from load result.next) }
 {
     let _seed = load.seed;
@@ -45,7 +45,7 @@ fn push_registration(line: &mut LineBuffer, load: Load, registration: u32, spent
     requires registration { registration < registration_count load.accounts }
     requires spent { spent ≡ spent_before load.seed load.accounts registration }
     requires most { spent ≤ 1000501 * registration }
-    ensures sound { IsSound load result }
+    ensures sound { IsSoundPosition load result }
     ensures gives { Gives (bytes_from load (NextLine.Registration registration)) line.new (bytes_from load result.next) }
 {
     let spent_now = spent_with(load, registration, spent);
@@ -71,7 +71,7 @@ fn push_of_epoch(
     requires epoch { epoch ≤ load.epochs }
     requires spent { spent ≡ spent_before load.seed load.accounts (registration_count load.accounts) }
     requires most { spent ≤ 1000501 * registration_count load.accounts }
-    ensures sound { IsSound load result }
+    ensures sound { IsSoundPosition load result }
     ensures gives { Gives (bytes_from load (NextLine.Epoch epoch part)) line.new (bytes_from load result.next) }
 {
     if epoch == load.epochs {
@@ -91,8 +91,8 @@ fn push_of_epoch(
 /// Writes the next line, where there is one, and answers where the source is then.
 pub(crate) fn push_next_line(line: &mut LineBuffer, load: Load, position: Position) -> Position
     requires empty { line.old ≡ [] }
-    requires sound { IsSound load position }
-    ensures sound { IsSound load result }
+    requires sound { IsSoundPosition load position }
+    ensures sound { IsSoundPosition load result }
     ensures gives { Gives (bytes_from load position.next) line.new (bytes_from load result.next) }
 {
     let spent = position.spent;

@@ -2,7 +2,7 @@
 ghost use Rattle.std.specs.Prelude.{◌≡◌, ◌<◌, ◌≤◌, [], ◌++◌, Some, IfOk, IsOk, drop, length, take};
 ghost use Rattle.byte_lines.specs.Sources.{IsRead};
 ghost use Rattle.load_model.specs.Stream.{bytes_of_load};
-ghost use Rattle.gen_load.specs.Position.{IsSound, bytes_from};
+ghost use Rattle.gen_load.specs.Position.{IsSoundPosition, bytes_from};
 
 use crate::line::LineBuffer;
 use crate::next::push_next_line;
@@ -25,14 +25,14 @@ pub struct GenSource {
 
 impl Model for GenSource {
     ghost use Rattle.std.specs.Prelude.{ℕ, ◌≤◌, List, ◌++◌, drop, length};
-    ghost use Rattle.gen_load.specs.Position.{IsSound, bytes_from};
+    ghost use Rattle.gen_load.specs.Position.{IsSoundPosition, bytes_from};
 
     // the bytes left
     ghost Value = { List ℕ };
 
     ghost view = { λ a. drop a.offset a.line ++ bytes_from a.load a.position.next };
 
-    ghost invariant = { λ a. (a.offset ≤ length a.line) × IsSound a.load a.position };
+    ghost invariant = { λ a. (a.offset ≤ length a.line) × IsSoundPosition a.load a.position };
 }
 
 impl GenSource {
@@ -62,8 +62,8 @@ impl GenSource {
 /// Writes the next line where `line` is read to its end. Answers how much of the line is read, and what comes after it.
 fn refill(line: &mut LineBuffer, offset: usize, load: Load, position: Position) -> (usize, Position)
     requires within { offset ≤ length line.old }
-    requires sound { IsSound load position }
-    ensures sound { IsSound load result.1 }
+    requires sound { IsSoundPosition load position }
+    ensures sound { IsSoundPosition load result.1 }
     ensures within { result.0 ≤ length line.new }
     ensures bytes { drop offset line.old ++ bytes_from load position.next ≡
         drop result.0 line.new ++ bytes_from load result.1.next }

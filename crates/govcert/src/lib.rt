@@ -27,7 +27,7 @@ use crate::voters::refresh_voters;
 use coin_frac::NoMemory;
 pub use kinds::is_governance_cert;
 use live_ledger::Draft;
-use rule_checks::{as_fault, at_place};
+use rule_checks::{answer_at, as_fault};
 use tx_records::{Cert, Tx, TxFault};
 
 /// Adds the dormant epochs to the expiries of DReps where the transaction proposes, and then gives each registered DRep that votes in it the expiry of one that acts now. (Own: CIP-1694, Delegated representatives, lets the epochs without a proposal not count)
@@ -53,7 +53,7 @@ pub fn cert(d: &mut Draft, place: u32, c: &Cert) -> Result<(), TxFault>
     ensures start { d.new.start ≡ d.old.start }
     ensures few { d.new.changes ≤ d.old.changes + 1 }
 {
-    as_fault(at_place(check_cert(d, c), place as usize))?;
+    as_fault(answer_at(check_cert(d, c), place as usize))?;
     change(d, c)?;
     Ok(())
 }

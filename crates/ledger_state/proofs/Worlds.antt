@@ -10,7 +10,7 @@ use Rattle.ledger_model.specs.Ledger.{Ledger}
 use Rattle.drep_pulser.specs.declared.Pulser.{Pulser}
 use Rattle.drep_pulser.specs.declared.Pulser.TheVariants.{Counting, Counted}
 use Rattle.drep_pulser.specs.Pulsers.{GoesOnIn, IsPulserOf, done_by, total_of_pulser}
-use Rattle.snapshots.specs.Frozen.{frozen_of}
+use Rattle.snapshots.specs.Frozen.{frozen_copy_of}
 use Rattle.snapshots.specs.declared.frozen.Frozen.{Frozen}
 use Rattle.snapshots.specs.declared.stakes.Snapshots.{Snapshots}
 use Rattle.run_model.specs.SoundWorld.{IsSoundLedger, IsSoundWorld}
@@ -22,14 +22,14 @@ use Rattle.run_model.specs.Genesis.{ledger_of_genesis, no_snapshot, world_of_gen
 use Rattle.tx_records.specs.declared.genesis.Genesis.{Genesis}
 use Rattle.gov_ids.specs.Orders.{credential_cmp}
 use Rattle.epoch_start.proofs.Begun.{entries_are}
-use Rattle.view_map.specs.View.{frozen_of as frozen_entries_of}
+use Rattle.view_map.specs.View.{frozen_copy_of as frozen_entries_of}
 use Rattle.stake_book.specs.Stakes.{AreKept, Stakes, accounts_of, pool_stake_in, stake_held}
 use Rattle.book_records.specs.declared.Registered.{Registered}
 use Rattle.gov_ids.specs.Same.{same_pool}
 use Rattle.maps.specs.Words.{holds}
 use Rattle.ledger_books.specs.declared.Books.{Books}
 use Rattle.ledger_books.specs.Parts.{frozen_entries, ledger_of_books}
-use Rattle.live_ledger.specs.Kept.{IsKept}
+use Rattle.live_ledger.specs.Kept.{IsLiveLedger}
 use Rattle.live_ledger.specs.Standing.{Standing}
 use Rattle.live_ledger.specs.Standing.{on_ledger as on_live}
 use Rattle.epoch_start.specs.Begun.{accounts_of_pools, begun_of}
@@ -39,7 +39,7 @@ use Rattle.ledger_state.specs.Worlds.{IsHeldBy, snapshot_with, world_with}
 -- ---- what was frozen is had again
 
 -- the World that begins is had again of its parts
-pub begun_again : (b : Books) (f : Frozen) (p : Pulser) → frozen_entries b ≡ (begun_of b).frozen.entries → f ≡ frozen_of (begun_of b).frozen
+pub begun_again : (b : Books) (f : Frozen) (p : Pulser) → frozen_entries b ≡ (begun_of b).frozen.entries → f ≡ frozen_copy_of (begun_of b).frozen
     → accounts_of_pools f.pools ≡ (begun_of b).frozen.pool_accounts → done_by p ≡ 0 → world_of_parts b f p ≡ begun_of b
 begun_again b f p entries copied accounts none = λ i. record (begun_of b) {
   counted = none i;
@@ -57,7 +57,7 @@ begun_again b f p entries copied accounts none = λ i. record (begun_of b) {
 -- ---- what is kept
 
 -- a sound ledger is kept
-pub ledger_kept : (l : Ledger) → IsSoundLedger l → IsKept l
+pub ledger_kept : (l : Ledger) → IsSoundLedger l → IsLiveLedger l
 ledger_kept l s = record {
   sound = s.maps;
   balanced = s.balanced;
@@ -74,7 +74,7 @@ ledger_kept l s = record {
 pub held_after : (w v : World) (f : Frozen) (p q : Pulser) → IsHeldBy w f p → v.frozen ≡ w.frozen → IsPulserOf w.frozen q → IsSoundWorld v → IsHeldBy v f q
 held_after w v f p q h stays counts s = record {
   sound = s;
-  copied = h.copied ∙ ap frozen_of (sym stays);
+  copied = h.copied ∙ ap frozen_copy_of (sym stays);
   counts = subst (λ (x : Snapshot). IsPulserOf x q) (sym stays) counts;
 }
 

@@ -9,7 +9,7 @@ use Rattle.run_model.specs.SoundWorld.{IsSoundWorld}
 use Rattle.run_model.specs.World.{World}
 use Rattle.drep_pulser.specs.declared.Pulser.{Pulser}
 use Rattle.drep_pulser.specs.Pulsers.{IsPulserOf, done_by}
-use Rattle.snapshots.specs.Frozen.{frozen_of}
+use Rattle.snapshots.specs.Frozen.{frozen_copy_of}
 use Rattle.snapshots.specs.declared.frozen.Frozen.{Frozen}
 use Rattle.snapshots.specs.declared.stakes.Snapshots.{Snapshots}
 use Rattle.epoch_start.specs.Begun.{accounts_of_pools}
@@ -44,5 +44,5 @@ world_with s marks pending f p = record {
 -- the World is sound, the copy is the one of its snapshot, and the count is one of that snapshot: it has counted as many entries, and what they weigh
 pub record IsHeldBy (w : World) (f : Frozen) (p : Pulser) : Type 0 where
   pub sound : IsSoundWorld w
-  pub copied : f ≡ frozen_of w.frozen
+  pub copied : f ≡ frozen_copy_of w.frozen
   pub counts : IsPulserOf w.frozen p

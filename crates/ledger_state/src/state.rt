@@ -1,7 +1,7 @@
 ghost use Rattle.std.specs.Prelude.{◌≡◌, ◌<◌, option_map};
 ghost use Rattle.ledger_model.specs.Supply.{pots_of};
 ghost use Rattle.drep_pulser.specs.Pulsers.{IsPulserOf, done_by};
-ghost use Rattle.snapshots.specs.Frozen.{frozen_of};
+ghost use Rattle.snapshots.specs.Frozen.{frozen_copy_of};
 ghost use Rattle.run_model.specs.SoundWorld.{IsSoundWorld};
 ghost use Rattle.stake_book.specs.Stakes.{registrations};
 
@@ -205,7 +205,7 @@ impl LedgerState {
 
     /// What was frozen when the epoch began, but for the account entries, which the stake book keeps. (EPOCH of the formal specification)
     pub fn frozen(&self) -> &Frozen
-        ensures { result.now ≡ frozen_of self.now.frozen }
+        ensures { result.now ≡ frozen_copy_of self.now.frozen }
     {
         self.frozen.get()
     }

@@ -43,7 +43,7 @@ use Rattle.tx_records.specs.declared.limits.TheConstants.{SUPPLY_LIMIT}
 use Rattle.draft_changes.specs.Balances.{NoneRises}
 use Rattle.draft_changes.specs.Changed.{Changed, laid_over, with_registrations}
 use Rattle.proposal_store.specs.Leaving.{without_votes_of}
-use Rattle.live_ledger.specs.Kept.{IsKept}
+use Rattle.live_ledger.specs.Kept.{IsLiveLedger}
 use Rattle.live_ledger.specs.Proposed.{IsUnknown}
 use Rattle.dormant_laws.proofs.Dormant.{tx_timely}
 use Rattle.live_ledger.proofs.Balances.{draft_lowers, ended_balance}
@@ -82,7 +82,7 @@ pub record IsPassing (l : Ledger) (tx : Tx) (changes : Changed) : Type 0 where
   pub donation : l.donations + tx.donation < 2 ^ 64
   pub unknown : IsUnknown tx.id (map (with_votes tx) (map (without_votes_of changes.left) l.proposals))
   pub deposits : deposits_of (map (with_votes tx) (map (without_votes_of changes.left) l.proposals)) + sum_by (λ (p : ProposalRecord). p.deposit) tx.proposals < 2 ^ 64
-  pub kept : IsKept (after_changes l tx changes)
+  pub kept : IsLiveLedger (after_changes l tx changes)
   pub is : after_changes l tx changes ≡ ledger_after_tx l tx
 
 -- what holds where its scripts failed
@@ -91,15 +91,15 @@ pub record IsFailing (l : Ledger) (tx : Tx) : Type 0 where
   pub room : lovelace_in (without_keys outref_cmp tx.collateral l.outputs) + balances_in l.accounts + returned tx ≤ SUPPLY_LIMIT
   pub taken : lovelace_in (without_keys outref_cmp tx.collateral l.outputs) + collateral_sum l tx ≡ lovelace_in l.outputs
   pub covered : collateral_left l tx + returned tx ≡ collateral_sum l tx
-  pub kept : IsKept (after_failed l tx)
+  pub kept : IsLiveLedger (after_failed l tx)
   pub is : after_failed l tx ≡ ledger_after_tx l tx
 
-module _ (l : Ledger) (tx : Tx) (k : IsKept l) (within : is_within_limits tx ≡ true) (allowed : is_allowed l tx ≡ true) where
+module _ (l : Ledger) (tx : Tx) (k : IsLiveLedger l) (within : is_within_limits tx ≡ true) (allowed : is_allowed l tx ≡ true) where
   parts : IsPassed l tx
   parts = parts_of l tx allowed
 
   -- the ledger after it keeps what a ledger keeps, if the transactions of its proposals are used and their votes are maps
-  kept_after : (m : Ledger) → m ≡ ledger_after_tx l tx → m.state ≡ l.state → AreUsed m.used m.proposals → AllOrdered m.proposals → IsKept m
+  kept_after : (m : Ledger) → m ≡ ledger_after_tx l tx → m.state ≡ l.state → AreUsed m.used m.proposals → AllOrdered m.proposals → IsLiveLedger m
   kept_after m is state proposed voted =
       let supply = allowed_keeps_supply l tx k.sound (tx_parts tx within).withdrawals allowed in
       let epoch : m.epoch ≡ l.epoch = ap (λ (x : Ledger). x.epoch) is ∙ ap (λ (x : Ledger). x.epoch) (sym (tx_steady l tx k.sound).only) in
@@ -165,7 +165,7 @@ module _ (l : Ledger) (tx : Tx) (k : IsKept l) (within : is_within_limits tx ≡
       let proposed = used-append now_used old (made_proposals (last_voting_epoch l) tx) (used-voted now_used tx.votes left (used-more l.used tx.id left known))
       (used-proposed now_used (last_voting_epoch l) tx.id 0 tx.proposals (new_used l.used tx.id)) in
       let voted = ordered-append old (made_proposals (last_voting_epoch l) tx) (ordered-voted tx.votes left (ordered-cleared changes.left l.proposals k.voted)) (ordered-proposed (last_voting_epoch l) tx.id 0 tx.proposals) in
-      let kept : IsKept (after_changes l tx changes) = kept_after (after_changes l tx changes) is refl proposed voted in
+      let kept : IsLiveLedger (after_changes l tx changes) = kept_after (after_changes l tx changes) is refl proposed voted in
       record {
         before = omega (arith, k.balanced, k.within);
         lower = changes_lower changes drafted;
@@ -184,7 +184,7 @@ module _ (l : Ledger) (tx : Tx) (k : IsKept l) (within : is_within_limits tx ≡
   pub fails : is_failed tx.scripts ≡ true → IsFailing l tx
   fails e =
       let by = by_failed tx.scripts l tx e in
-      let kept : IsKept (after_failed l tx) = kept_after (after_failed l tx) by.1 refl (used-more l.used tx.id l.proposals k.proposed) k.voted in
+      let kept : IsLiveLedger (after_failed l tx) = kept_after (after_failed l tx) by.1 refl (used-more l.used tx.id l.proposals k.proposed) k.voted in
       let n = length tx.outputs in
       let back = option_to_list tx.collateral_return in
       record {

@@ -27,9 +27,9 @@ use Rattle.draft_changes.specs.ChangedAccounts as changed_accounts
 use Rattle.draft_changes.specs.ChangedDreps.{AllAddable, ChangedDreps, awakened, with_refresh}
 use Rattle.draft_changes.specs.ChangedDreps as changed_dreps
 use Rattle.draft_changes.specs.ChangedParts.{changed_of}
-use Rattle.draft_changes.specs.Changed.{dormant_by, dreps_by, laid_over, with_dreps, with_registration, with_registrations}
+use Rattle.draft_changes.specs.Changed.{dormant_by, dreps_by, laid_over, with_dreps, with_registered, with_registrations}
 use Rattle.live_ledger.specs.Drafts.{having_drep}
-use Rattle.live_ledger.specs.Kept.{IsKept}
+use Rattle.live_ledger.specs.Kept.{IsLiveLedger}
 use Rattle.draft_changes.proofs.AccountChanging.{ended_more}
 use Rattle.draft_changes.proofs.Awaking.{dreps_by_map}
 use Rattle.draft_changes.proofs.Ending.{no_delegation_ended}
@@ -111,7 +111,7 @@ dreps_added epoch n changes dreps g h =
 abbrev refreshed_by : Bool → ℕ → ℕ → List (Credential × Option DrepState) → ChangedDreps
 refreshed_by b epoch n dreps = with_refresh epoch n (record { dreps = dreps; refreshed = b })
 
-module _ (start : Ledger) (kept : IsKept start) (a : ChangedAccounts) (pools : List (PoolId × Pool)) (d : ChangedDreps) (hot : List (Credential × HotState)) where
+module _ (start : Ledger) (kept : IsLiveLedger start) (a : ChangedAccounts) (pools : List (PoolId × Pool)) (d : ChangedDreps) (hot : List (Credential × HotState)) where
   abbrev pub now : Ledger
   now = laid_over (changed_of a pools d hot) start
 
@@ -135,7 +135,7 @@ module _ (start : Ledger) (kept : IsKept start) (a : ChangedAccounts) (pools : L
   dreps_are_map = IsMap-with_options credential_total d.dreps dreps_before dreps_before_map
 
   pub account_laid : (c : Credential) (to : Option Registered) → IsMap credential_cmp a.accounts
-      → laid_over (changed_of (changed_accounts.with_change c to a) pools d hot) start ≡ record now { accounts = with_registration c to now.accounts }
+      → laid_over (changed_of (changed_accounts.with_change c to a) pools d hot) start ≡ record now { accounts = with_registered c to now.accounts }
   account_laid c to m = λ i. record now { accounts = with_options-with_value credential_total credential_exact c to a.accounts accounts_before m accounts_before_map i }
 
   pub drep_laid : (c : Credential) (to : Option DrepState) → IsMap credential_cmp d.dreps

@@ -17,7 +17,7 @@ use Rattle.stake_book.specs.Stakes.{Stakes, accounts_of}
 use Rattle.tx_records.specs.declared.limits.TheConstants.{SUPPLY_LIMIT}
 use Rattle.tx_records.specs.GenesisLimits.{is_within_limits}
 use Rattle.genesis_balance.proofs.Start.{genesis_holds_supply, genesis_is_sound, unbroken_genesis, seated_first}
-use Rattle.live_ledger.specs.Kept.{IsKept}
+use Rattle.live_ledger.specs.Kept.{IsLiveLedger}
 
 -- the ledger with the parts that were made for it
 pub made_ledger : (g : Genesis) (state : EnactState) (length : ℕ) (stake : Stakes) (pools : List (PoolId × Pool)) (dreps : Dreps) (hot : List (Credential × HotState)) (proposals : List Proposal)
@@ -39,7 +39,7 @@ made_ledger g state length stake pools dreps hot proposals s n o u a p d awake h
     λ i. record (ledger_of_genesis g) { dormant = awake i; state = s i; epoch = g.slot / n i; outputs = o i; used = u i; accounts = a i; pools = p i; dreps = d i; hot = h i; proposals = none i }
 
 -- it keeps what a ledger keeps
-pub genesis_kept : (g : Genesis) → is_within_limits g ≡ true → genesis_fault g ≡ None → IsKept (ledger_of_genesis g)
+pub genesis_kept : (g : Genesis) → is_within_limits g ≡ true → genesis_fault g ≡ None → IsLiveLedger (ledger_of_genesis g)
 genesis_kept g within none =
     let timely = genesis_timely g within in
     record {

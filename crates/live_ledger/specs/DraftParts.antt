@@ -9,11 +9,11 @@ use Rattle.draft_changes.specs.ChangedHot.{ChangedHot}
 use Rattle.draft_changes.specs.ChangedPools as changed_pools
 use Rattle.draft_changes.specs.ChangedPools.{ChangedPools}
 use Rattle.draft_changes.specs.Changed.{Changed, laid_over}
-use Rattle.live_ledger.specs.Kept.{IsKept}
+use Rattle.live_ledger.specs.Kept.{IsLiveLedger}
 
 -- it begins with a ledger that is kept, its maps are maps, the pools and the hot entries that it covers are those of that ledger, its expiries are within the dormant bound, and each change moved at most a number of 64 bits
 pub record IsDrafted (start : Ledger) (changed : Changed) (pool_changes : ChangedPools) (hot_changes : ChangedHot) (refunds deposits accounts_changes changes : ℕ) : Type 0 where
-  pub kept : IsKept start
+  pub kept : IsLiveLedger start
   pub pools : IsMap pool_cmp changed.pools
   pub dreps : IsMap credential_cmp changed.dreps
   pub hot : IsMap credential_cmp changed.hot

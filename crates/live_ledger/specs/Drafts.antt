@@ -8,7 +8,7 @@ use Rattle.book_records.specs.declared.DrepState.{DrepState}
 use Rattle.book_records.specs.declared.Registered.{Registered}
 use Rattle.book_records.specs.declared.pool.Pool.{Pool}
 use Rattle.book_records.specs.declared.pool.PoolTerms.{PoolTerms}
-use Rattle.book_records.specs.Pools.{with_registration as with_pool_registration, with_retirement}
+use Rattle.book_records.specs.Pools.{with_registered as with_pool_registration, with_retirement}
 use Rattle.gov_actions.specs.declared.state.HotState.{HotState}
 use Rattle.tx_records.specs.declared.tx.Scripts.{Scripts}
 use Rattle.tx_records.specs.declared.tx.Scripts.TheVariants.{Failed}
@@ -16,7 +16,7 @@ use Rattle.tx_records.specs.declared.tx.Tx.{Tx}
 use Rattle.ledger_model.specs.Ledger.{Ledger, account_at, is_pool}
 use Rattle.ledger_model.specs.Changes.{dormant_added, drep_left}
 use Rattle.ledger_model.specs.Draft.{last_draft}
-use Rattle.draft_changes.specs.Changed.{with_registration}
+use Rattle.draft_changes.specs.Changed.{with_registered}
 
 -- the ledger before the transaction, the one that its changes so far make of it, what its certificates gave back and paid so far, and how many changes were made
 pub record Drafted : Type 0 where
@@ -52,7 +52,7 @@ deposit_in r = option_map (λ (x : Registered). x.deposit) r
 -- the draft with that registration for c, or without one
 abbrev pub with_account : Credential → Option Registered → Drafted → Drafted
 with_account c to d = record d {
-  ledger = record d.ledger { accounts = with_registration c to d.ledger.accounts };
+  ledger = record d.ledger { accounts = with_registered c to d.ledger.accounts };
   refunds = d.refunds + given_back (deposit_in (account_at d.ledger c)) (deposit_in to);
   deposits = d.deposits + paid_by (deposit_in (account_at d.ledger c)) (deposit_in to);
   changes = d.changes + 1;

@@ -16,7 +16,7 @@ use Rattle.live_ledger.specs.Standing.{Standing}
 use Rattle.live_ledger.specs.declared.state.LiveLedger.TheInside.{Inside}
 
 -- its maps are maps, its pots hold the supply, which is within its limit, its epoch, its expiries and its activity fit, each proposal has the id of a used transaction and the votes of each voter once, and the members of the committee stand in order
-pub record IsKept (l : Ledger) : Type 0 where
+pub record IsLiveLedger (l : Ledger) : Type 0 where
   pub sound : IsSound l
   pub balanced : supply_of l ≡ l.supply
   pub within : l.supply ≤ SUPPLY_LIMIT

@@ -3,7 +3,7 @@ ghost use Rattle.gov_ids.specs.Orders.{credential_cmp, pool_cmp};
 ghost use Rattle.gov_model.specs.Hot.{is_member};
 ghost use Rattle.ledger_model.specs.Ledger.{is_from_version_eleven, params_of};
 ghost use Rattle.ledger_model.specs.Supply.{pots_of};
-ghost use Rattle.live_ledger.specs.Kept.{IsKept};
+ghost use Rattle.live_ledger.specs.Kept.{IsLiveLedger};
 ghost use Rattle.maps.specs.Maps.{IsMap, value_at};
 ghost use Rattle.proposal_store.specs.Added.{is_proposed};
 ghost use Rattle.stake_book.specs.Stakes.{registrations};
@@ -45,11 +45,11 @@ impl Model for LiveLedger {
 
     ghost coded = { Prim.hlevel codes };
 
-    ghost use Rattle.live_ledger.specs.Kept.{IsKept, ledger_view, standing_view};
+    ghost use Rattle.live_ledger.specs.Kept.{IsLiveLedger, ledger_view, standing_view};
 
     ghost view = { standing_view };
 
-    ghost invariant = { λ a. IsKept (ledger_view a) };
+    ghost invariant = { λ a. IsLiveLedger (ledger_view a) };
 }
 
 impl LiveLedger {
@@ -195,7 +195,7 @@ impl LiveLedger {
     pub fn dreps(&self) -> &DrepBook
         ensures dreps { result.now.dreps ≡ self.now.ledger.dreps }
         ensures dormant { result.now.dormant ≡ self.now.ledger.dormant }
-        ensures kept { IsKept self.now.ledger }
+        ensures kept { IsLiveLedger self.now.ledger }
     {
         &self.books.dreps
     }

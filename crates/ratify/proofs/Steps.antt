@@ -17,7 +17,7 @@ use Rattle.gov_model.specs.Ready.{follows_last, goes_on_after, has_allowed_terms
 use Rattle.gov_model.specs.Sides.{vote_count}
 use Rattle.gov_model.specs.Snapshot.{Snapshot}
 use Rattle.snapshots.specs.declared.frozen.Frozen.{Frozen}
-use Rattle.snapshots.specs.Frozen.{frozen_of}
+use Rattle.snapshots.specs.Frozen.{frozen_copy_of}
 use Rattle.tally.specs.declared.cells.TallyCell.{TallyCell}
 use Rattle.tally.specs.Cells.{cell_of}
 use Rattle.ratify.specs.declared.pass.Pass.{Pass}
@@ -92,9 +92,9 @@ enacted_next s front a h =
 -- a proposal that is looked at, by its cell and by what is computed of it
 module _ (f : Frozen) (p : Pass) (a : Proposal) (cell : TallyCell) (counts : List (ℕ × ℕ)) (needs : List Need) (ready : Bool) (became : Verdict)
     (counts_are : counts ≡ counts_in cell)
-    (needs_are : (s : Snapshot) → f ≡ frozen_of s → needs ≡ map (λ r. need_of r s p.state a.action) roles)
+    (needs_are : (s : Snapshot) → f ≡ frozen_copy_of s → needs ≡ map (λ r. need_of r s p.state a.action) roles)
     (tested : ready ≡ is_next f.epoch p a.action needs counts) (judged : became ≡ verdict_by ready a.expires_after f.epoch) where
-  module _ (s : Snapshot) (front : List Proposal) (of : f ≡ frozen_of s) (counted : cell ≡ cell_of s a) (before : p ≡ pass_after s front) where
+  module _ (s : Snapshot) (front : List Proposal) (of : f ≡ frozen_copy_of s) (counted : cell ≡ cell_of s a) (before : p ≡ pass_after s front) where
     same_epoch : f.epoch ≡ s.epoch
     same_epoch = ap (λ (g : Frozen). g.epoch) of
 
@@ -119,7 +119,7 @@ module _ (f : Frozen) (p : Pass) (a : Proposal) (cell : TallyCell) (counts : Lis
       (λ i. with_enacted a (with_tally (same_tally s front of counted before i) (before i))) ∙ enacted_next s front a (sym (same_test s front of counted before) ∙ h)
 
 -- before the first
-pub none_looked_at : (f : Frozen) (s : Snapshot) (p : Pass) → f ≡ frozen_of s → p ≡ record { ratified = []; goes_on = true; state = f.start; tallies = [] } → p ≡ pass_after s []
+pub none_looked_at : (f : Frozen) (s : Snapshot) (p : Pass) → f ≡ frozen_copy_of s → p ≡ record { ratified = []; goes_on = true; state = f.start; tallies = [] } → p ≡ pass_after s []
 none_looked_at f s p of is = is ∙ (λ i. record { ratified = []; goes_on = true; state = (ap (λ (g : Frozen). g.start) of ∙ sym (enacted-none s)) i; tallies = [] })
 
 -- the cell at the place of a proposal is its cell

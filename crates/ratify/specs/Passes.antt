@@ -17,7 +17,7 @@ use Rattle.gov_model.specs.Ready.{follows_last, goes_on_after, has_allowed_terms
 use Rattle.gov_model.specs.Sides.{vote_count}
 use Rattle.gov_model.specs.Snapshot.{Snapshot}
 use Rattle.snapshots.specs.declared.frozen.Frozen.{Frozen}
-use Rattle.snapshots.specs.Frozen.{frozen_of}
+use Rattle.snapshots.specs.Frozen.{frozen_copy_of}
 use Rattle.tally.specs.declared.cells.TallyCell.{TallyCell}
 use Rattle.tally.specs.Cells.{cell_of}
 use Rattle.ratify.specs.declared.pass.Pass.{Pass}
@@ -92,7 +92,7 @@ Follows s before more after = (front : List Proposal) → before ≡ pass_after 
 
 -- P holds of each snapshot that the frozen epoch is of, whose proposals have these cells
 abbrev pub ForTallied : Frozen → List TallyCell → (Snapshot → Type 0) → Type 0
-ForTallied f cells P = (s : Snapshot) → f ≡ frozen_of s → cells ≡ map (cell_of s) s.proposals → P s
+ForTallied f cells P = (s : Snapshot) → f ≡ frozen_copy_of s → cells ≡ map (cell_of s) s.proposals → P s
 
 -- a pass has looked at these, by the cells of all
 abbrev pub LooksAt : Frozen → List TallyCell → Pass → List Proposal → Pass → Type 0
@@ -101,4 +101,4 @@ LooksAt f cells before more after = ForTallied f cells (λ s. Follows s before m
 -- a pass has looked at a proposal, by its cell
 abbrev pub LooksAtOne : Frozen → TallyCell → Pass → Proposal → Pass → Type 0
 LooksAtOne f cell before a after =
-    (s : Snapshot) → f ≡ frozen_of s → cell ≡ cell_of s a → Follows s before (a ∷ []) after
+    (s : Snapshot) → f ≡ frozen_copy_of s → cell ≡ cell_of s a → Follows s before (a ∷ []) after

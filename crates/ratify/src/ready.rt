@@ -6,7 +6,7 @@ ghost use Rattle.gov_model.specs.Ratified.{roles};
 ghost use Rattle.gov_model.specs.Ready.{follows_last, has_allowed_terms, is_covered, meets};
 ghost use Rattle.gov_model.specs.Snapshot.{Snapshot};
 ghost use Rattle.ratify.specs.Passes.{are_met, can_be_enacted, counts_in};
-ghost use Rattle.snapshots.specs.Frozen.{frozen_of};
+ghost use Rattle.snapshots.specs.Frozen.{frozen_copy_of};
 
 use coin_frac::reaches;
 use gov_actions::{Action, EnactState, LastIds, Need, Purpose, Role};
@@ -23,7 +23,7 @@ pub(crate) fn counts_in(cell: &TallyCell) -> [(u64, u64); 3]
 
 // What each role needs, in the same order.
 pub(crate) fn needs_of(f: &Frozen, now: &EnactState, a: &Action) -> [Need; 3]
-    ensures { (s : Snapshot) → f.now ≡ frozen_of s → result ≡ map (λ r. need_of r s now.now a.now) roles }
+    ensures { (s : Snapshot) → f.now ≡ frozen_copy_of s → result ≡ map (λ r. need_of r s now.now a.now) roles }
 {
     [
         need(f, now, a, Role::Committee),

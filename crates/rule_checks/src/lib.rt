@@ -29,13 +29,13 @@ pub fn check_each<R: ItemRules>(rules: &R, items: &[R::Item]) -> Result<(), Rule
     ensures { result ≡ answer_of (per_place (R.checks rules.now) items.now) }
 {
     for (place, item) in items.iter().enumerate() {
-        at_place(rules.check(place, item), place)?;
+        answer_at(rules.check(place, item), place)?;
     }
     Ok(())
 }
 
 /// The same answer, its rule at this place. (Own)
-pub fn at_place(answer: Result<(), Rule>, place: usize) -> Result<(), Rule>
+pub fn answer_at(answer: Result<(), Rule>, place: usize) -> Result<(), Rule>
     requires { place < 2 ^ 32 }
     ensures { result ≡ answer_at place answer }
 {

@@ -15,8 +15,8 @@ frozen_pool s p =
     record { pool = p; account = value_at pool_cmp s.pool_accounts p; stake = pool_stake s p; default_vote = default_vote s p }
 
 -- what is held of a snapshot
-abbrev pub frozen_of : Snapshot → Frozen
-frozen_of s = record {
+abbrev pub frozen_copy_of : Snapshot → Frozen
+frozen_copy_of s = record {
   epoch = s.epoch;
   start = s.start;
   dreps = s.dreps;

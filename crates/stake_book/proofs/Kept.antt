@@ -22,7 +22,7 @@ use Rattle.maps.specs.Maps.{IsMap, value_at, with_value, without_key}
 use Rattle.maps.specs.Words.{amount, holds}
 use Rattle.utxo_set.specs.Utxos.{Utxos}
 use Rattle.accounts.specs.Accounts.{Accounts, is_nothing, with_entry, entered}
-use Rattle.stake_book.specs.Stakes.{AreKept, HasRoom, registrations, balances_in, stake_held, stake_at, registered_at, with_stake, with_registration}
+use Rattle.stake_book.specs.Stakes.{AreKept, HasRoom, registrations, balances_in, stake_held, stake_at, registered_at, with_stake, with_registered}
 use Rattle.stake_book.proofs.Entering.{nothing_is, IsMap-with_entry}
 use Rattle.stake_book.proofs.Registrations.{IsMap-registrations, registrations-kept}
 
@@ -97,7 +97,7 @@ stake_kept part gained lost before after a k m w =
     }
 
 pub registration_kept : (c : Credential) (to : Option Registered) (outputs : Utxos) (a : Accounts) → AreKept (record { outputs = outputs; accounts = a })
-    → HasRoom 0 (record { outputs = outputs; accounts = with_registration c to a }) → AreKept (record { outputs = outputs; accounts = with_registration c to a })
+    → HasRoom 0 (record { outputs = outputs; accounts = with_registered c to a }) → AreKept (record { outputs = outputs; accounts = with_registered c to a })
 registration_kept c to outputs a k w =
     let e : Entry = record { stake = stake_at a.live c; registered = to } in
     let live : IsMap credential_cmp (with_entry c e a.live) = IsMap-with_entry c e a.live k.live in

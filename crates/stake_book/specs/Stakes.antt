@@ -89,8 +89,8 @@ with_stake None stake a = a
 with_stake (Some c) stake a = entered c (record { stake = stake c; registered = registered_at a.live c }) a
 
 -- the accounts with that registration for c: its stake stays
-abbrev pub with_registration : Credential → Option Registered → Accounts → Accounts
-with_registration c to a = entered c (record { stake = stake_at a.live c; registered = to }) a
+abbrev pub with_registered : Credential → Option Registered → Accounts → Accounts
+with_registered c to a = entered c (record { stake = stake_at a.live c; registered = to }) a
 
 -- the book without the output at r, its stake part with the stake that the outputs left hold
 abbrev pub spent : OutRef → Stakes → Stakes
@@ -112,7 +112,7 @@ added r o s =
 
 -- the book with that registration for c
 abbrev pub with_account : Credential → Option Registered → Stakes → Stakes
-with_account c to s = record s { accounts = with_registration c to s.accounts }
+with_account c to s = record s { accounts = with_registered c to s.accounts }
 
 -- the book with these used ids
 abbrev pub with_used : List TxId → Stakes → Stakes

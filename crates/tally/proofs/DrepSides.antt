@@ -13,7 +13,7 @@ use Rattle.gov_model.specs.Snapshot.{Snapshot}
 use Rattle.gov_model.specs.Sides.{count_of, drep_sides, no_confidence_side, vote_count, vote_of}
 use Rattle.gov_model.specs.Stake.{drep_stake}
 use Rattle.snapshots.specs.declared.frozen.Frozen.{Frozen}
-use Rattle.snapshots.specs.Frozen.{frozen_of}
+use Rattle.snapshots.specs.Frozen.{frozen_copy_of}
 use Rattle.tally.specs.Adding.{with_side, with_sides}
 use Rattle.tally.proofs.Counting.{counted, with_sides-append}
 
@@ -35,13 +35,13 @@ staked : (s : Snapshot) (c : Ended) (a : Proposal) → IsCountedOf s c → (ds :
 staked s c a is [] = refl
 staked s c a is (d ∷ ds) = λ i. (is.sums (drep.Registered d.0) i, unwrap_or (vote_of a (voter.Drep d.0)) No) ∷ staked s c a is ds i
 
-all_sides : (s : Snapshot) (c : Ended) (a : Proposal) → IsCountedOf s c → sides_of_dreps (frozen_of s) c a s.dreps ++ predefined c a ≡ drep_sides s a
+all_sides : (s : Snapshot) (c : Ended) (a : Proposal) → IsCountedOf s c → sides_of_dreps (frozen_copy_of s) c a s.dreps ++ predefined c a ≡ drep_sides s a
 all_sides s c a is = λ i. staked s c a is (filter (λ (d : Credential × ℕ). nat_le s.epoch d.1) s.dreps) i
     ++ (is.sums drep.Abstain i, Abstain) ∷ (is.sums drep.NoConfidence i, no_confidence_side a.action) ∷ []
 
-pub dreps_counted : (f : Frozen) (c : Ended) (a : Proposal) (s : Snapshot) → f ≡ frozen_of s → IsCountedOf s c
+pub dreps_counted : (f : Frozen) (c : Ended) (a : Proposal) (s : Snapshot) → f ≡ frozen_copy_of s → IsCountedOf s c
     → with_side (with_sides (0, 0) (sides_of_dreps f c a f.dreps)) (sum_for c.sums drep.NoConfidence) (no_confidence_side a.action)
     ≡ vote_count role.Drep s a
 dreps_counted f c a s e is =
     subst (λ (g : Frozen). with_side (with_sides (0, 0) (sides_of_dreps g c a g.dreps)) (sum_for c.sums drep.NoConfidence) (no_confidence_side a.action) ≡ vote_count role.Drep s a) (sym e)
-    (sym (with_sides-append (0, 0) (sides_of_dreps (frozen_of s) c a s.dreps) (predefined c a)) ∙ counted (sides_of_dreps (frozen_of s) c a s.dreps ++ predefined c a) ∙ ap count_of (all_sides s c a is))
+    (sym (with_sides-append (0, 0) (sides_of_dreps (frozen_copy_of s) c a s.dreps) (predefined c a)) ∙ counted (sides_of_dreps (frozen_copy_of s) c a s.dreps ++ predefined c a) ∙ ap count_of (all_sides s c a is))

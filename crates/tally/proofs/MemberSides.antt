@@ -14,7 +14,7 @@ use Rattle.gov_model.specs.Need.{own_threshold}
 use Rattle.gov_model.specs.Snapshot.{Snapshot}
 use Rattle.gov_model.specs.Sides.{active_keys, count_of, hot_key_of, members_of, vote_count, vote_of}
 use Rattle.snapshots.specs.declared.frozen.Frozen.{Frozen}
-use Rattle.snapshots.specs.Frozen.{frozen_of}
+use Rattle.snapshots.specs.Frozen.{frozen_copy_of}
 use Rattle.tally.specs.Active.{active_key}
 use Rattle.tally.specs.Adding.{with_sides}
 use Rattle.tally.proofs.Counting.{counted}
@@ -36,14 +36,14 @@ active_is s (m ∷ members) =
       | false ↦ active_is s members
     ]
 
-pub committee_counted : (f : Frozen) (a : Proposal) (s : Snapshot) → f ≡ frozen_of s
+pub committee_counted : (f : Frozen) (a : Proposal) (s : Snapshot) → f ≡ frozen_copy_of s
     → with_sides (0, 0) (member_sides f a (members_of f.start.committee)) ≡ vote_count role.Committee s a
 committee_counted f a s e =
     subst (λ (g : Frozen). with_sides (0, 0) (member_sides g a (members_of g.start.committee)) ≡ vote_count role.Committee s a) (sym e)
-    (counted (member_sides (frozen_of s) a (members_of s.start.committee)) ∙ ap (λ (keys : List Credential). count_of (map (key_side a) keys)) (active_is s (members_of s.start.committee)))
+    (counted (member_sides (frozen_copy_of s) a (members_of s.start.committee)) ∙ ap (λ (keys : List Credential). count_of (map (key_side a) keys)) (active_is s (members_of s.start.committee)))
 
 -- the committee's own threshold, by the number of active members
-pub own_is : (f : Frozen) (s : Snapshot) (now : EnactState) (c : Committee) (o : Option Committee) (active least : ℕ) (b : Bool) → f ≡ frozen_of s
+pub own_is : (f : Frozen) (s : Snapshot) (now : EnactState) (c : Committee) (o : Option Committee) (active least : ℕ) (b : Bool) → f ≡ frozen_copy_of s
     → o ≡ Some c → active ≡ length (filter_map (active_key f.epoch f.hot) c.members) → least ≡ now.params.committee_min_size → nat_lt active least ≡ b
     → (if b then Never else share c.threshold) ≡ own_threshold s now o
 own_is f s now c o active least b of_s has counts min test =

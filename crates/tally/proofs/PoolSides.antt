@@ -10,7 +10,7 @@ use Rattle.gov_model.specs.Sides.{count_of, pool_side, silent_pool_side, vote_co
 use Rattle.gov_model.specs.Stake.{pool_stake}
 use Rattle.snapshots.specs.declared.frozen.Frozen.{Frozen}
 use Rattle.snapshots.specs.declared.frozen.FrozenPool.{FrozenPool}
-use Rattle.snapshots.specs.Frozen.{frozen_of, frozen_pool}
+use Rattle.snapshots.specs.Frozen.{frozen_copy_of, frozen_pool}
 use Rattle.tally.specs.Adding.{with_sides}
 use Rattle.tally.proofs.Counting.{counted}
 
@@ -27,7 +27,7 @@ frozen_sides : (s : Snapshot) (a : Proposal) (mark : List (PoolId × ℕ))
 frozen_sides s a [] = refl
 frozen_sides s a (m ∷ mark) = ap (λ (rest : List (ℕ × Vote)). (pool_stake s m.0, pool_side s a m.0) ∷ rest) (frozen_sides s a mark)
 
-pub pools_counted : (f : Frozen) (a : Proposal) (s : Snapshot) → f ≡ frozen_of s → with_sides (0, 0) (sides_of_pools a f.pools) ≡ vote_count role.Pool s a
+pub pools_counted : (f : Frozen) (a : Proposal) (s : Snapshot) → f ≡ frozen_copy_of s → with_sides (0, 0) (sides_of_pools a f.pools) ≡ vote_count role.Pool s a
 pools_counted f a s e =
     subst (λ (g : Frozen). with_sides (0, 0) (sides_of_pools a g.pools) ≡ vote_count role.Pool s a) (sym e)
-    (counted (sides_of_pools a (frozen_of s).pools) ∙ ap count_of (frozen_sides s a s.mark))
+    (counted (sides_of_pools a (frozen_copy_of s).pools) ∙ ap count_of (frozen_sides s a s.mark))

@@ -9,12 +9,12 @@ use Rattle.gov_model.specs.Snapshot.{Snapshot}
 use Rattle.drep_pulser.specs.Count.{Ended}
 use Rattle.drep_pulser.specs.Facts.{IsCountedOf}
 use Rattle.snapshots.specs.declared.frozen.Frozen.{Frozen}
-use Rattle.snapshots.specs.Frozen.{frozen_of}
+use Rattle.snapshots.specs.Frozen.{frozen_copy_of}
 use Rattle.tally.specs.Stakes.{drep_stakes, pool_stakes}
 
 -- one list of entries stands behind both: the stakes of DReps and of pools, and the default votes, are those of the snapshot
 pub record AreOf (s : Snapshot) (f : Frozen) (c : Ended) : Type 0 where
-  pub frozen : f ≡ frozen_of s
+  pub frozen : f ≡ frozen_copy_of s
   pub counted : IsCountedOf s c
 
 -- P holds of each snapshot that they are of

@@ -4,7 +4,7 @@ ghost use Rattle.gov_ids.specs.Orders.{voter_cmp};
 ghost use Rattle.gov_model.specs.Sides.{members_of, vote_count};
 ghost use Rattle.gov_model.specs.Snapshot.{Snapshot};
 ghost use Rattle.maps.specs.Maps.{IsMap};
-ghost use Rattle.snapshots.specs.Frozen.{frozen_of};
+ghost use Rattle.snapshots.specs.Frozen.{frozen_copy_of};
 ghost use Rattle.tally.specs.Active.{active_key};
 
 use crate::sides::{vote_of, with_side};
@@ -17,7 +17,7 @@ use snapshots::Frozen;
 /// specification)
 pub fn committee_count(f: &Frozen, a: &Proposal) -> (u64, u64)
     requires in_order { IsMap voter_cmp a.now.votes }
-    ensures { (s : Snapshot) → f.now ≡ frozen_of s → result ≡ vote_count committee s a.now }
+    ensures { (s : Snapshot) → f.now ≡ frozen_copy_of s → result ≡ vote_count committee s a.now }
 {
     let mut count = (0, 0);
     for member in members_of(&f.start.committee) {

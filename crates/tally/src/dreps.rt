@@ -5,7 +5,7 @@ ghost use Rattle.gov_ids.specs.Orders.{voter_cmp};
 ghost use Rattle.gov_model.specs.Sides.{vote_count};
 ghost use Rattle.gov_model.specs.Snapshot.{Snapshot};
 ghost use Rattle.maps.specs.Maps.{IsMap};
-ghost use Rattle.snapshots.specs.Frozen.{frozen_of};
+ghost use Rattle.snapshots.specs.Frozen.{frozen_copy_of};
 ghost use Rattle.tally.specs.Stakes.{drep_stakes};
 
 use crate::sides::{no_confidence_side, vote_of, with_side};
@@ -20,7 +20,7 @@ use snapshots::Frozen;
 pub fn drep_count(f: &Frozen, c: &Counted, a: &Proposal) -> (u64, u64)
     requires fits { drep_stakes f.now c.now < 2 ^ 64 }
     requires in_order { IsMap voter_cmp a.now.votes }
-    ensures { (s : Snapshot) → f.now ≡ frozen_of s → IsCountedOf s c.now → result ≡ vote_count dreps s a.now }
+    ensures { (s : Snapshot) → f.now ≡ frozen_copy_of s → IsCountedOf s c.now → result ≡ vote_count dreps s a.now }
 {
     let mut count = (0, 0);
     for (drep, expiry) in f.dreps.as_slice() {

@@ -3,7 +3,7 @@ ghost use Rattle.gov_model.specs.Need.{committee_need, drep_need, need_of, own_t
 ghost use Rattle.gov_model.specs.Snapshot.{Snapshot};
 ghost use Rattle.gov_model.specs.Thresholds.{P5, greater_of, update_threshold, zero_share};
 ghost use Rattle.pparams.specs.Marks.{economic, governance, network, technical};
-ghost use Rattle.snapshots.specs.Frozen.{frozen_of};
+ghost use Rattle.snapshots.specs.Frozen.{frozen_copy_of};
 ghost use Rattle.tally.specs.Greatest.{raised};
 
 use crate::committee::active_members;
@@ -15,7 +15,7 @@ use snapshots::Frozen;
 /// What a role must reach on an action, by the parameters and the committee of `now` and the hot keys and the epoch of the
 /// freeze. (CIP-1694, Ratification; RATIFY of the formal specification)
 pub fn need(f: &Frozen, now: &EnactState, a: &Action, role: Role) -> Need
-    ensures { (s : Snapshot) → f.now ≡ frozen_of s → result ≡ need_of role s now.now a.now }
+    ensures { (s : Snapshot) → f.now ≡ frozen_copy_of s → result ≡ need_of role s now.now a.now }
 {
     match role {
         Role::Committee => committee_need(f, now, a),
@@ -26,7 +26,7 @@ pub fn need(f: &Frozen, now: &EnactState, a: &Action, role: Role) -> Need
 
 // What the committee must reach.
 fn committee_need(f: &Frozen, now: &EnactState, a: &Action) -> Need
-    ensures { (s : Snapshot) → f.now ≡ frozen_of s → result ≡ committee_need s now.now a.now }
+    ensures { (s : Snapshot) → f.now ≡ frozen_copy_of s → result ≡ committee_need s now.now a.now }
 {
     match a {
         Action::NoConfidence { .. } | Action::UpdateCommittee { .. } => Need::Nothing,
@@ -40,7 +40,7 @@ fn committee_need(f: &Frozen, now: &EnactState, a: &Action) -> Need
 
 // The committee's own threshold, and never where there is none or too few members are active.
 fn own_threshold(f: &Frozen, now: &EnactState) -> Need
-    ensures { (s : Snapshot) → f.now ≡ frozen_of s → result ≡ own_threshold s now.now now.now.committee }
+    ensures { (s : Snapshot) → f.now ≡ frozen_copy_of s → result ≡ own_threshold s now.now now.now.committee }
 {
     let Some(committee) = &now.committee else {
         return Need::Never;

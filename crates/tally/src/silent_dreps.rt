@@ -5,7 +5,7 @@ ghost use Rattle.gov_ids.specs.Orders.{credential_cmp, voter_cmp};
 ghost use Rattle.gov_model.specs.Sides.{vote_count};
 ghost use Rattle.gov_model.specs.Snapshot.{Snapshot};
 ghost use Rattle.maps.specs.Maps.{IsMap, value_at};
-ghost use Rattle.snapshots.specs.Frozen.{frozen_of};
+ghost use Rattle.snapshots.specs.Frozen.{frozen_copy_of};
 ghost use Rattle.tally.specs.Silent.{AreSilentDreps, drep_weight, silent_dreps};
 ghost use Rattle.tally.specs.Stakes.{drep_stakes};
 
@@ -40,7 +40,7 @@ pub(crate) fn drep_count_from(
     requires fits { drep_stakes f.now c.now < 2 ^ 64 }
     requires in_order { IsMap voter_cmp a.now.votes }
     requires silent { IfSome silent (AreSilentDreps f.now c.now) }
-    ensures { (s : Snapshot) → f.now ≡ frozen_of s → IsCountedOf s c.now → result ≡ vote_count dreps s a.now }
+    ensures { (s : Snapshot) → f.now ≡ frozen_copy_of s → IsCountedOf s c.now → result ≡ vote_count dreps s a.now }
 {
     match silent {
         Some(total) => drep_count_by_votes(f, c, total, a),
@@ -53,7 +53,7 @@ fn drep_count_by_votes(f: &Frozen, c: &Counted, silent: u64, a: &Proposal) -> (u
     requires fits { drep_stakes f.now c.now < 2 ^ 64 }
     requires in_order { IsMap voter_cmp a.now.votes }
     requires silent { AreSilentDreps f.now c.now silent }
-    ensures { (s : Snapshot) → f.now ≡ frozen_of s → IsCountedOf s c.now → result ≡ vote_count dreps s a.now }
+    ensures { (s : Snapshot) → f.now ≡ frozen_copy_of s → IsCountedOf s c.now → result ≡ vote_count dreps s a.now }
 {
     let mut count = (0, silent);
     for (voter, vote) in a.votes.as_slice() {

@@ -4,7 +4,7 @@ ghost use Rattle.gov_ids.specs.Orders.{pool_cmp, voter_cmp};
 ghost use Rattle.gov_model.specs.Sides.{vote_count};
 ghost use Rattle.gov_model.specs.Snapshot.{Snapshot};
 ghost use Rattle.maps.specs.Maps.{IsMap, value_at};
-ghost use Rattle.snapshots.specs.Frozen.{frozen_of};
+ghost use Rattle.snapshots.specs.Frozen.{frozen_copy_of};
 ghost use Rattle.tally.specs.Silent.{AreSilentPools, by_id, count_of_standing, count_on, silent_pools};
 ghost use Rattle.tally.specs.Stakes.{pool_stakes};
 
@@ -49,7 +49,7 @@ pub(crate) fn pool_count_from(f: &Frozen, silent: Option<SilentPools>, a: &Propo
     requires fits { pool_stakes f.now < 2 ^ 64 }
     requires in_order { IsMap voter_cmp a.now.votes }
     requires silent { IfSome silent (AreSilentPools f.now) }
-    ensures { (s : Snapshot) → f.now ≡ frozen_of s → result ≡ vote_count pools s a.now }
+    ensures { (s : Snapshot) → f.now ≡ frozen_copy_of s → result ≡ vote_count pools s a.now }
 {
     match silent {
         Some(silent) => pool_count_by_votes(f, silent, a),
@@ -62,7 +62,7 @@ fn pool_count_by_votes(f: &Frozen, silent: SilentPools, a: &Proposal) -> (u64, u
     requires fits { pool_stakes f.now < 2 ^ 64 }
     requires in_order { IsMap voter_cmp a.now.votes }
     requires silent { AreSilentPools f.now silent }
-    ensures { (s : Snapshot) → f.now ≡ frozen_of s → result ≡ vote_count pools s a.now }
+    ensures { (s : Snapshot) → f.now ≡ frozen_copy_of s → result ≡ vote_count pools s a.now }
 {
     let mut count = count_on(silent, &a.action);
     for (voter, vote) in a.votes.as_slice() {

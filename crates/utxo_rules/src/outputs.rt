@@ -4,7 +4,7 @@ ghost use Rattle.ledger_model.specs.UtxoRules.{least_lovelace, output_checks};
 ghost use Rattle.tx_records.specs.TxLimits.{is_within_limits};
 
 use live_ledger::LiveLedger;
-use rule_checks::{ItemRules, at_place, check_each};
+use rule_checks::{ItemRules, answer_at, check_each};
 use tx_records::rules::{OUTPUT_TOO_SMALL, OUTPUT_WRONG_NETWORK};
 use tx_records::{Rule, Tx, TxOutput};
 
@@ -48,7 +48,7 @@ pub fn check_outputs(s: &LiveLedger, tx: &Tx) -> Result<(), Rule>
     match &tx.collateral_return {
         Some(output) => {
             let place = tx.outputs.len();
-            at_place(rules.check(place, output), place)
+            answer_at(rules.check(place, output), place)
         }
         None => Ok(()),
     }

@@ -5,7 +5,7 @@ ghost use Rattle.gov_ids.specs.Orders.{credential_cmp};
 ghost use Rattle.ledger_state.specs.Parts.{world_of_parts};
 ghost use Rattle.ledger_state.specs.Worlds.{IsHeldBy};
 ghost use Rattle.run_model.specs.SoundWorld.{IsSoundWorld};
-ghost use Rattle.snapshots.specs.Frozen.{frozen_of as copy_of};
+ghost use Rattle.snapshots.specs.Frozen.{frozen_copy_of};
 ghost use Rattle.view_map.specs.View.{frozen_of};
 
 use super::LedgerState;
@@ -64,7 +64,7 @@ fn begun_parts(
     requires few { workers ≤ 64 }
     requires frozen { frozen_of credential_cmp books.now.stake.accounts ≡ books.now.stake.accounts.live }
     requires sound { IsSoundWorld (begun_of books.now) }
-    ensures copy { IfOk result (λ r. r.0 ≡ copy_of (begun_of books.now).frozen) }
+    ensures copy { IfOk result (λ r. r.0 ≡ frozen_copy_of (begun_of books.now).frozen) }
     ensures accounts { IfOk result (λ r. accounts_of_pools r.0.pools ≡ (begun_of books.now).frozen.pool_accounts) }
     ensures counts { IfOk result (λ r. IsCountOf (begun_of books.now).frozen r.1) }
     ensures none_visited { IfOk result (λ r. r.1.done ≡ 0) }

@@ -10,7 +10,7 @@ ghost use Rattle.ledger_model.specs.Transaction.{ledger_after_tx, made_outputs, 
 ghost use Rattle.ledger_model.specs.UtxoRules.{is_failed, returned};
 ghost use Rattle.ledger_books.specs.Parts.{frozen_entries, ledger_of_books};
 ghost use Rattle.live_ledger.specs.Books.{IsMade};
-ghost use Rattle.live_ledger.specs.Kept.{IsKept};
+ghost use Rattle.live_ledger.specs.Kept.{IsLiveLedger};
 ghost use Rattle.draft_changes.specs.Changed.{laid_over};
 ghost use Rattle.live_ledger.specs.Drafts.{draft_of};
 ghost use Rattle.live_ledger.specs.Proposed.{IsUnknown};
@@ -94,13 +94,13 @@ impl LiveLedger {
 
 /// Changes the books as an allowed transaction says whose scripts did not fail: its changes are laid over them, its inputs are spent, its outputs are made, its votes and then its proposals join the others, and its fee and donation their pots. After want of memory the caller drops the books.
 fn pass(alloc: Global, b: &mut Books, changes: Changes, tx: &Tx) -> Result<(), NoMemory>
-    requires kept { IsKept (ledger_of_books b.old) }
+    requires kept { IsLiveLedger (ledger_of_books b.old) }
     requires within { is_within_limits tx.now ≡ true }
     requires allowed { is_allowed (ledger_of_books b.old) tx.now ≡ true }
     requires passed { is_failed tx.now.scripts ≡ false }
     requires drafted { laid_over changes (ledger_of_books b.old) ≡ last_draft (ledger_of_books b.old) tx.now }
     ensures ledger { OnOk result (ledger_of_books b.new ≡ ledger_after_tx (ledger_of_books b.old) tx.now) }
-    ensures kept { OnOk result (IsKept (ledger_of_books b.new)) }
+    ensures kept { OnOk result (IsLiveLedger (ledger_of_books b.new)) }
     ensures frozen { OnOk result (frozen_entries b.new ≡ frozen_entries b.old) }
 {
     let last = b.epoch + u64::from(b.state.get().params.gov_action_lifetime);
@@ -113,12 +113,12 @@ fn pass(alloc: Global, b: &mut Books, changes: Changes, tx: &Tx) -> Result<(), N
 
 /// Changes the books as an allowed transaction says whose scripts failed: its collateral is spent, and what the return leaves of it joins the fees. After want of memory the caller drops the books.
 fn fail(alloc: Global, b: &mut Books, tx: &Tx) -> Result<(), NoMemory>
-    requires kept { IsKept (ledger_of_books b.old) }
+    requires kept { IsLiveLedger (ledger_of_books b.old) }
     requires within { is_within_limits tx.now ≡ true }
     requires allowed { is_allowed (ledger_of_books b.old) tx.now ≡ true }
     requires failed { is_failed tx.now.scripts ≡ true }
     ensures ledger { OnOk result (ledger_of_books b.new ≡ ledger_after_tx (ledger_of_books b.old) tx.now) }
-    ensures kept { OnOk result (IsKept (ledger_of_books b.new)) }
+    ensures kept { OnOk result (IsLiveLedger (ledger_of_books b.new)) }
     ensures frozen { OnOk result (frozen_entries b.new ≡ frozen_entries b.old) }
 {
     let collateral = move_collateral(alloc, &mut b.stake, tx)?;

@@ -1,6 +1,6 @@
 ghost use Rattle.std.specs.Prelude.{◌≡◌};
 ghost use Rattle.ledger_books.specs.Parts.{frozen_entries, ledger_of_books};
-ghost use Rattle.live_ledger.specs.Kept.{IsKept};
+ghost use Rattle.live_ledger.specs.Kept.{IsLiveLedger};
 ghost use Rattle.live_ledger.specs.Standing.{on_ledger};
 
 use super::LiveLedger;
@@ -18,7 +18,7 @@ impl LiveLedger {
         ensures frozen { frozen_entries result ≡ self.frozen }
         ensures snapshots { result.snapshots ≡ snapshots }
         ensures pending { result.pending ≡ pending }
-        ensures kept { IsKept self.ledger }
+        ensures kept { IsLiveLedger self.ledger }
     {
         Books {
             snapshots,
@@ -29,7 +29,7 @@ impl LiveLedger {
 
     /// The ledger of these parts, and those that are none of it. It takes no memory. (Own)
     pub fn of_books(alloc: Global, b: Box<Books>) -> (LiveLedger, Snapshots, Option<Rewards>)
-        requires { IsKept (ledger_of_books b.value) }
+        requires { IsLiveLedger (ledger_of_books b.value) }
         ensures ledger { result.0.ledger ≡ ledger_of_books b.value }
         ensures frozen { result.0.frozen ≡ frozen_entries b.value }
         ensures snapshots { result.1 ≡ b.value.snapshots }

@@ -5,7 +5,7 @@ use Rattle.gov_ids.specs.Derived.{credential_is}
 use Rattle.book_records.specs.declared.Registered.{Registered}
 use Rattle.maps.specs.Maps.{IsMap}
 use Rattle.stake_book.specs.Stakes.{Stakes, accounts_of, balances_in}
-use Rattle.draft_changes.specs.Changed.{with_registration}
+use Rattle.draft_changes.specs.Changed.{with_registered}
 use Rattle.draft_changes.specs.declared.account_changes.Written.{Written}
 use Rattle.draft_changes.proofs.Lowering.{IsLaying, laying_begins, laying_next, laying_room}
 use Rattle.draft_changes.proofs.account_changes.put_accounts.Goals as goal
@@ -25,7 +25,7 @@ set_account-requires c =
       room = omega (
         arith,
         laying_room left c.args.changed.entries c.next.new.self c.args.stake.now now c.in-Some.credential c.in-Some.written h,
-        ap (λ (to : Option Registered). balances_in (with_registration c.in-Some.credential to (accounts_of now))) c.standing.ensures,
+        ap (λ (to : Option Registered). balances_in (with_registered c.in-Some.credential to (accounts_of now))) c.standing.ensures,
       );
     }
 
@@ -37,6 +37,6 @@ loop-credential-preserved c =
     laying_next left c.args.changed.entries c.next.new.self c.args.stake.now now c.in-Some.credential c.in-Some.written
     (subst (λ (es : List (Credential × Written)). IsLaying left c.args.changed.entries es c.args.stake.now now) c.in-Some.ensures.steps c.loop-credential.invariant)
     c.set_account.new.self
-    (e.registered ∙ ap (λ (to : Option Registered). with_registration c.in-Some.credential to (accounts_of now)) c.standing.ensures)
+    (e.registered ∙ ap (λ (to : Option Registered). with_registered c.in-Some.credential to (accounts_of now)) c.standing.ensures)
     (ap (λ (s : Stakes). s.outputs) e.ok)
     e.frozen

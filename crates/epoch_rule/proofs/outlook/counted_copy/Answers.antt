@@ -4,8 +4,8 @@ use Rattle.drep_pulser.specs.declared.Pulser.{Pulser}
 use Rattle.drep_pulser.specs.Facts.{IsCountedOf}
 use Rattle.drep_pulser.specs.Pulsers.{IsPulserOf}
 use Rattle.gov_ids.specs.Orders.{credential_cmp}
-use Rattle.snapshots.specs.Frozen.{frozen_of}
-use Rattle.view_map.specs.View.{frozen_of as frozen_of_accounts}
+use Rattle.snapshots.specs.Frozen.{frozen_copy_of}
+use Rattle.view_map.specs.View.{frozen_copy_of as frozen_of_accounts}
 use Rattle.epoch_rule.proofs.outlook.counted_copy.Goals as goal
 
 -- the count ends over the entries of the snapshot
@@ -20,4 +20,4 @@ returns-clause-counted c = counted c
 
 pub returns-clause-fits : goal.returns-clause-fits
 returns-clause-fits c =
-    c.sound_can_be_counted.ensures c.args.s.now (frozen_of c.args.s.now.frozen) c.finished_alone.result c.live.ensures.sound (record { frozen = refl; counted = counted c })
+    c.sound_can_be_counted.ensures c.args.s.now (frozen_copy_of c.args.s.now.frozen) c.finished_alone.result c.live.ensures.sound (record { frozen = refl; counted = counted c })

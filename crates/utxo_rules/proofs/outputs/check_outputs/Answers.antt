@@ -16,7 +16,7 @@ returns-in-Some c =
     let checks = output_checks c.args.s.now.ledger c.args.tx.now in
     rw c.in-Some.is (
     last_left checks c.args.tx.now.outputs c.in-Some.output _ (c.in_ok-check_each.ensures ∙ (λ i. answer_of (per_place checks (c.as_slice.ensures i))))
-    (c.at_place.ensures ∙ (λ i. answer_at (c.len-place.ensures i) (c.check.ensures i)))
+    (c.answer_at.ensures ∙ (λ i. answer_at (c.len-place.ensures i) (c.check.ensures i)))
     )
 
 pub returns-in-None : goal.returns-in-None

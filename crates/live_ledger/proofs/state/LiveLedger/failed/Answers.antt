@@ -4,7 +4,7 @@ use Rattle.ledger_books.specs.Parts.{frozen_entries, ledger_of_books}
 use Rattle.ledger_model.specs.Broken.{is_allowed}
 use Rattle.ledger_model.specs.Ledger.{Ledger}
 use Rattle.ledger_model.specs.Transaction.{ledger_after_tx}
-use Rattle.live_ledger.specs.Kept.{IsKept}
+use Rattle.live_ledger.specs.Kept.{IsLiveLedger}
 use Rattle.live_ledger.specs.Standing.{Standing}
 use Rattle.live_ledger.proofs.state.LiveLedger.failed.Goals as goal
 
@@ -12,7 +12,7 @@ pub fail-requires : goal.fail-requires
 fail-requires c =
     let held = ap (λ (b : Books). ledger_of_books b) c.deref_mut.ensures.value in
     record {
-      kept = subst (λ (l : Ledger). IsKept l) (sym held) c.self.invariant;
+      kept = subst (λ (l : Ledger). IsLiveLedger l) (sym held) c.self.invariant;
       within = c.requires.within;
       allowed = ap (λ (l : Ledger). is_allowed l c.args.tx.now) (held ∙ ap (λ (s : Standing). s.ledger) c.self.view_is) ∙ c.requires.allowed;
       failed = c.requires.failed;

@@ -6,7 +6,7 @@ use Rattle.ledger_model.specs.Broken.{is_allowed}
 use Rattle.ledger_model.specs.Draft.{last_draft}
 use Rattle.ledger_model.specs.Ledger.{Ledger}
 use Rattle.ledger_model.specs.Transaction.{ledger_after_tx}
-use Rattle.live_ledger.specs.Kept.{IsKept}
+use Rattle.live_ledger.specs.Kept.{IsLiveLedger}
 use Rattle.live_ledger.specs.Standing.{Standing}
 use Rattle.live_ledger.proofs.state.LiveLedger.passed.Goals as goal
 
@@ -16,7 +16,7 @@ pass-requires c =
     let is = held ∙ ap (λ (s : Standing). s.ledger) c.self.view_is in
     let tx = c.args.tx.now in
     record {
-      kept = subst (λ (l : Ledger). IsKept l) (sym held) c.self.invariant;
+      kept = subst (λ (l : Ledger). IsLiveLedger l) (sym held) c.self.invariant;
       within = c.requires.within;
       allowed = ap (λ (l : Ledger). is_allowed l tx) is ∙ c.requires.allowed;
       passed = c.requires.passed;

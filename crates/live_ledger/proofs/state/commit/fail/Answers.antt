@@ -3,7 +3,7 @@ use Rattle.tx_records.proofs.Parts.{tx_parts}
 use Rattle.ledger_books.specs.Parts.{ledger_of_books}
 use Rattle.ledger_model.specs.Ledger.{Ledger}
 use Rattle.ledger_model.specs.UtxoRules.{collateral_left}
-use Rattle.live_ledger.specs.Kept.{IsKept}
+use Rattle.live_ledger.specs.Kept.{IsLiveLedger}
 use Rattle.live_ledger.proofs.Committing.{fails}
 use Rattle.live_ledger.proofs.Parts.{failed_parts}
 use Rattle.live_ledger.proofs.state.commit.fail.Goals as goal
@@ -34,4 +34,4 @@ returns c =
     let paid : c.in_ok-collateral.collateral - c.returned.result ≡ collateral_left l c.args.tx.now = omega (arith, c.in_ok-collateral.ensures.left, f.taken, f.covered, c.returned.ensures) in
     let made = c.in_ok-collateral.ensures.made in
     let is = failed_parts l c.args.tx.now c.args.b.now.stake c.move_collateral.new.stake _ made paid in
-    record { ledger = is ∙ f.is; kept = subst (λ (x : Ledger). IsKept x) (sym is) f.kept; frozen = made.kept.frozen }
+    record { ledger = is ∙ f.is; kept = subst (λ (x : Ledger). IsLiveLedger x) (sym is) f.kept; frozen = made.kept.frozen }

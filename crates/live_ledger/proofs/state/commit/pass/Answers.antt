@@ -16,7 +16,7 @@ use Rattle.ledger_model.specs.Transaction.{last_voting_epoch, made_outputs, made
 use Rattle.maps.specs.Maps.{value_at, without_keys}
 use Rattle.stake_book.specs.Stakes.{balances_in}
 use Rattle.utxo_set.specs.Utxos.{Utxos}
-use Rattle.live_ledger.specs.Kept.{IsKept}
+use Rattle.live_ledger.specs.Kept.{IsLiveLedger}
 use Rattle.live_ledger.specs.Proposed.{IsUnknown}
 use Rattle.live_ledger.proofs.Committing.{passes}
 use Rattle.live_ledger.proofs.Parts.{passed_parts}
@@ -85,4 +85,4 @@ returns c =
     ∙ ap (λ (ps : List Proposal). map (with_votes tx) ps ++ made_proposals (last_voting_epoch l) tx) laid.proposals in
     let is = ap (λ (x : Books). ledger_of_books (record x { stake = stake; proposals = proposals; fees = x.fees + tx.fee; donations = x.donations + tx.donation })) laid.others
     ∙ passed_parts l tx b.stake c.args.changes now.stake stake now.pools now.dreps now.hot proposals laid.accounts laid.rest c.in_ok-apply.ensures.made laid.pools laid.dreps laid.hot proposed in
-    record { ledger = is ∙ p.is; kept = subst (λ (x : Ledger). IsKept x) (sym is) p.kept; frozen = c.in_ok-apply.ensures.made.kept.frozen ∙ laid.rest.frozen }
+    record { ledger = is ∙ p.is; kept = subst (λ (x : Ledger). IsLiveLedger x) (sym is) p.kept; frozen = c.in_ok-apply.ensures.made.kept.frozen ∙ laid.rest.frozen }
