@@ -157,7 +157,7 @@ fn judge_record<T: Threads + Sync, G: Gate + Sync>(
 }
 
 /// The ledger after what was read of a line, and what that comes to.
-fn judge<T: Threads + Sync, G: Gate + Sync>(
+fn judge_reading<T: Threads + Sync, G: Gate + Sync>(
     crew: &Crew<T, G>,
     workers: u32,
     ledger: Boxed<LedgerState>,
@@ -188,7 +188,7 @@ pub(crate) fn answer<T: Threads + Sync, G: Gate + Sync>(
     ensures { AnswersAs (λ held. held.ledger) (option_map (λ held. held.ledger) before) reading.now result }
 {
     let (ledger, outcome) = match before {
-        Some(held) => judge(crew, workers, held.ledger, reading)?,
+        Some(held) => judge_reading(crew, workers, held.ledger, reading)?,
         None => begin_with(crew.alloc, reading, workers)?,
     };
     Ok((Held { ledger }, outcome))

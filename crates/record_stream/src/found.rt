@@ -35,6 +35,7 @@ pub(crate) fn next_line<S: Source>(
     ensures ahead { AreAhead lines.new slots.new.items }
     ensures begun { IsOk result → lines.new.begun ≡ Some [] }
 {
+    // (laws: how bytes are cut into lines)
     whole_lines();
     keep_whole(lines.ahead(), slots);
     let rest = lines.ahead().len();
