@@ -21,7 +21,7 @@ use Rattle.run_model.specs.SoundWorld.{IsSoundWorld}
 use Rattle.run_model.specs.World.{World}
 use Rattle.snapshots.specs.declared.frozen.Frozen.{Frozen}
 use Rattle.snapshots.specs.Frozen.{frozen_copy_of}
-use Rattle.view_map.specs.View.{frozen_copy_of as frozen_of_accounts}
+use Rattle.view_map.specs.View.{frozen_of}
 use Rattle.epoch_rule.specs.declared.books.Lists.{Lists}
 use Rattle.epoch_rule.specs.Lists.{lists_of}
 use Rattle.epoch_rule.specs.Sounds.{AreSoundBooks}
@@ -42,12 +42,12 @@ module _ (w : World) (b : Books) (f : Frozen) (p : Pulser) (parts : world_of_par
   going = goes_on snapshot_held (frozen_entries b) p refl counts
 
   -- the books are sound beside the frozen epoch and its count, once this has ended over the entries of their accounts
-  pub sound_books : (a : Accounts) → a ≡ b.stake.accounts → (c : Ended) → ((g : Snapshot) → g.entries ≡ frozen_of_accounts credential_cmp a → IsPulserOf g p → IsCountedOf g c) → AreSoundBooks b (done_by p) snapshot_held f c
+  pub sound_books : (a : Accounts) → a ≡ b.stake.accounts → (c : Ended) → ((g : Snapshot) → g.entries ≡ frozen_of credential_cmp a → IsPulserOf g p → IsCountedOf g c) → AreSoundBooks b (done_by p) snapshot_held f c
   sound_books a same c finished = record {
     sound = subst (λ (v : World). IsSoundWorld v) (sym parts) held.sound;
     frozen = record {
       frozen = held.copied ∙ ap frozen_copy_of (sym is_frozen);
-      counted = finished snapshot_held (ap (λ (x : Accounts). frozen_of_accounts credential_cmp x) (sym same)) counts;
+      counted = finished snapshot_held (ap (λ (x : Accounts). frozen_of credential_cmp x) (sym same)) counts;
     };
   }
 

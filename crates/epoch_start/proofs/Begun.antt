@@ -25,7 +25,7 @@ use Rattle.run_model.specs.SoundWorld.{IsSoundWorld}
 use Rattle.run_model.specs.SoundWorld.{held_by as held_by_entry}
 use Rattle.snapshots.specs.Frozen.{frozen_copy_of}
 use Rattle.stake_book.specs.Stakes.{AreKept}
-use Rattle.view_map.specs.View.{frozen_copy_of as frozen_entries_of}
+use Rattle.view_map.specs.View.{frozen_of}
 use Rattle.epoch_start.specs.Begun.{accounts_of_pools, begun_of}
 
 -- the frozen entries are the live ones
@@ -47,11 +47,11 @@ held_is es = sym (sum_values-entries held_by_entry es)
 
 -- the count finds what is frozen in the books
 pub has_frozen : (b : Books) (a : Accounts) (deposits : List (Credential × ℕ)) → AreKept b.stake → IsSoundWorld (begun_of b) → a ≡ b.stake.accounts
-    → frozen_entries_of credential_cmp b.stake.accounts ≡ b.stake.accounts.live
+    → frozen_of credential_cmp b.stake.accounts ≡ b.stake.accounts.live
     → ((c : Credential) → unwrap_or (value_at credential_cmp deposits c) 0 ≡ paid_by b.proposals c) → total_of deposits ≡ deposits_of b.proposals
     → HasFrozen (begun_of b).frozen a b.dreps deposits
 has_frozen b a deposits k s book frozen paid total = record {
-  entries = sym (entries_are b k) ∙ sym frozen ∙ ap (λ (x : Accounts). frozen_entries_of credential_cmp x) (sym book);
+  entries = sym (entries_are b k) ∙ sym frozen ∙ ap (λ (x : Accounts). frozen_of credential_cmp x) (sym book);
   dreps = dreps_are b.dreps.dreps;
   deposits = paid;
   room = omega (arith, held_is (begun_of b).frozen.entries, s.frozen.held, total, s.ledger.within);

@@ -22,7 +22,7 @@ use Rattle.run_model.specs.Genesis.{ledger_of_genesis, no_snapshot, world_of_gen
 use Rattle.tx_records.specs.declared.genesis.Genesis.{Genesis}
 use Rattle.gov_ids.specs.Orders.{credential_cmp}
 use Rattle.epoch_start.proofs.Begun.{entries_are}
-use Rattle.view_map.specs.View.{frozen_copy_of as frozen_entries_of}
+use Rattle.view_map.specs.View.{frozen_of}
 use Rattle.stake_book.specs.Stakes.{AreKept, Stakes, accounts_of, pool_stake_in, stake_held}
 use Rattle.book_records.specs.declared.Registered.{Registered}
 use Rattle.gov_ids.specs.Same.{same_pool}
@@ -127,7 +127,7 @@ pub begun_sound : (b : Books) (s : Stakes) → s ≡ record b.stake { accounts =
 begun_sound b s fields h = subst (λ (w : World). IsSoundWorld w) (sym (begun_same b s fields)) h
 
 -- then the frozen entries are those of what begins
-pub begun_entries : (b : Books) (s : Stakes) → AreKept b.stake → s ≡ record b.stake { accounts = record b.stake.accounts { saved = [] } } → frozen_entries_of credential_cmp s.accounts ≡ b.stake.accounts.live
+pub begun_entries : (b : Books) (s : Stakes) → AreKept b.stake → s ≡ record b.stake { accounts = record b.stake.accounts { saved = [] } } → frozen_of credential_cmp s.accounts ≡ b.stake.accounts.live
     → frozen_entries (record b { stake = s }) ≡ (begun_of (record b { stake = s })).frozen.entries
 begun_entries b s kept fields frozen = frozen ∙ entries_are b kept ∙ ap (λ (w : World). w.frozen.entries) (sym (begun_same b s fields))
 
@@ -156,9 +156,9 @@ genesis_begins b g ledger marks pending = λ i. frozen_anew (record {
 
 -- the entries that it visits are the frozen ones
 pub visited_are : (l live : Standing) (slot : ℕ) (s : Stakes) (a : Accounts) → live ≡ on_live (λ (x : Ledger). record x { slot = slot }) l
-    → frozen_entries_of credential_cmp s.accounts ≡ live.frozen → a ≡ s.accounts → frozen_entries_of credential_cmp a ≡ l.frozen
+    → frozen_of credential_cmp s.accounts ≡ live.frozen → a ≡ s.accounts → frozen_of credential_cmp a ≡ l.frozen
 visited_are l live slot s a moved frozen book =
-    ap (λ (x : Accounts). frozen_entries_of credential_cmp x) book ∙ frozen ∙ ap (λ (x : Standing). x.frozen) moved
+    ap (λ (x : Accounts). frozen_of credential_cmp x) book ∙ frozen ∙ ap (λ (x : Standing). x.frozen) moved
 
 -- and what it leaves is the World with the slot and so many more counted
 pub pulsed_is : (l live : Standing) (marks : Snapshots) (pending : Option Rewards) (f : Frozen) (p q : Pulser) (slot pulse : ℕ) → live ≡ on_live (λ (x : Ledger). record x { slot = slot }) l

@@ -8,7 +8,7 @@ use Rattle.book_records.specs.declared.DrepState.{DrepState}
 use Rattle.book_records.specs.declared.Registered.{Registered}
 use Rattle.book_records.specs.declared.pool.Pool.{Pool}
 use Rattle.book_records.specs.declared.pool.PoolTerms.{PoolTerms}
-use Rattle.book_records.specs.Pools.{with_registered as with_pool_registration, with_retirement}
+use Rattle.book_records.specs.Pools.{with_registration, with_retirement}
 use Rattle.gov_actions.specs.declared.state.HotState.{HotState}
 use Rattle.tx_records.specs.declared.tx.Scripts.{Scripts}
 use Rattle.tx_records.specs.declared.tx.Scripts.TheVariants.{Failed}
@@ -69,7 +69,7 @@ with_pool p pool paid d = record d {
 -- the draft with this pool registered: a first registration pays the deposit, a later one nothing
 abbrev pub with_pool_registered : PoolId → PoolTerms → ℕ → Drafted → Drafted
 with_pool_registered p terms deposit d = record d {
-  ledger = record d.ledger { pools = with_pool_registration p terms deposit d.ledger.pools };
+  ledger = record d.ledger { pools = with_registration p terms deposit d.ledger.pools };
   deposits = d.deposits + (if is_pool d.ledger p then 0 else deposit);
   changes = d.changes + 1;
 }

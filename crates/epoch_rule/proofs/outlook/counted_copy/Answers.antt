@@ -5,14 +5,14 @@ use Rattle.drep_pulser.specs.Facts.{IsCountedOf}
 use Rattle.drep_pulser.specs.Pulsers.{IsPulserOf}
 use Rattle.gov_ids.specs.Orders.{credential_cmp}
 use Rattle.snapshots.specs.Frozen.{frozen_copy_of}
-use Rattle.view_map.specs.View.{frozen_copy_of as frozen_of_accounts}
+use Rattle.view_map.specs.View.{frozen_of}
 use Rattle.epoch_rule.proofs.outlook.counted_copy.Goals as goal
 
 -- the count ends over the entries of the snapshot
 module _ (c : goal.After-finished_alone) where
   counted : IsCountedOf c.args.s.now.frozen c.finished_alone.result
   counted =
-      let entries = sym c.live.ensures.frozen ∙ sym c.stake.ensures.frozen ∙ ap (λ (a : Accounts). frozen_of_accounts credential_cmp a) (sym c.book.ensures.value) in
+      let entries = sym c.live.ensures.frozen ∙ sym c.stake.ensures.frozen ∙ ap (λ (a : Accounts). frozen_of credential_cmp a) (sym c.book.ensures.value) in
       c.finished_alone.ensures c.args.s.now.frozen entries (subst (λ (p : Pulser). IsPulserOf c.args.s.now.frozen p) (sym c.in_ok-pulser.ensures) c.pulser.ensures.counts)
 
 pub returns-clause-counted : goal.returns-clause-counted
