@@ -1,9 +1,0 @@
-//! Tests of the whole state between two boundaries. It has no code, so that a test is proved alone.
-#![tactic(auto)]
-
-#[cfg(test)]
-mod lines;
-#[cfg(test)]
-mod records;
-#[cfg(test)]
-mod state;
