@@ -83,8 +83,17 @@ def long_lines():
     yield answered("a text that is too long for a line", (b'"' + b"a" * 3 * LINE_LIMIT + b'"', TOO_LONG), (transfer(2), ACCEPTED))
 
 
+def parts():
+    """Lines where a read of 64 KiB ends: short ones in it, and such as are longer."""
+    lines = [(padded(transfer(n), 1_500), ACCEPTED) if n % 2 else (b"{" + b" " * n, NO_JSON) for n in range(2, 100)]
+    yield answered("every second line is malformed", *lines)
+    lengths = (65_534, 65_535, 65_536, 65_537, 131_072, 200_000)
+    yield answered("lines about as long as a read, and longer", *((padded(transfer(n), length), ACCEPTED) for n, length in enumerate(lengths, 2)))
+
+
 def cases():
     yield from first_lines()
     yield from ends()
     yield from blank_lines()
     yield from long_lines()
+    yield from parts()
