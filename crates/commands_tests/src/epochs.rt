@@ -26,17 +26,21 @@ fn enacts_a_motion(rt: HostRuntime) -> Result<(), Fail> {
     Ok(())
 }
 
-/// How the run ends where read k, of 64 bytes at most, fails, and what it wrote.
+/// One worker, two, and more than there are entries: the numbers of workers change nothing.
+const REPLAYS: [&str; 3] = ["replay", "replay --workers 2", "replay --workers 64"];
+
+/// How a run of these words ends where read k, of 64 bytes at most, fails, and what it wrote.
 fn with_failing_read<R: Threads + Sync>(
     rt: &R,
     alloc: Global,
+    words: &str,
     bytes: &[u8],
     k: u64,
 ) -> Result<(Status, MemorySink), NoMemory> {
     let failing = [k];
     let mut source = FaultySource::new(bytes, 64, &failing);
     let mut sink = MemorySink::new(alloc);
-    let status = ran(rt, alloc, "replay", &mut source, &mut sink)?;
+    let status = ran(rt, alloc, words, &mut source, &mut sink)?;
     Ok((status, sink))
 }
 
@@ -45,24 +49,31 @@ fn with_failing_read<R: Threads + Sync>(
 #[test]
 fn each_read_fails(rt: HostRuntime) -> Result<(), Fail> {
     let bytes = stream(rt.alloc(), MOTION)?;
-    for k in 0..60u64 {
-        let (status, sink) = with_failing_read(&rt, rt.alloc(), bytes.as_slice(), k)?;
-        let came = bytes.get(..64 * k as usize).unwrap_or(bytes.as_slice());
-        let text = answers_to(MOTION_TEXT.as_bytes(), whole_lines(came));
-        let want = if k as usize > bytes.len().div_ceil(64) {
-            Status::Done
-        } else {
-            Status::ReadFault
-        };
-        assert_eq!(rt; (status, sink.as_slice()), (want, text), "read {k}");
+    for words in REPLAYS {
+        for k in 0..60u64 {
+            let (status, sink) = with_failing_read(&rt, rt.alloc(), words, bytes.as_slice(), k)?;
+            let came = bytes.get(..64 * k as usize).unwrap_or(bytes.as_slice());
+            let text = answers_to(MOTION_TEXT.as_bytes(), whole_lines(came));
+            let want = if k as usize > bytes.len().div_ceil(64) {
+                Status::Done
+            } else {
+                Status::ReadFault
+            };
+            assert_eq!(rt;
+                (status, sink.as_slice()),
+                (want, text),
+                "{words}, read {k}"
+            );
+        }
     }
     Ok(())
 }
 
-/// How the run ends where write k, of `part` bytes at most, fails, and what it wrote.
+/// How a run of these words ends where write k, of `part` bytes at most, fails, and what it wrote.
 fn with_failing_write<R: Threads + Sync>(
     rt: &R,
     alloc: Global,
+    words: &str,
     bytes: &[u8],
     part: usize,
     k: u64,
@@ -72,7 +83,7 @@ fn with_failing_write<R: Threads + Sync>(
     let failing = [k];
     let mut source = MemorySource::new(bytes, 65_536);
     let mut sink = FaultySink::new(alloc, part, &failing);
-    let status = ran(rt, alloc, "replay", &mut source, &mut sink)?;
+    let status = ran(rt, alloc, words, &mut source, &mut sink)?;
     let mut written = Vec::new(alloc);
     written.extend_from_slice(sink.as_slice())?;
     Ok((status, written))
@@ -91,20 +102,23 @@ fn end_after(written: &[u8]) -> Status {
 #[test]
 fn each_line_fails(rt: HostRuntime) -> Result<(), Fail> {
     let bytes = stream(rt.alloc(), MOTION)?;
-    for k in 0..60usize {
-        let text = first_lines(MOTION_TEXT.as_bytes(), k);
-        let (status, written) = with_failing_write(
-            &rt,
-            rt.alloc(),
-            bytes.as_slice(),
-            65_536,
-            k as u64,
-        )?;
-        assert_eq!(rt;
-            (status, written.as_slice()),
-            (end_after(text), text),
-            "line {k}"
-        );
+    for words in REPLAYS {
+        for k in 0..60usize {
+            let text = first_lines(MOTION_TEXT.as_bytes(), k);
+            let (status, written) = with_failing_write(
+                &rt,
+                rt.alloc(),
+                words,
+                bytes.as_slice(),
+                65_536,
+                k as u64,
+            )?;
+            assert_eq!(rt;
+                (status, written.as_slice()),
+                (end_after(text), text),
+                "{words}, line {k}"
+            );
+        }
     }
     Ok(())
 }
@@ -121,6 +135,7 @@ fn bytes_fail(rt: HostRuntime) -> Result<(), Fail> {
         let (status, written) = with_failing_write(
             &rt,
             rt.alloc(),
+            "replay",
             bytes.as_slice(),
             1,
             10 * tenth as u64,

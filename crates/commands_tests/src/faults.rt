@@ -4,27 +4,62 @@ ghost use Rattle.std.specs.Prelude.{◌<◌};
 use crate::memory::{ran, replayed_in_memory};
 use crate::streams::{ROW, ROW_TEXT, first_lines, stream, whole_lines};
 use byte_lines::{FaultySink, FaultySource, MemorySink, MemorySource};
+use coin_frac::NoMemory;
 use commands::{GenesisCause, Status};
+use std::alloc::Global;
 use std::test::Fail;
+use std::thread::Threads;
 use tx_records::FieldName;
 
-/// Read k fails: the text of the lines that came whole was written. Past the end no read comes.
+/// How a run of these words ends where read k, of `part` bytes at most, fails, and what it wrote.
+fn with_failing_read<R: Threads + Sync>(
+    rt: &R,
+    alloc: Global,
+    words: &str,
+    bytes: &[u8],
+    part: usize,
+    k: usize,
+) -> Result<(Status, MemorySink), NoMemory>
+    requires { 0 < part }
+{
+    let failing = [k as u64];
+    let mut source = FaultySource::new(bytes, part, &failing);
+    let mut sink = MemorySink::new(alloc);
+    let status = ran(rt, alloc, words, &mut source, &mut sink)?;
+    Ok((status, sink))
+}
+
+/// Read k fails, also where each read gives one byte and where there are workers: the text of the lines that came whole was
+/// written. Past the end no read comes.
 #[test]
 fn each_read_fails(rt: HostRuntime) -> Result<(), Fail> {
     let bytes = stream(rt.alloc(), ROW)?;
-    for k in 0..80u64 {
-        let failing = [k];
-        let mut source = FaultySource::new(bytes.as_slice(), 64, &failing);
-        let mut sink = MemorySink::new(rt.alloc());
-        let status = ran(&rt, rt.alloc(), "replay", &mut source, &mut sink)?;
-        let came = bytes.get(..64 * k as usize).unwrap_or(bytes.as_slice());
-        let text = first_lines(ROW_TEXT.as_bytes(), whole_lines(came));
-        let want = if k as usize > bytes.len().div_ceil(64) {
-            Status::Done
-        } else {
-            Status::ReadFault
-        };
-        assert_eq!(rt; (status, sink.as_slice()), (want, text), "read {k}");
+    for (words, part) in [("replay", 64), ("replay --workers 2", 1)] {
+        let reads = bytes.len().div_ceil(part);
+        for k in 0..=reads.saturating_add(2) {
+            let came = bytes
+                .get(..part.saturating_mul(k))
+                .unwrap_or(bytes.as_slice());
+            let text = first_lines(ROW_TEXT.as_bytes(), whole_lines(came));
+            let want = if k > reads {
+                Status::Done
+            } else {
+                Status::ReadFault
+            };
+            let (status, sink) = with_failing_read(
+                &rt,
+                rt.alloc(),
+                words,
+                bytes.as_slice(),
+                part,
+                k,
+            )?;
+            assert_eq!(rt;
+                (status, sink.as_slice()),
+                (want, text),
+                "{words}, read {k}"
+            );
+        }
     }
     Ok(())
 }
@@ -45,22 +80,24 @@ fn failing_write(number: usize) -> (usize, u64, &'static [u8])
 #[test]
 fn each_write_fails(rt: HostRuntime) -> Result<(), Fail> {
     let bytes = stream(rt.alloc(), ROW)?;
-    for number in 0..320usize {
-        let (piece, k, text) = failing_write(number);
-        let failing = [k];
-        let mut source = MemorySource::new(bytes.as_slice(), 7);
-        let mut sink = FaultySink::new(rt.alloc(), piece, &failing);
-        let status = ran(&rt, rt.alloc(), "replay", &mut source, &mut sink)?;
-        let want = if text.len() == ROW_TEXT.len() {
-            Status::Done
-        } else {
-            Status::WriteFault
-        };
-        assert_eq!(rt;
-            (status, sink.as_slice()),
-            (want, text),
-            "write {k} of {piece} bytes"
-        );
+    for words in ["replay", "replay --workers 2"] {
+        for number in 0..320usize {
+            let (piece, k, text) = failing_write(number);
+            let failing = [k];
+            let mut source = MemorySource::new(bytes.as_slice(), 7);
+            let mut sink = FaultySink::new(rt.alloc(), piece, &failing);
+            let status = ran(&rt, rt.alloc(), words, &mut source, &mut sink)?;
+            let want = if text.len() == ROW_TEXT.len() {
+                Status::Done
+            } else {
+                Status::WriteFault
+            };
+            assert_eq!(rt;
+                (status, sink.as_slice()),
+                (want, text),
+                "{words}, write {k} of {piece} bytes"
+            );
+        }
     }
     Ok(())
 }

@@ -102,6 +102,29 @@ fn gives_these_texts(rt: HostRuntime) -> Result<(), Fail> {
     Ok(())
 }
 
+/// Each stream byte by byte, with several workers.
+#[test]
+fn gives_them_with_workers(rt: HostRuntime) -> Result<(), Fail> {
+    for (shape, want, text) in rows() {
+        let bytes = stream(rt.alloc(), shape)?;
+        for words in [
+            "replay --workers 2",
+            "replay --workers=3",
+            "replay --workers 64",
+        ] {
+            let mut source = MemorySource::new(bytes.as_slice(), 1);
+            let mut sink = MemorySink::new(rt.alloc());
+            let status = ran(&rt, rt.alloc(), words, &mut source, &mut sink)?;
+            assert_eq!(rt;
+                (status, sink.as_slice()),
+                (want, text.as_bytes()),
+                "{shape} by {words}"
+            );
+        }
+    }
+    Ok(())
+}
+
 /// Words of no command: nothing is read or written, so the next run has it all.
 #[test]
 fn leaves_all_for_wrong_words(rt: HostRuntime) -> Result<(), Fail> {

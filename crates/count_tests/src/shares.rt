@@ -181,6 +181,41 @@ fn seen(counted: &Counted) -> [u64; 3] {
 // what is seen.
 type Row = (usize, u32, u32, u32, u32, [u64; 3]);
 
+// What one worker alone sees after so many visits.
+fn alone(
+    rt: &impl Abort,
+    alloc: Global,
+    book: &AccountBook,
+    visits: u32,
+) -> Result<[u64; 3], NoMemory> {
+    let counting = left(rt, alloc, book, visits, 1)?;
+    Ok(seen(&finished::<Brand>(Blank::new(1), counting, book)))
+}
+
+// How many visits a copy of a count has behind it.
+fn done(alloc: Global, counting: &Counting) -> Result<u64, NoMemory> {
+    Ok(counting.copied(alloc)?.done())
+}
+
+// What these workers see after so many visits, for which so many were reserved, and who entered the gate.
+fn shared<R: Threads + Abort + Sync>(
+    rt: &R,
+    alloc: Global,
+    book: &AccountBook,
+    visits: u32,
+    reserved: u32,
+    workers: u32,
+) -> Result<([u64; 3], u64), NoMemory>
+    requires reserved { (1 ≤ reserved) × (reserved ≤ 64) }
+    requires workers { (1 ≤ workers) × (workers ≤ 64) }
+{
+    let counting = left(rt, alloc, book, visits, reserved)?;
+    assert_eq!(rt; done(alloc, &counting)?, u64::from(visits));
+    let gate = Entered(AtomicU64::new(0));
+    let counted = finish_shared(rt, counting, book, workers, &gate);
+    Ok((seen(&counted), gate.0.load(Ordering::SeqCst)))
+}
+
 fn compare<R: Threads + Abort + Sync>(rt: &R, alloc: Global, row: Row) -> Result<(), NoMemory> {
     let (accounts, visits, reserved, workers, entering, wanted) = row;
     assert!(rt; 1 <= reserved);
@@ -190,19 +225,13 @@ fn compare<R: Threads + Abort + Sync>(rt: &R, alloc: Global, row: Row) -> Result
     assert!(rt; 1 <= entering);
     assert!(rt; entering <= 64);
     let book = frozen(alloc, accounts)?;
-    let alone = finished::<Brand>(Blank::new(1), left(rt, alloc, &book, visits, 1)?, &book);
-    let counting = left(rt, alloc, &book, visits, reserved)?;
+    assert_eq!(rt; alone(rt, alloc, &book, visits)?, wanted, "at {row:?}");
+    let entered = u64::MAX >> (64 - entering);
     assert_eq!(rt;
-        counting.copied(alloc)?.done(),
-        u64::from(visits),
+        shared(rt, alloc, &book, visits, reserved, workers)?,
+        (wanted, entered),
         "at {row:?}"
     );
-    let gate = Entered(AtomicU64::new(0));
-    let shared = finish_shared(rt, counting, &book, workers, &gate);
-    assert_eq!(rt; seen(&alone), wanted, "at {row:?}");
-    assert_eq!(rt; seen(&shared), wanted, "at {row:?}");
-    let entered = u64::MAX >> (64 - entering);
-    assert_eq!(rt; gate.0.load(Ordering::SeqCst), entered, "at {row:?}");
     Ok(())
 }
 
