@@ -12,6 +12,25 @@ use std::alloc::Global;
 use tx_records::{Reply, Rule, Tx, TxFault};
 use tx_rule::{apply_tx, judge};
 
+/// Why a transaction that is sent is not judged. (Own)
+#[derive(Clone, Copy, Debug, PartialEq, Eq)]
+pub enum SendFault {
+    /// A list is longer, or a number greater, than a record may have.
+    BeyondLimits,
+    /// Memory ran out.
+    NoMemory,
+}
+
+impl From<NoMemory> for SendFault {
+    ghost use Rattle.wallet.specs.declared.ask.SendFault.TheVariants as faults;
+
+    ghost from_gives = { λ _ fault. fault ≡ faults.NoMemory };
+
+    fn from(_error: NoMemory) -> SendFault {
+        SendFault::NoMemory
+    }
+}
+
 /// Why a transaction would not be accepted, or is not judged. (Own)
 #[derive(Clone, Copy, Debug, PartialEq, Eq)]
 pub enum AskFault {
@@ -30,6 +49,19 @@ impl From<NoMemory> for AskFault {
 
     fn from(_error: NoMemory) -> AskFault {
         AskFault::NoMemory
+    }
+}
+
+impl From<SendFault> for AskFault {
+    ghost use Rattle.wallet.specs.Asking.{unjudged};
+
+    ghost from_gives = { λ error fault. fault ≡ unjudged error };
+
+    fn from(error: SendFault) -> AskFault {
+        match error {
+            SendFault::BeyondLimits => AskFault::BeyondLimits,
+            SendFault::NoMemory => AskFault::NoMemory,
+        }
     }
 }
 
@@ -62,21 +94,21 @@ pub fn ask(alloc: Global, ledger: &LedgerState, tx: &Tx) -> Result<(), AskFault>
 }
 
 /// The reply to a transaction that is sent, and the ledger after it, which is the one that was given where the reply is a refusal. (Own)
-pub fn send(alloc: Global, ledger: LedgerState, tx: &Tx) -> Result<(LedgerState, Reply), AskFault>
+pub fn send(alloc: Global, ledger: LedgerState, tx: &Tx) -> Result<(LedgerState, Reply), SendFault>
     ensures reply { IfOk result (λ r. r.1 ≡ (tx_step ledger.ledger tx.now).1) }
     ensures ledger { IfOk result (λ r. r.0 ≡ on_ledger (λ l. (tx_step l tx.now).0) ledger) }
     ensures judged { IfOk result (λ _. is_within_limits tx.now ≡ true) }
-    ensures beyond { result ≡ Err AskFault.BeyondLimits → is_within_limits tx.now ≡ false }
+    ensures beyond { result ≡ Err SendFault.BeyondLimits → is_within_limits tx.now ≡ false }
 {
     match tx.is_within_limits(alloc) {
         Ok(true) => Ok(apply_tx(alloc, ledger, tx)?),
         Ok(false) => {
             drop(ledger);
-            Err(AskFault::BeyondLimits)
+            Err(SendFault::BeyondLimits)
         }
         Err(fault) => {
             drop(ledger);
-            Err(AskFault::from(fault))
+            Err(SendFault::from(fault))
         }
     }
 }
@@ -87,7 +119,7 @@ pub trait Asked: Sized {
     fn ask(&self, alloc: Global, tx: &Tx) -> Result<(), AskFault>;
 
     /// What is to be asked after a transaction that is sent, and the reply to it.
-    fn send(self, alloc: Global, tx: &Tx) -> Result<(Self, Reply), AskFault>;
+    fn send(self, alloc: Global, tx: &Tx) -> Result<(Self, Reply), SendFault>;
 }
 
 impl Asked for LedgerState {
@@ -95,7 +127,7 @@ impl Asked for LedgerState {
         ask(alloc, self, tx)
     }
 
-    fn send(self, alloc: Global, tx: &Tx) -> Result<(LedgerState, Reply), AskFault> {
+    fn send(self, alloc: Global, tx: &Tx) -> Result<(LedgerState, Reply), SendFault> {
         send(alloc, self, tx)
     }
 }
