@@ -1,7 +1,11 @@
 //! The ledger after the records of a stream.
-ghost use Rattle.std.specs.Prelude.{◌<◌, ◌^◌, ◌≡◌, IfSome, true};
+ghost use Rattle.std.specs.Prelude.{◌<◌, ◌^◌, ◌≡◌, IfOk, IfSome, None, true};
+ghost use Rattle.ledger_model.specs.Checks.{first_among};
 ghost use Rattle.record_stream.specs.Records.{is_within};
+ghost use Rattle.run_model.specs.Step.{block_checks, enters_next, step};
+ghost use Rattle.text_model.specs.Runs.{world_after_reading};
 ghost use Rattle.tx_records.specs.RecordLimits.{is_within_limits};
+ghost use Rattle.tx_records.specs.declared.record.Record.TheVariants as records;
 
 use byte_lines::{LineFault, Source};
 use coin_frac::NoMemory;
@@ -66,6 +70,7 @@ fn after_reading<R: Threads + Sync>(
     reading: &Reading,
 ) -> Result<LedgerState, NoMemory>
     requires { is_within reading.now ≡ true }
+    ensures { IfOk result (λ w. w ≡ world_after_reading ledger reading.now) }
 {
     match reading {
         Reading::Read(found) => after_record(alloc, rt, ledger, found),
@@ -81,6 +86,7 @@ fn after_record<R: Threads + Sync>(
     found: &Record,
 ) -> Result<LedgerState, NoMemory>
     requires { is_within_limits found.now ≡ true }
+    ensures { IfOk result (λ w. w ≡ (step ledger found.now).0) }
 {
     match found {
         Record::Block { slot, pulse } => after_block(alloc, rt, ledger, *slot, *pulse),
@@ -90,7 +96,8 @@ fn after_record<R: Threads + Sync>(
     }
 }
 
-/// The ledger after a block; one whose slot is in the next epoch crosses the boundary first.
+/// The ledger after a block; one whose slot is in the next epoch crosses the boundary first, and one that breaks a rule leaves it
+/// as it is.
 fn after_block<R: Threads + Sync>(
     alloc: Global,
     rt: &R,
@@ -99,20 +106,28 @@ fn after_block<R: Threads + Sync>(
     pulse: u32,
 ) -> Result<LedgerState, NoMemory>
     requires { slot < 2 ^ 62 }
-{
-    if let Ok(true) = ledger.check_block(slot, pulse) {
-        let (crossed, _report) = cross(alloc, rt, ledger, 1, &OpenGate)?;
-        return Ok(within(crossed, slot, pulse));
-    }
-    Ok(within(ledger, slot, pulse))
-}
-
-/// The ledger after a block in its epoch; any other leaves it as it is.
-fn within(ledger: LedgerState, slot: u64, pulse: u32) -> LedgerState
-    requires { slot < 2 ^ 62 }
+    ensures { IfOk result (λ w. w ≡ (step ledger (records.Block slot pulse)).0) }
 {
     match ledger.check_block(slot, pulse) {
-        Ok(false) => ledger.block(slot, pulse).0,
-        Ok(true) | Err(_) => ledger,
+        Ok(true) => after_boundary(alloc, rt, ledger, slot, pulse),
+        Ok(false) => Ok(ledger.block(slot, pulse).0),
+        Err(_) => Ok(ledger),
     }
+}
+
+/// The ledger after a block that breaks no rule and whose slot is in the next epoch.
+fn after_boundary<R: Threads + Sync>(
+    alloc: Global,
+    rt: &R,
+    ledger: LedgerState,
+    slot: u64,
+    pulse: u32,
+) -> Result<LedgerState, NoMemory>
+    requires early { slot < 2 ^ 62 }
+    requires unbroken { first_among (block_checks ledger.ledger slot pulse) ≡ None }
+    requires enters { enters_next ledger.ledger slot ≡ true }
+    ensures { IfOk result (λ w. w ≡ (step ledger (records.Block slot pulse)).0) }
+{
+    let (crossed, _report) = cross(alloc, rt, ledger, 1, &OpenGate)?;
+    Ok(crossed.block(slot, pulse).0)
 }

@@ -1,4 +1,4 @@
-use Rattle.std.proofs.Common.{◌≡◌, Bool, true, false, Some, ap, sym, ◌∙◌}
+use Rattle.std.proofs.Common.{◌≡◌, true, false, Some, ap, sym, ◌∙◌}
 use Rattle.gov_actions.specs.declared.tally.Tally.{Tally}
 use Rattle.gov_ids.proofs.Sames.{action_same}
 use Rattle.gov_ids.specs.Same.{same_action}

@@ -1,5 +1,4 @@
-use Rattle.std.proofs.Common.{List, refl, ap}
-use Rattle.gov_ids.specs.declared.ActionId.{ActionId}
+use Rattle.std.proofs.Common.{refl, ap}
 use Rattle.report.proofs.Puts.{put_first_as, put_second_as}
 use Rattle.text_model.specs.StateLines.{proposal_lines}
 use Rattle.voting.specs.Told.{tally_lines}
