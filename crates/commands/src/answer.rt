@@ -1,16 +1,15 @@
-ghost use Rattle.std.specs.Prelude.{◌≡◌, ◌≤◌, IfOk, option_map, true};
+ghost use Rattle.std.specs.Prelude.{◌≡◌, ◌≤◌, IfOk, false, option_map, true};
+ghost use Rattle.commands.specs.Applied.{applied_block_outcome, applied_outcome, is_print};
 ghost use Rattle.commands.specs.Faults.{fault_of_genesis};
 ghost use Rattle.replay_loop.specs.Answers.{AnswersAs, Begins, BeginsWith, Judges};
 ghost use Rattle.ledger_model.specs.Supply.{pots_of};
 ghost use Rattle.record_stream.specs.Records.{is_within};
 ghost use Rattle.tx_records.specs.GenesisLimits as genesis_limits;
 ghost use Rattle.tx_records.specs.RecordLimits.{is_within_limits};
-ghost use Rattle.tx_records.specs.TxLimits as tx_limits;
 ghost use Rattle.text_model.specs.Runs.{line_rule};
 ghost use Rattle.tx_records.specs.declared.record.Reading.TheVariants.{Read};
 ghost use Rattle.tx_records.specs.Rules.{plain_rule};
 
-use crate::blocks::judge_block;
 use crate::crew::Crew;
 use crate::held::Held;
 use coin_frac::NoMemory;
@@ -18,13 +17,13 @@ use ledger_state::LedgerState;
 use listed::Boxed;
 use live_ledger::GenesisFault;
 use par_count::Gate;
+use record_rule::apply_record;
 use replay_loop::{AnswerFault, Answered, GenesisCause, Outcome};
 use report::PotsWord;
 use std::alloc::Global;
 use std::thread::Threads;
 use tx_records::rules::{GENESIS_AGAIN, MALFORMED, TOO_LONG};
-use tx_records::{FieldName, Genesis, Reading, Record, Reply, Rewards, Rule, Tx, What};
-use tx_rule::apply_tx;
+use tx_records::{EpochReport, FieldName, Genesis, Reading, Record, Reply, Rule, What};
 
 /// A ledger is moved from record to record as a pointer.
 pub(crate) type Judged = Result<(Boxed<LedgerState>, Outcome), NoMemory>;
@@ -101,26 +100,6 @@ fn malformed(what: FieldName, place: Option<u32>) -> Outcome
     }))
 }
 
-/// The ledger after a transaction, and its reply.
-fn judge_tx(alloc: Global, ledger: Boxed<LedgerState>, tx: &Tx) -> Judged
-    requires within { tx_limits.is_within_limits tx.now ≡ true }
-    ensures { Judges ledger (Read (Record.Tx tx.now)) result }
-{
-    let (after, reply) = apply_tx(alloc, ledger.into_value(), tx)?;
-    let held = Boxed::new(alloc, after)?;
-    Ok((held, Outcome::Answered(reply)))
-}
-
-/// The ledger after a reward update, and its reply.
-fn judge_rewards(alloc: Global, ledger: Boxed<LedgerState>, update: &Rewards) -> Judged
-    requires within { is_within_limits (Record.Rewards update.now) ≡ true }
-    ensures { Judges ledger (Read (Record.Rewards update.now)) result }
-{
-    let (after, reply) = ledger.into_value().rewards(update)?;
-    let held = Boxed::new(alloc, after)?;
-    Ok((held, Outcome::Answered(reply)))
-}
-
 /// What a print comes to; it changes nothing.
 fn judge_print(ledger: Boxed<LedgerState>, what: What) -> (Boxed<LedgerState>, Outcome)
     ensures { Judges ledger (Read (Record.Print what)) (Ok result) }
@@ -132,6 +111,62 @@ fn judge_print(ledger: Boxed<LedgerState>, what: What) -> (Boxed<LedgerState>, O
         }
         What::State => (ledger, Outcome::State),
         What::Assets => (ledger, Outcome::Assets),
+    }
+}
+
+/// The ledger after a record that is no print, and what it comes to.
+fn judge_applied<T: Threads + Sync, G: Gate + Sync>(
+    crew: &Crew<T, G>,
+    workers: u32,
+    ledger: Boxed<LedgerState>,
+    found: &Record,
+) -> Judged
+    requires within { is_within_limits found.now ≡ true }
+    requires no_print { is_print found.now ≡ false }
+    requires some { 1 ≤ workers }
+    requires few { workers ≤ 64 }
+    ensures { Judges ledger (Read found.now) result }
+{
+    let applied = apply_record(
+        crew.alloc,
+        crew.rt,
+        ledger.into_value(),
+        found,
+        workers,
+        crew.gate,
+    )?;
+    let held = Boxed::new(crew.alloc, applied.ledger)?;
+    let outcome = outcome_over(held.get(), found, applied.reply, applied.report);
+    Ok((held, outcome))
+}
+
+/// What a record that is no print comes to, over the ledger that it left.
+fn outcome_over(
+    after: &LedgerState,
+    found: &Record,
+    reply: Reply,
+    report: Option<EpochReport>,
+) -> Outcome
+    ensures { result ≡ applied_outcome after.now found.now reply report }
+{
+    match found {
+        Record::Block { .. } => block_outcome(after, reply, report),
+        Record::Genesis(_) | Record::Rewards(_) | Record::Tx(_) | Record::Print(_) => {
+            Outcome::Answered(reply)
+        }
+    }
+}
+
+/// What a block comes to, over the ledger that it left; the pots are as the boundary left them.
+fn block_outcome(after: &LedgerState, reply: Reply, report: Option<EpochReport>) -> Outcome
+    ensures { result ≡ applied_block_outcome after.now reply report }
+{
+    match report {
+        Some(report) => Outcome::Crossed(report, after.pots()),
+        None => match reply {
+            Reply::Refused(rule) => Outcome::Answered(Reply::Refused(rule)),
+            Reply::Accepted | Reply::AcceptedFailedScripts => Outcome::Block,
+        },
     }
 }
 
@@ -148,11 +183,10 @@ fn judge_record<T: Threads + Sync, G: Gate + Sync>(
     ensures { Judges ledger (Read found.now) result }
 {
     match found {
-        Record::Genesis(_) => Ok((ledger, refused(GENESIS_AGAIN))),
-        Record::Block { slot, pulse } => judge_block(crew, workers, ledger, *slot, *pulse),
-        Record::Rewards(update) => judge_rewards(crew.alloc, ledger, update),
-        Record::Tx(tx) => judge_tx(crew.alloc, ledger, tx.get()),
         Record::Print(what) => Ok(judge_print(ledger, *what)),
+        Record::Genesis(_) | Record::Block { .. } | Record::Rewards(_) | Record::Tx(_) => {
+            judge_applied(crew, workers, ledger, found)
+        }
     }
 }
 

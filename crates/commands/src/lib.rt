@@ -3,7 +3,6 @@
 #![tactic(auto)]
 
 mod answer;
-mod blocks;
 mod command;
 mod crew;
 mod dispatch;

@@ -1,23 +1,20 @@
 //! The ledger after the records of a stream.
-ghost use Rattle.std.specs.Prelude.{◌<◌, ◌^◌, ◌≡◌, IfOk, IfSome, None, true};
-ghost use Rattle.ledger_model.specs.Checks.{first_among};
+ghost use Rattle.std.specs.Prelude.{◌≡◌, IfOk, IfSome, true};
 ghost use Rattle.record_stream.specs.Records.{is_within};
-ghost use Rattle.run_model.specs.Step.{block_checks, enters_next, step};
+ghost use Rattle.run_model.specs.Step.{step};
 ghost use Rattle.text_model.specs.Runs.{world_after_reading};
 ghost use Rattle.tx_records.specs.RecordLimits.{is_within_limits};
-ghost use Rattle.tx_records.specs.declared.record.Record.TheVariants as records;
 
 use byte_lines::{LineFault, Source};
 use coin_frac::NoMemory;
-use epoch_rule::cross;
 use ledger_state::LedgerState;
 use live_ledger::GenesisFault;
 use par_count::OpenGate;
+use record_rule::apply_record;
 use record_stream::RecordReader;
 use std::alloc::Global;
 use std::thread::Threads;
 use tx_records::{Reading, Record};
-use tx_rule::apply_tx;
 
 /// The ledger after all records of a source, whatever they are answered, and the number of the last record's line; none where
 /// the first is no genesis, or breaks a rule of one. (Own)
@@ -78,7 +75,7 @@ fn after_reading<R: Threads + Sync>(
     }
 }
 
-/// The ledger after a record.
+/// The ledger after a record; its reply, and what a boundary reports, go.
 fn after_record<R: Threads + Sync>(
     alloc: Global,
     rt: &R,
@@ -88,46 +85,6 @@ fn after_record<R: Threads + Sync>(
     requires { is_within_limits found.now ≡ true }
     ensures { IfOk result (λ w. w ≡ (step ledger found.now).0) }
 {
-    match found {
-        Record::Block { slot, pulse } => after_block(alloc, rt, ledger, *slot, *pulse),
-        Record::Rewards(update) => Ok(ledger.rewards(update)?.0),
-        Record::Tx(tx) => Ok(apply_tx(alloc, ledger, tx.get())?.0),
-        Record::Genesis(_) | Record::Print(_) => Ok(ledger),
-    }
-}
-
-/// The ledger after a block; one whose slot is in the next epoch crosses the boundary first, and one that breaks a rule leaves it
-/// as it is.
-fn after_block<R: Threads + Sync>(
-    alloc: Global,
-    rt: &R,
-    ledger: LedgerState,
-    slot: u64,
-    pulse: u32,
-) -> Result<LedgerState, NoMemory>
-    requires { slot < 2 ^ 62 }
-    ensures { IfOk result (λ w. w ≡ (step ledger (records.Block slot pulse)).0) }
-{
-    match ledger.check_block(slot, pulse) {
-        Ok(true) => after_boundary(alloc, rt, ledger, slot, pulse),
-        Ok(false) => Ok(ledger.block(slot, pulse).0),
-        Err(_) => Ok(ledger),
-    }
-}
-
-/// The ledger after a block that breaks no rule and whose slot is in the next epoch.
-fn after_boundary<R: Threads + Sync>(
-    alloc: Global,
-    rt: &R,
-    ledger: LedgerState,
-    slot: u64,
-    pulse: u32,
-) -> Result<LedgerState, NoMemory>
-    requires early { slot < 2 ^ 62 }
-    requires unbroken { first_among (block_checks ledger.ledger slot pulse) ≡ None }
-    requires enters { enters_next ledger.ledger slot ≡ true }
-    ensures { IfOk result (λ w. w ≡ (step ledger (records.Block slot pulse)).0) }
-{
-    let (crossed, _report) = cross(alloc, rt, ledger, 1, &OpenGate)?;
-    Ok(crossed.block(slot, pulse).0)
+    let applied = apply_record(alloc, rt, ledger, found, 1, &OpenGate)?;
+    Ok(applied.ledger)
 }
