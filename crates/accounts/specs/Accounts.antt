@@ -4,7 +4,7 @@ use Rattle.gov_ids.specs.declared.Credential.{Credential}
 use Rattle.gov_ids.specs.Orders.{credential_cmp}
 use Rattle.book_records.specs.declared.Entry.{Entry}
 use Rattle.maps.specs.Maps.{with_value, without_key}
-use Rattle.view_map.specs.View.{View, saved_with, saved_without}
+use Rattle.view_map.specs.View.{View}
 
 -- the entries by credential
 abbrev pub Accounts : Type 0
@@ -18,9 +18,6 @@ is_nothing e = (e.stake == 0) && is_none e.registered
 abbrev pub with_entry : Credential → Entry → List (Credential × Entry) → List (Credential × Entry)
 with_entry c e es = if is_nothing e then without_key credential_cmp c es else with_value credential_cmp c e es
 
--- with the entry put at c, and at its first change since the freeze what was there saved
+-- with the entry put at c; the frozen entries stay
 abbrev pub entered : Credential → Entry → Accounts → Accounts
-entered c e a = record {
-  live = with_entry c e a.live;
-  saved = if is_nothing e then saved_without credential_cmp c a else saved_with credential_cmp c a;
-}
+entered c e a = record a { live = with_entry c e a.live }

@@ -4,6 +4,7 @@
 ghost use Rattle.std.specs.Prelude.{◌≡◌, [], OnOk, OnErr, length, option_map};
 ghost use Rattle.gov_ids.specs.Orders.{credential_cmp};
 ghost use Rattle.maps.specs.Maps.{IsMap, value_at, entry_after};
+ghost use Rattle.maps.specs.Replaced.{with_option};
 ghost use Rattle.view_map.specs.View.{IsInOrder, frozen_of};
 ghost use Rattle.view_map.specs.Walk.{entries_past};
 ghost use Rattle.accounts.specs.Accounts.{is_nothing, entered};
@@ -12,10 +13,9 @@ pub use book_records::{Entry, Registered};
 use coin_frac::NoMemory;
 use gov_ids::Credential;
 use std::alloc::Global;
-use std::collections::btree_map::Iter;
 use std::marker::Model;
-pub use view_map::FrozenIter;
 use view_map::ViewMap;
+pub use view_map::{FrozenIter, LiveIter};
 
 /// The account entries by credential, live and frozen. Contracts see it as the `ViewMap` that it is. (DState of the formal specification; the frozen entries are own)
 #[derive(Drop)]
@@ -41,7 +41,7 @@ fn is_empty(e: &Entry) -> bool
 impl AccountBook {
     /// A book with no entry, live or frozen. (DState of the formal specification)
     pub fn new(alloc: Global) -> AccountBook
-        ensures { result ≡ record { live = []; saved = [] } }
+        ensures { result ≡ record { live = []; frozen = [] } }
     {
         AccountBook {
             view: ViewMap::new(alloc),
@@ -79,9 +79,20 @@ impl AccountBook {
         Ok(())
     }
 
+    /// Sets the entry of a credential at the last freeze, none for an absence. The live entry stays; want of memory changes
+    /// nothing. (Own)
+    pub fn note_first(&mut self, c: Credential, first: Option<Entry>) -> Result<(), NoMemory>
+        ensures ok { OnOk result (self.new ≡
+            record self.old { frozen = with_option credential_cmp c first self.old.frozen }) }
+        ensures err { OnErr result (self.new ≡ self.old) }
+    {
+        self.view.note_first(c, first)?;
+        Ok(())
+    }
+
     /// Makes the live entries the frozen ones. It takes no memory and copies no entry. (SNAP of the formal specification; how it is kept is own)
     pub fn freeze(&mut self)
-        ensures fields { self.new ≡ record self.old { saved = [] } }
+        ensures fields { self.new ≡ record self.old { frozen = self.old.live } }
         ensures frozen { frozen_of credential_cmp self.new ≡ self.old.live }
     {
         self.view.freeze();
@@ -111,7 +122,7 @@ impl AccountBook {
         self.view.frozen_next(after)
     }
 
-    /// How many frozen entries there are. It walks what has changed since the freeze. (Own)
+    /// How many frozen entries there are. (Own)
     pub fn frozen_len(&self) -> u64
         ensures len { result ≡ length (frozen_of credential_cmp self.now) }
         ensures in_order { IsMap credential_cmp (frozen_of credential_cmp self.now) }
@@ -120,10 +131,10 @@ impl AccountBook {
     }
 
     /// The live entries in the order of credentials, in one walk. It takes no memory. (DState of the formal specification)
-    pub fn iter(&self) -> Iter<'_, Credential, Entry>
+    pub fn iter(&self) -> LiveIter<'_, Credential, Entry>
         ensures { result ≡ self.now.live }
     {
-        self.view.live.iter()
+        self.view.iter()
     }
 
     /// The first live entry past a credential, or the first of all, in the order of credentials; none at the end. (DState of the formal specification)

@@ -120,14 +120,14 @@ moved_is change l live marks pending f p is = ap (λ (s : Standing). world_with 
 -- ---- what begins
 
 -- to freeze the accounts changes nothing of what begins
-pub begun_same : (b : Books) (s : Stakes) → s ≡ record b.stake { accounts = record b.stake.accounts { saved = [] } } → begun_of (record b { stake = s }) ≡ begun_of b
+pub begun_same : (b : Books) (s : Stakes) → s ≡ record b.stake { accounts = record b.stake.accounts { frozen = b.stake.accounts.live } } → begun_of (record b { stake = s }) ≡ begun_of b
 begun_same b s fields = ap (λ (x : Stakes). begun_of (record b { stake = x })) fields
 
-pub begun_sound : (b : Books) (s : Stakes) → s ≡ record b.stake { accounts = record b.stake.accounts { saved = [] } } → IsSoundWorld (begun_of b) → IsSoundWorld (begun_of (record b { stake = s }))
+pub begun_sound : (b : Books) (s : Stakes) → s ≡ record b.stake { accounts = record b.stake.accounts { frozen = b.stake.accounts.live } } → IsSoundWorld (begun_of b) → IsSoundWorld (begun_of (record b { stake = s }))
 begun_sound b s fields h = subst (λ (w : World). IsSoundWorld w) (sym (begun_same b s fields)) h
 
 -- then the frozen entries are those of what begins
-pub begun_entries : (b : Books) (s : Stakes) → AreKept b.stake → s ≡ record b.stake { accounts = record b.stake.accounts { saved = [] } } → frozen_of credential_cmp s.accounts ≡ b.stake.accounts.live
+pub begun_entries : (b : Books) (s : Stakes) → AreKept b.stake → s ≡ record b.stake { accounts = record b.stake.accounts { frozen = b.stake.accounts.live } } → frozen_of credential_cmp s.accounts ≡ b.stake.accounts.live
     → frozen_entries (record b { stake = s }) ≡ (begun_of (record b { stake = s })).frozen.entries
 begun_entries b s kept fields frozen = frozen ∙ entries_are b kept ∙ ap (λ (w : World). w.frozen.entries) (sym (begun_same b s fields))
 

@@ -1,4 +1,4 @@
--- A value that is put at a key, saved there or put back.
+-- A value that is put at a key, or put back.
 use Rattle.std.proofs.Common.{◌≡◌, List, [], ◌∷◌, true, false, cond, is_some, Option, Some, None, unwrap_or, refl, ap, sym, ◌∙◌}
 use Rattle.std.specs.Prelude.{MatchOption}
 use Rattle.std.specs.declared.cmp.Ordering.{Ordering}
@@ -10,11 +10,10 @@ use Rattle.std.specs.Map.{keys_of, lookup_key, set_value}
 use Rattle.std.specs.Ordering.{is_eq, match_ordering}
 use Rattle.std.proofs.lemmas.Cmp.{eq_by_cmp_equiv}
 use Rattle.maps.proofs.Lookups.{none_below}
-use Rattle.maps.proofs.Placed.{value_at_tied}
 use Rattle.maps.proofs.Ties.{all_above}
-use Rattle.maps.specs.Maps.{IsMap, value_at, has_key, with_value, without_key}
-use Rattle.view_map.specs.View.{View, key_in, saved_with}
-use Rattle.view_map.proofs.Entries.{key_in-tied, without_key-with_value, no_entry}
+use Rattle.maps.specs.Maps.{IsMap, value_at, with_value, without_key}
+use Rattle.view_map.specs.View.{key_in}
+use Rattle.view_map.proofs.Entries.{without_key-with_value, no_entry}
 
 -- a key with no value stands nowhere
 pub key_absent : {K X : Type 0} (cmp : K → K → Ordering) (es : List (K × X)) (k : K) → value_at cmp es k ≡ None → k ≡ key_in cmp es k
@@ -27,7 +26,7 @@ key_absent {K} {X} cmp (e ∷ es) k m =
 
 module _ {K X : Type 0} {cmp : K → K → Ordering} (o : IsTotalOrder cmp) where
   -- the value that stands at a key, put there once more
-  same_value : (k : K) (v : X) (es : List (K × X)) → IsMap cmp es → value_at cmp es k ≡ Some v → with_value cmp k v es ≡ es
+  pub same_value : (k : K) (v : X) (es : List (K × X)) → IsMap cmp es → value_at cmp es k ≡ Some v → with_value cmp k v es ≡ es
   unfolding IsStrictlySortedBy
   same_value k v [] h m = cc
   same_value k v (e ∷ es) h m =
@@ -36,14 +35,6 @@ module _ {K X : Type 0} {cmp : K → K → Ordering} (o : IsTotalOrder cmp) wher
         | Equal ↦ λ p m. let is : v ≡ e.1 = cc in λ i. (e.0, is i) ∷ es
         | Greater ↦ λ p m. ap (λ (l : List (K × X)). e ∷ l) (same_value k v es h.1 m)
       ] refl m
-
-  -- what is put where something stands leaves it, if that is put in its place
-  pub first_stays : (k : K) (v : X) (es : List (K × X)) → IsMap cmp es → with_value cmp k (unwrap_or (value_at cmp es k) v) es ≡ cond (has_key cmp es k) es (with_value cmp k v es)
-  first_stays k v es h =
-      elim (value_at cmp es k) as (λ (x : Option X). value_at cmp es k ≡ x → with_value cmp k (unwrap_or x v) es ≡ cond (is_some x) es (with_value cmp k v es)) [
-        | None ↦ λ m. refl
-        | Some w ↦ λ m. same_value k w es h m
-      ] refl
 
   -- the value that stood at a key, written there in place of another
   written_back : (k : K) (v b : X) (es : List (K × X)) → IsMap cmp es → value_at cmp es k ≡ Some b → set_value (is_at (cmp k)) (with_value cmp k v es) b ≡ es
@@ -66,10 +57,3 @@ module _ {K X : Type 0} {cmp : K → K → Ordering} (o : IsTotalOrder cmp) wher
   restored k v None es with new h put is back =
       back ∙ ap (λ (es : List (K × X)). without_key cmp k es) put ∙ without_key-with_value o k k v es ((eq_by_cmp_equiv o).refl k) (no_entry cmp es k (ap (λ (x : Option X). is_some x) (sym is)))
   restored k v (Some b) es with new h put is back = back ∙ ap (λ (es : List (K × X)). set_value (is_at (cmp k)) es b) put ∙ written_back k v b es h (sym is)
-
-module _ {K V : Type 0} {cmp : K → K → Ordering} (o : IsTotalOrder cmp) where
-  -- what is saved at the key as it stands in the list
-  pub saved_at : (k j : K) (v : Option V) (m : View K V) → j ≡ key_in cmp m.live k → v ≡ value_at cmp m.live k → cond (has_key cmp m.saved j) m.saved (with_value cmp j v m.saved) ≡ saved_with cmp k m
-  saved_at k j v m is value =
-      (λ i. cond (has_key cmp m.saved (is i)) m.saved (with_value cmp (is i) (value i) m.saved))
-      ∙ ap (λ (x : Option (Option V)). cond (is_some x) m.saved (with_value cmp (key_in cmp m.live k) (value_at cmp m.live k) m.saved)) (value_at_tied o k (key_in cmp m.live k) m.saved (key_in-tied o m.live k))

@@ -7,17 +7,13 @@ use Rattle.std.specs.Ordering.{is_eq, eq_by_cmp, match_ordering, ordering_revers
 use Rattle.std.specs.Cmp.{IsTotalOrder}
 use Rattle.std.specs.List.{AllByRecursion}
 use Rattle.std.specs.List.Sorted.{IsStrictlySortedBy}
-use Rattle.std.specs.Map.{keys_of, lookup_entry, lookup_key}
+use Rattle.std.specs.Map.{keys_of, lookup_key}
 use Rattle.std.proofs.lemmas.Cmp.{eq_by_cmp_equiv, tied_itself}
 use Rattle.maps.proofs.Joined.{none_from, swapped}
 use Rattle.maps.proofs.Lookups.{without_key_absent}
 use Rattle.maps.proofs.Ties.{is_equal, tied, apart, all_above, all_tied}
 use Rattle.maps.specs.Maps.{IsMap, value_at, has_key, with_value, without_key}
-use Rattle.view_map.specs.View.{key_in}
-
--- the entry at k, its key as it stands in the list
-abbrev pub entry_at : {K X : Type 0} → (K → K → Ordering) → List (K × X) → K → Option (K × X)
-entry_at cmp es k = lookup_entry (is_at (cmp k)) es
+use Rattle.view_map.specs.View.{entry_at, key_in}
 
 -- a key below all others has no entry
 pub none_below : {K X : Type 0} (cmp : K → K → Ordering) (q : K) (es : List (K × X)) → AllByRecursion (λ x. cmp q x ≡ Less) (keys_of es) → entry_at cmp es q ≡ None
@@ -39,6 +35,12 @@ entry_is {K} {X} cmp (e ∷ es) k =
       | false ↦ entry_is cmp es k
     ]
 
+-- its key is the key as it stands there
+pub key_of-entry : {K X : Type 0} (cmp : K → K → Ordering) (es : List (K × X)) (q : K) → key_in cmp es q ≡ unwrap_or (option_map (λ (e : K × X). e.0) (entry_at cmp es q)) q
+key_of-entry cmp [] q = refl
+key_of-entry {K} {X} cmp (e ∷ es) q =
+    elim (eq_by_cmp cmp q e.0) as (λ b. unwrap_or (cond b (Some e.0) (lookup_key (is_at (cmp q)) es)) q ≡ unwrap_or (option_map (λ (e : K × X). e.0) (cond b (Some e) (entry_at cmp es q))) q) [ true ↦ refl | false ↦ key_of-entry cmp es q ]
+
 pub some_entry : {K X : Type 0} (cmp : K → K → Ordering) (es : List (K × X)) (k : K) → has_key cmp es k ≡ is_some (entry_at cmp es k)
 some_entry cmp [] k = refl
 some_entry {K} {X} cmp (e ∷ es) k = elim (eq_by_cmp cmp k e.0) as (λ b. is_some (cond b (Some e.1) (value_at cmp es k)) ≡ is_some (cond b (Some e) (entry_at cmp es k))) [ true ↦ refl | false ↦ some_entry cmp es k ]
@@ -49,6 +51,18 @@ no_entry cmp es k h = none_from (entry_at cmp es k) (sym (some_entry cmp es k) �
 -- a key that stands nowhere leaves nothing behind
 pub untouched : {K X : Type 0} (cmp : K → K → Ordering) (k : K) (es : List (K × X)) → has_key cmp es k ≡ false → without_key cmp k es ≡ es
 untouched cmp k es h = without_key_absent cmp k es (none_from (value_at cmp es k) h)
+
+-- a key that stands nowhere stands for itself
+key_in-absent : {K X : Type 0} (cmp : K → K → Ordering) (es : List (K × X)) (k : K) → entry_at cmp es k ≡ None → key_in cmp es k ≡ k
+key_in-absent cmp [] k m = refl
+key_in-absent {K} {X} cmp (e ∷ es) k m =
+    elim (eq_by_cmp cmp k e.0) as (λ b. cond b (Some e) (entry_at cmp es k) ≡ None → unwrap_or (cond b (Some e.0) (lookup_key (is_at (cmp k)) es)) k ≡ k) [ true ↦ λ m. cc | false ↦ λ m. key_in-absent cmp es k m ] m
+
+twice : {A : Type 0} (a b : Bool) (x y z : A) → a ≡ b → cond a x z ≡ cond b x (cond a y z)
+twice true true x y z e = refl
+twice true false x y z e = cc
+twice false true x y z e = cc
+twice false false x y z e = refl
 
 gone : {A : Type 0} (a b : Bool) (x y z : A) → b ≡ a → (a ≡ true → z ≡ x) → z ≡ cond a x (cond b y z)
 gone true true x y z e f = f refl
@@ -91,6 +105,26 @@ module _ {K X : Type 0} {cmp : K → K → Ordering} (o : IsTotalOrder cmp) wher
         | Less ↦ λ p. ap (λ b. cond b (Some (k, v)) (entry_at cmp (f ∷ es) q)) ((eq_by_cmp_equiv o).symm q k ∙ e)
         | Equal ↦ λ p. ap (λ b. cond b (Some (f.0, v)) (entry_at cmp es q)) (tied o k f.0 q (ap is_eq p) ∙ e) ∙ sym (ap (λ b. cond b (Some f) (entry_at cmp es q)) (tied o k f.0 q (ap is_eq p) ∙ e))
         | Greater ↦ λ p. ap (λ (r : Option (K × X)). cond (eq_by_cmp cmp q f.0) (Some f) r) (entry_at-with_value_other k v es q e)
+      ] refl
+
+  -- a key that is put, as it stands there
+  pub entry_at-with_value : (k : K) (v : X) (es : List (K × X)) (q : K) → IsMap cmp es
+      → entry_at cmp (with_value cmp k v es) q ≡ cond (eq_by_cmp cmp (key_in cmp es k) q) (Some (key_in cmp es k, v)) (entry_at cmp es q)
+  unfolding IsStrictlySortedBy
+  entry_at-with_value k v [] q h = ap (λ b. cond b (Some (k, v)) None) ((eq_by_cmp_equiv o).symm q k)
+  entry_at-with_value k v (e ∷ es) q h =
+      let place : Ordering → K = λ r. unwrap_or (cond (is_eq r) (Some e.0) (lookup_key (is_at (cmp k)) es)) k in
+      elim (cmp k e.0) as (λ r. cmp k e.0 ≡ r → entry_at cmp (match_ordering r ((k, v) ∷ e ∷ es) ((e.0, v) ∷ es) (e ∷ with_value cmp k v es)) q ≡ cond (eq_by_cmp cmp (place r) q) (Some (place r, v)) (entry_at cmp (e ∷ es) q)) [
+        | Less ↦ λ p.
+            let none : entry_at cmp es k ≡ None = none_below cmp k es (all_above o k e.0 (keys_of es) p h.0) in
+            let here : key_in cmp es k ≡ k = key_in-absent cmp es k none in
+            ap (λ b. cond b (Some (k, v)) (entry_at cmp (e ∷ es) q)) ((eq_by_cmp_equiv o).symm q k)
+            ∙ sym (ap (λ j. cond (eq_by_cmp cmp j q) (Some (j, v)) (entry_at cmp (e ∷ es) q)) here)
+        | Equal ↦ λ p. twice _ _ _ _ _ ((eq_by_cmp_equiv o).symm q e.0)
+        | Greater ↦ λ p.
+            let j = key_in cmp es k in
+            let other : eq_by_cmp cmp j e.0 ≡ false = sym ((eq_by_cmp_equiv o).congr k j e.0 (key_in-tied es k)) ∙ ap is_eq p in
+            ap (λ (r : Option (K × X)). cond (eq_by_cmp cmp q e.0) (Some e) r) (entry_at-with_value k v es q h.1) ∙ swapped _ _ _ _ _ (apart o j e.0 q other)
       ] refl
 
   pub entry_at-without_key : (k : K) (es : List (K × X)) (q : K) → IsMap cmp es → entry_at cmp (without_key cmp k es) q ≡ cond (eq_by_cmp cmp k q) None (entry_at cmp es q)

@@ -1,5 +1,6 @@
-pub mod Entries
 mod Changed
-mod Frozen
-mod Lengths
+pub mod Entries
+mod Kept
+mod Marks
+mod Merged
 mod Walk

@@ -1,38 +1,41 @@
--- A live list beside the first values of what has changed since the last freeze. (Own)
-use Rattle.std.specs.Prelude.{List, Option, Some, None, fold, if◌then◌else◌, unwrap_or}
+-- A live list beside the one that it was at the last freeze. (Own)
+use Rattle.std.specs.Prelude.{◌≡◌, List, Option, fold, unwrap_or}
 use Rattle.std.specs.declared.cmp.Ordering.{Ordering}
 use Rattle.std.specs.BTreeMap.{is_at}
-use Rattle.std.specs.Map.{lookup_key}
-use Rattle.maps.specs.Maps.{IsMap, value_at, has_key, with_value, without_key}
+use Rattle.std.specs.FinMap.{IsAntisymmetric}
+use Rattle.std.specs.Map.{lookup_entry, lookup_key}
+use Rattle.maps.specs.Maps.{IsMap, value_at}
+use Rattle.maps.specs.Replaced.{with_option}
 
--- the live entries; and the keys that have changed, each with its value at the freeze, none where it was absent then
+-- the live entries, and the frozen ones
 pub record View (K V : Type 0) : Type 0 where
   pub live : List (K × V)
-  pub saved : List (K × Option V)
+  pub frozen : List (K × V)
 
 module _ {K V : Type 0} (cmp : K → K → Ordering) where
   -- each key stands once in each list, in order
   pub record IsInOrder (m : View K V) : Type 0 where
     pub live : IsMap cmp m.live
-    pub saved : IsMap cmp m.saved
+    pub frozen : IsMap cmp m.frozen
 
-  -- a saved pair laid over a list: a value replaces or adds the entry of its key, an absence takes it away
-  abbrev pub laid_over : K → Option V → List (K × V) → List (K × V)
-  laid_over k None es = without_key cmp k es
-  laid_over k (Some v) es = with_value cmp k v (without_key cmp k es)
-
-  -- the list at the freeze: the live one with every saved pair laid over it
+  -- the list at the freeze
   abbrev pub frozen_of : View K V → List (K × V)
-  frozen_of m = fold (λ es p. laid_over p.0 p.1 es) m.live m.saved
+  frozen_of m = m.frozen
+
+  -- the entry at k, its key as it stands in the list
+  abbrev pub entry_at : List (K × V) → K → Option (K × V)
+  entry_at es k = lookup_entry (is_at (cmp k)) es
 
   -- the key as it stands in the list, and k where it stands nowhere
   abbrev pub key_in : List (K × V) → K → K
   key_in es k = unwrap_or (lookup_key (is_at (cmp k)) es) k
 
-  -- what is saved once k changes: from its first change on, what was live there before it
-  abbrev pub saved_with : K → View K V → List (K × Option V)
-  saved_with k m = if has_key cmp m.saved k then m.saved else with_value cmp (key_in m.live k) (value_at cmp m.live k) m.saved
+  -- the list with each of these noted in turn, a value in place of what was at its key, or nothing
+  abbrev pub with_noted : List (K × Option V) → List (K × V) → List (K × V)
+  with_noted notes es = fold (λ es p. with_option cmp p.0 p.1 es) es notes
 
-  -- the same once k goes: nothing more where there is no entry to go
-  abbrev pub saved_without : K → View K V → List (K × Option V)
-  saved_without k m = if has_key cmp m.live k then saved_with k m else m.saved
+-- a live map with what differs noted is the other map: a noted key has its value in the other one, and a key that is not noted has the same value in both
+abbrev pub NotedAreFrozen : {K : Type 0} (V : Type 0) (cmp : K → K → Ordering) → Type 0
+NotedAreFrozen {K} V cmp =
+    IsAntisymmetric cmp → (live other : List (K × V)) (notes : List (K × Option V)) → IsMap cmp live → IsMap cmp notes → IsMap cmp other →
+    ((k : K) → value_at cmp other k ≡ unwrap_or (value_at cmp notes k) (value_at cmp live k)) → with_noted cmp notes live ≡ other

@@ -1,10 +1,11 @@
 ghost use Rattle.std.specs.Prelude.{◌≡◌, length};
 ghost use Rattle.std.specs.Iterator.{at_most};
 ghost use Rattle.std.specs.Map.Iter.{TakesFirst, deref_pair};
+ghost use Rattle.view_map.specs.Marks.{unchanged_in};
 ghost use Rattle.view_map.specs.Walk.{merged};
 
 use crate::peeked::Peeked;
-use listed::Boxed;
+use crate::unchanged::Unchanged;
 use std::collections::btree_map::Range;
 use std::marker::Model;
 
@@ -12,8 +13,8 @@ use std::marker::Model;
 /// order of keys. (Own)
 #[derive(Drop)]
 pub struct FrozenIter<'a, K: Ord, V> {
-    live: Peeked<'a, K, V>,
-    saved: Peeked<'a, K, Option<Boxed<V>>>,
+    live: Unchanged<'a, K, V>,
+    kept: Peeked<'a, K, V>,
 }
 
 impl<'a, K: Ord, V> Model for FrozenIter<'a, K, V> {
@@ -22,20 +23,21 @@ impl<'a, K: Ord, V> Model for FrozenIter<'a, K, V> {
 
     ghost Value = { List (K × V) };
 
-    ghost view = { λ a. merged K.cmp a.saved a.live };
+    ghost view = { λ a. merged K.cmp a.kept a.live };
 }
 
 impl<'a, K: Ord, V> FrozenIter<'a, K, V> {
-    // A walk over a range of the live list and the same range of the saved one.
+    // A walk over a range of the marked entries and the same range of what is kept.
     pub(crate) fn new(
-        live: Range<'a, K, V>,
-        saved: Range<'a, K, Option<Boxed<V>>>,
+        mark: u64,
+        live: Range<'a, K, (V, u64)>,
+        kept: Range<'a, K, V>,
     ) -> FrozenIter<'a, K, V>
-        ensures { result ≡ merged K.cmp saved.entry live.entry }
+        ensures { result ≡ merged K.cmp kept.entry (unchanged_in mark live.entry) }
     {
         FrozenIter {
-            live: Peeked::new(live),
-            saved: Peeked::new(saved),
+            live: Unchanged::new(mark, live),
+            kept: Peeked::new(kept),
         }
     }
 
@@ -44,26 +46,13 @@ impl<'a, K: Ord, V> FrozenIter<'a, K, V> {
     pub fn next_entry(&mut self) -> Option<(&'a K, &'a V)>
         ensures { TakesFirst deref_pair self.old result self.new }
     {
-        match self.saved.peek() {
-            Some(_) => self.next_merged(),
-            None => self.live.next(),
+        let Some((key, _)) = self.kept.peek() else {
+            return self.live.next();
+        };
+        match self.live.next_before(key) {
+            Some(entry) => Some(entry),
+            None => self.kept.next(),
         }
-    }
-
-    // The same, beside what is saved.
-    fn next_merged(&mut self) -> Option<(&'a K, &'a V)>
-        ensures { TakesFirst deref_pair self.old result self.new }
-    {
-        while let Some((key, first)) = self.saved.peek() {
-            if let Some(entry) = self.live.next_before(key) {
-                return Some(entry);
-            }
-            self.saved.next();
-            if let Some(v) = first {
-                return Some((key, v.get()));
-            }
-        }
-        self.live.next()
     }
 }
 

@@ -1,8 +1,6 @@
-ghost use Rattle.std.specs.Prelude.{◌≡◌, drop, option_map};
+ghost use Rattle.std.specs.Prelude.{◌≡◌, drop};
 ghost use Rattle.std.specs.Map.Iter.{TakesFirst, deref_pair};
-ghost use Rattle.view_map.specs.Walk.{taken_before};
 
-use std::cmp::Ordering;
 use std::collections::btree_map::Range;
 use std::marker::Model;
 
@@ -49,22 +47,5 @@ impl<'a, K, V> Peeked<'a, K, V> {
         let first = self.first;
         self.first = self.rest.next();
         first
-    }
-}
-
-impl<'a, K: Ord, V> Peeked<'a, K, V> {
-    // Takes the first entry, where it comes before a key. It passes over one at the key.
-    pub(crate) fn next_before(&mut self, key: &K) -> Option<(&'a K, &'a V)>
-        ensures { (option_map deref_pair result, self.new) ≡ taken_before K.cmp key.now self.old }
-    {
-        let (k, _) = self.peek()?;
-        match k.cmp(key) {
-            Ordering::Less => self.next(),
-            Ordering::Equal => {
-                self.next();
-                None
-            }
-            Ordering::Greater => None,
-        }
     }
 }

@@ -1,30 +1,41 @@
-use Rattle.std.proofs.Common.{◌≡◌, List, Option, Some, unwrap_or, ap, sym, subst, ◌∙◌}
+use Rattle.std.proofs.Common.{◌≡◌, ℕ, List, Option, Some, option_map, unwrap_or, ap, sym, ◌∙◌}
+use Rattle.std.specs.BTreeMap.{is_at}
+use Rattle.std.proofs.lemmas.Map.Made.{lookup-map_values}
 use Rattle.maps.proofs.Lookups.{without_key_absent}
-use Rattle.maps.specs.Maps.{IsMap, without_key}
-use Rattle.view_map.specs.View.{View, frozen_of}
-use Rattle.view_map.proofs.Changed.{saved_at}
-use Rattle.view_map.proofs.Frozen.{IsMap-saved_with, frozen_without}
+use Rattle.maps.specs.Maps.{value_at, without_key}
+use Rattle.view_map.specs.Marks.{Marks}
+use Rattle.view_map.specs.View.{View, key_in}
+use Rattle.view_map.proofs.Kept.{gone-changed}
 use Rattle.view_map.proofs.ViewMap.remove.Goals as goal
 
-pub returns-in_default-clause-live : goal.returns-in_default-clause-live
-returns-in_default-clause-live g c =
-    ap (λ (m : View g.row.K.Denot g.row.V.Denot). m.live) (sym c.self.view_is)
-    ∙ sym (without_key_absent g.K.Ord.cmp c.args.k.now c.self.inside.live.entries (sym c.in_default.ensures.value))
-    ∙ ap (λ (m : View g.row.K.Denot g.row.V.Denot). without_key g.K.Ord.cmp c.args.k.now m.live) c.self.view_is
+pub returns-in_default-clause-value : goal.returns-in_default-clause-value
+returns-in_default-clause-value g c =
+    ap (λ (x : Option (g.row.V.Denot × ℕ)). option_map (λ (w : g.row.V.Denot × ℕ). w.0) x) c.in_default.ensures.value
+    ∙ sym (lookup-map_values (λ (w : g.row.V.Denot × ℕ). w.0) (is_at (g.K.Ord.cmp c.args.k.now)) c.self.inside.live.entries)
+    ∙ ap (λ (v : View g.row.K.Denot g.row.V.Denot). value_at g.K.Ord.cmp v.live c.args.k.now) c.self.view_is
+
+pub returns-in_default-clause-ok : goal.returns-in_default-clause-ok
+returns-in_default-clause-ok g c =
+    let now : View g.row.K.Denot g.row.V.Denot = c.args.self.now in
+    ap (λ (es : List (g.row.K.Denot × g.row.V.Denot)). record now { live = es }) (sym (without_key_absent g.K.Ord.cmp c.args.k.now now.live (sym (returns-in_default-clause-value g c))))
 
 pub invariant_of-self-2 : goal.invariant_of-self-2
 invariant_of-self-2 g c =
-    let m : View g.row.K.Denot g.row.V.Denot = record { live = c.self.inside.live.entries; saved = c.self.inside.saved.entries } in
-    let key : c.in-Some.key.now ≡ _ = ap (λ (x : Option g.row.K.Denot). unwrap_or x c.args.k.now) c.in-Some.ensures.key in
-    let saved = c.in_ok-save.ensures.ok ∙ saved_at g.met.K.Ord.total c.args.k.now c.in-Some.key.now (Some c.in-Some.v.now) m key c.in-Some.ensures.value in
-    record {
-      live = c.remove.ensures.ordered;
-      saved = subst (λ (es : List (g.row.K.Denot × Option g.row.V.Denot)). IsMap g.K.Ord.cmp es) (sym saved) (IsMap-saved_with g.met.K.Ord.total c.args.k.now m c.self.invariant);
-    }
+    let m : Marks g.row.K.Denot g.row.V.Denot = record { live = c.self.inside.live.entries; kept = c.self.inside.kept.entries; mark = c.self.inside.mark; frozen_len = c.self.inside.frozen_len } in
+    let key : c.in-Some.key.now ≡ key_in g.K.Ord.cmp m.live c.args.k.now = ap (λ (x : Option g.row.K.Denot). unwrap_or x c.args.k.now) c.in-Some.ensures.key in
+    (gone-changed g.met.K.Ord.total c.args.k.now c.in-Some.key.now (Some c.in-Some.entry.now) m c.self.invariant c.remove.new.self.entries c.keep.new.kept.entries
+    c.remove.ensures.entries key c.in-Some.ensures.value c.in_ok-keep.ensures.ok).1
 
-pub returns-clause-frozen : goal.returns-clause-frozen
-returns-clause-frozen g c =
-    let m : View g.row.K.Denot g.row.V.Denot = record { live = c.self.inside.live.entries; saved = c.self.inside.saved.entries } in
-    let key : c.in-Some.key.now ≡ _ = ap (λ (x : Option g.row.K.Denot). unwrap_or x c.args.k.now) c.in-Some.ensures.key in
-    let saved = c.in_ok-save.ensures.ok ∙ saved_at g.met.K.Ord.total c.args.k.now c.in-Some.key.now (Some c.in-Some.v.now) m key c.in-Some.ensures.value in
-    frozen_without g.met.K.Ord.total c.args.k.now m _ _ c.self.invariant c.remove.ensures.entries saved ∙ ap (λ (m : View g.row.K.Denot g.row.V.Denot). frozen_of g.K.Ord.cmp m) c.self.view_is
+pub returns-clause-value : goal.returns-clause-value
+returns-clause-value g c =
+    ap (λ (x : Option (g.row.V.Denot × ℕ)). option_map (λ (w : g.row.V.Denot × ℕ). w.0) x) c.in-Some.ensures.value
+    ∙ sym (lookup-map_values (λ (w : g.row.V.Denot × ℕ). w.0) (is_at (g.K.Ord.cmp c.args.k.now)) c.self.inside.live.entries)
+    ∙ ap (λ (v : View g.row.K.Denot g.row.V.Denot). value_at g.K.Ord.cmp v.live c.args.k.now) c.self.view_is
+
+pub returns-clause-ok : goal.returns-clause-ok
+returns-clause-ok g c =
+    let m : Marks g.row.K.Denot g.row.V.Denot = record { live = c.self.inside.live.entries; kept = c.self.inside.kept.entries; mark = c.self.inside.mark; frozen_len = c.self.inside.frozen_len } in
+    let key : c.in-Some.key.now ≡ key_in g.K.Ord.cmp m.live c.args.k.now = ap (λ (x : Option g.row.K.Denot). unwrap_or x c.args.k.now) c.in-Some.ensures.key in
+    (gone-changed g.met.K.Ord.total c.args.k.now c.in-Some.key.now (Some c.in-Some.entry.now) m c.self.invariant c.remove.new.self.entries c.keep.new.kept.entries
+    c.remove.ensures.entries key c.in-Some.ensures.value c.in_ok-keep.ensures.ok).0
+    ∙ ap (λ (v : View g.row.K.Denot g.row.V.Denot). record v { live = without_key g.K.Ord.cmp c.args.k.now v.live }) c.self.view_is
