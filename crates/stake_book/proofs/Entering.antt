@@ -1,5 +1,5 @@
 -- What an entry that is put does to the sums over the entries.
-use Rattle.std.proofs.Common.{◌≡◌, ℕ, ◌+◌, ◌-◌, ◌==◌, ◌≤◌, List, [], ◌∷◌, Bool, true, false, cond, is_none, is_some, ◌⊎◌, inl, inr, Option, Some, None, refl, ap, sym, ◌∙◌, arith}
+use Rattle.std.proofs.Common.{◌≡◌, ℕ, ◌+◌, ◌-◌, ◌==◌, ◌≤◌, List, [], ◌∷◌, Bool, true, false, cond, is_none, is_some, ◌⊎◌, inl, inr, Option, Some, None, refl, ap, sym, arith}
 use Rattle.std.specs.BTreeMap.{is_at}
 use Rattle.std.specs.Map.{values_of}
 use Rattle.std.specs.Option.{option_and_then}
@@ -8,9 +8,9 @@ use Rattle.std.proofs.lemmas.List.Sums.{sum_by-cons}
 use Rattle.std.proofs.lemmas.Map.Entries.{sum_by-insert_entry, sum_by-remove_entry}
 use Rattle.gov_ids.specs.declared.Credential.{Credential}
 use Rattle.gov_ids.specs.declared.PoolId.{PoolId}
-use Rattle.gov_ids.specs.Orders.{credential_cmp}
+use Rattle.gov_ids.specs.Orders.{credential_cmp, pool_cmp}
 use Rattle.gov_ids.specs.Same.{same_pool}
-use Rattle.gov_ids.proofs.Totals.{credential_total}
+use Rattle.gov_ids.proofs.Totals.{credential_total, pool_total}
 use Rattle.book_records.specs.declared.Entry.{Entry}
 use Rattle.book_records.specs.declared.Registered.{Registered}
 use Rattle.tx_records.specs.declared.limits.TheConstants.{SUPPLY_LIMIT}
@@ -20,7 +20,7 @@ use Rattle.maps.specs.Words.{amount, holds}
 use Rattle.accounts.specs.Accounts.{is_nothing, with_entry}
 use Rattle.stake_book.specs.Stakes.{whole_entry}
 use Rattle.stake_book.specs.Sums.{AreSummed, IsRaised, balance_of, pool_of, weight_of, share_of, shared_by, weight_in, stake_in}
-use Rattle.stake_book.proofs.Pools.{itself}
+use Rattle.stake_book.proofs.Raised.{amount_there}
 
 abbrev pub nothing : Entry
 nothing = record { stake = 0; registered = None }
@@ -79,7 +79,7 @@ pub balances_within : (entries : List (Credential × Entry)) → sum_values bala
 balances_within entries = sum_within balance_of weight_of (λ e. omega arith) entries
 
 share_there : (e : Entry) (p : PoolId) → pool_of e ≡ Some p → share_of p e ≡ weight_of e
-share_there e p is = ap (λ (o : Option PoolId). cond (holds same_pool o p) (weight_of e) 0) is ∙ ap (λ b. cond b (weight_of e) 0) (itself p)
+share_there e p is = amount_there pool_total p (weight_of e) (pool_of e) is
 
 -- what stays is added and taken on neither side
 stays : (b c : Bool) (m n left : ℕ) → left ≤ m → left ≤ n → (left ≡ 0) ⊎ (b ≡ c) → cond c (n - left) 0 + cond b m 0 ≡ cond b (m - left) 0 + cond c n 0
@@ -102,7 +102,7 @@ counted (Some p) n = refl
 module _ (held : ℕ) (pools up : List (PoolId × ℕ)) (c : Credential) (entries : List (Credential × Entry)) (s : AreSummed held pools entries) where
   -- with one entry in place of another, once its share was added and then that of the other taken, but for what stays with the pool
   pub entered_summed : (e : Entry) (down : List (PoolId × ℕ)) (left : ℕ) → left ≤ weight_of (whole_entry entries c) → left ≤ weight_of e → (left ≡ 0) ⊎ (pool_of (whole_entry entries c) ≡ pool_of e)
-      → IsRaised (pool_of e) (weight_of e - left) pools up → IsRaised (pool_of (whole_entry entries c)) (weight_of (whole_entry entries c) - left) down up
+      → IsRaised pool_cmp (pool_of e) (weight_of e - left) pools up → IsRaised pool_cmp (pool_of (whole_entry entries c)) (weight_of (whole_entry entries c) - left) down up
       → weight_in (with_entry c e entries) ≤ SUPPLY_LIMIT → AreSummed (held - balance_of (whole_entry entries c) + balance_of e) down (with_entry c e entries)
   entered_summed e down left m n same r l w = record {
     in_order = IsMap-with_entry c e entries s.in_order;
@@ -131,6 +131,16 @@ module _ (held : ℕ) (pools up : List (PoolId × ℕ)) (c : Credential) (entrie
     );
   }
 
+  -- an amount that was added and taken again leaves the sums
+  pub undone : (pool : Option PoolId) (n : ℕ) (down : List (PoolId × ℕ)) → IsRaised pool_cmp pool n pools up → IsRaised pool_cmp pool n down up → AreSummed held down entries
+  undone pool n down r l = record {
+    in_order = s.in_order;
+    within = s.within;
+    balances = s.balances;
+    pools = λ p. omega (arith, s.pools p, r.each p, l.each p);
+    total = omega (arith, s.total, r.total, l.total);
+  }
+
   -- the share of the entry that was there can be taken
-  pub before_enough : (pool : Option PoolId) (n : ℕ) (p : PoolId) → IsRaised pool n pools up → pool_of (whole_entry entries c) ≡ Some p → weight_of (whole_entry entries c) ≤ stake_in up p
+  pub before_enough : (pool : Option PoolId) (n : ℕ) (p : PoolId) → IsRaised pool_cmp pool n pools up → pool_of (whole_entry entries c) ≡ Some p → weight_of (whole_entry entries c) ≤ stake_in up p
   before_enough pool n p r is = omega (arith, r.each p, s.pools p, before_within (share_of p) refl c entries, share_there (whole_entry entries c) p is)

@@ -1,10 +1,11 @@
 mod Clearing
+mod Counting
 mod Entering
 mod Kept
-pub mod Ended
 mod Moves
 mod Paying
-mod Pools
+mod Raised
 mod Registrations
 mod Sums
 mod Weights
+pub mod Ended

@@ -1,3 +1,4 @@
+pub mod Delegators
 pub mod Ended
 pub mod Paid
 pub mod Stakes

@@ -120,7 +120,7 @@ with_used ids s = record s { outputs = record s.outputs { used = ids } }
 
 -- the book with no output, no used id and no account
 abbrev pub no_stakes : Stakes
-no_stakes = record { outputs = record { outputs = []; used = [] }; accounts = record { live = []; saved = [] } }
+no_stakes = record { outputs = record { outputs = []; used = [] }; accounts = record { live = []; frozen = [] } }
 
 -- ---- what a clearing leaves
 

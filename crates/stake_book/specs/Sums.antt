@@ -1,6 +1,8 @@
 -- The running numbers over the live entries: the balances, and the stake of each pool. (Own)
 use Rattle.std.specs.Prelude.{ℕ, ◌≡◌, ◌+◌, ◌≤◌, List, Option, unwrap_or, if◌then◌else◌}
+use Rattle.std.specs.declared.cmp.Ordering.{Ordering}
 use Rattle.std.specs.Option.{option_and_then}
+use Rattle.std.specs.Ordering.{eq_by_cmp}
 use Rattle.gov_ids.specs.declared.Credential.{Credential}
 use Rattle.gov_ids.specs.declared.PoolId.{PoolId}
 use Rattle.gov_ids.specs.Orders.{credential_cmp, pool_cmp}
@@ -36,14 +38,22 @@ shared_by e = amount (λ _. weight_of e) (pool_of e)
 abbrev pub weight_in : List (Credential × Entry) → ℕ
 weight_in entries = sum_values weight_of entries
 
+-- the amount at a key
+abbrev pub amount_at : {K : Type 0} → (K → K → Ordering) → List (K × ℕ) → K → ℕ
+amount_at cmp amounts k = unwrap_or (value_at cmp amounts k) 0
+
 -- the amount at a pool
 abbrev pub stake_in : List (PoolId × ℕ) → PoolId → ℕ
-stake_in pools p = unwrap_or (value_at pool_cmp pools p) 0
+stake_in pools p = amount_at pool_cmp pools p
 
--- with an amount more at the pool, if there is one, and all else as it was
-pub record IsRaised (pool : Option PoolId) (gained : ℕ) (before after : List (PoolId × ℕ)) : Type 0 where
-  pub each : (p : PoolId) → stake_in after p ≡ stake_in before p + (if holds same_pool pool p then gained else 0)
-  pub total : total_of after ≡ total_of before + amount (λ _. gained) pool
+-- an amount for the key that is named, 0 for any other
+abbrev pub amount_for : {K : Type 0} → (K → K → Ordering) → ℕ → Option K → K → ℕ
+amount_for cmp n named k = if holds (eq_by_cmp cmp) named k then n else 0
+
+-- with an amount more at the key, if there is one, and all else as it was
+pub record IsRaised {K : Type 0} (cmp : K → K → Ordering) (key : Option K) (gained : ℕ) (before after : List (K × ℕ)) : Type 0 where
+  pub each : (k : K) → amount_at cmp after k ≡ amount_at cmp before k + amount_for cmp gained key k
+  pub total : total_of after ≡ total_of before + amount (λ _. gained) key
 
 -- the numbers are those of the entries, which stand in order
 pub record AreSummed (held : ℕ) (staked : List (PoolId × ℕ)) (entries : List (Credential × Entry)) : Type 0 where

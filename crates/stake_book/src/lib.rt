@@ -15,6 +15,9 @@ ghost use Rattle.stake_book.specs.Stakes.{without_pools, without_dreps};
 ghost use Rattle.stake_book.specs.Sums.{weight_in};
 ghost use Rattle.stake_book.specs.Ended.{entry_without, entries_without, accounts_without, ended_at};
 
+mod amounts;
+mod counted;
+mod delegators;
 mod leaving;
 mod pay;
 mod summed;
@@ -235,7 +238,7 @@ impl StakeBook {
         Ok(())
     }
 
-    /// Ends the delegations to each of some pools; all else stays. It walks the accounts once, and not at all for no pool. It takes memory for the accounts that delegate to them alone. Want of memory leaves a book with some of them ended: the caller drops it. (POOLREAP of the formal specification)
+    /// Ends the delegations to each of some pools; all else stays. It walks the accounts once, and not at all where none delegates to them. It takes memory for these pools and the accounts that delegate to them alone. Want of memory leaves a book with some of them ended: the caller drops it. (POOLREAP of the formal specification)
     pub fn clear_pools(&mut self, pools: &[PoolId]) -> Result<(), NoMemory>
         ensures outputs { OnOk result (self.new.outputs ≡ self.old.outputs) }
         ensures registered { OnOk result (accounts_of self.new ≡ without_pools pools.now (accounts_of self.old)) }
@@ -260,7 +263,7 @@ impl StakeBook {
         self.clear_pools(&[*p])
     }
 
-    /// Ends the delegations to each of some DReps; all else stays. It walks the accounts once, and not at all for no DRep. It takes memory for the accounts that delegate to them alone. Want of memory leaves a book with some of them ended: the caller drops it. (GOVCERT of the formal specification; that they end at once is own)
+    /// Ends the delegations to each of some DReps; all else stays. It walks the accounts once, and not at all where none delegates to them. It takes memory for these DReps and the accounts that delegate to them alone. Want of memory leaves a book with some of them ended: the caller drops it. (GOVCERT of the formal specification; that they end at once is own)
     pub fn clear_dreps(&mut self, dreps: &[Credential]) -> Result<(), NoMemory>
         ensures outputs { OnOk result (self.new.outputs ≡ self.old.outputs) }
         ensures registered { OnOk result (accounts_of self.new ≡ without_dreps dreps.now (accounts_of self.old)) }
@@ -343,10 +346,22 @@ impl StakeBook {
         self.outputs.unmark(id);
     }
 
+    /// Sets the entry of a credential at the last freeze, none for an absence. The live entry stays; want of memory changes
+    /// nothing. (Own)
+    pub fn note_first(&mut self, c: Credential, first: Option<Entry>) -> Result<(), NoMemory>
+        ensures kept { AreKept self.old }
+        ensures ok { OnOk result (self.new ≡ record self.old {
+          accounts = record self.old.accounts { frozen = with_option credential_cmp c first self.old.accounts.frozen };
+        }) }
+        ensures err { OnErr result (self.new ≡ self.old) }
+    {
+        self.accounts.note_first(c, first)
+    }
+
     /// Makes the live entries the frozen ones. It takes no memory and copies no entry. (SNAP of the formal specification; how it is kept is own)
     pub fn freeze(&mut self)
         ensures kept { AreKept self.old }
-        ensures fields { self.new ≡ record self.old { accounts = record self.old.accounts { saved = [] } } }
+        ensures fields { self.new ≡ record self.old { accounts = record self.old.accounts { frozen = self.old.accounts.live } } }
         ensures registered { accounts_of self.new ≡ accounts_of self.old }
         ensures frozen { frozen_of credential_cmp self.new.accounts ≡ self.old.accounts.live }
     {

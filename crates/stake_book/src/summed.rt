@@ -1,15 +1,16 @@
-ghost use Rattle.std.specs.Prelude.{◌≡◌, ◌+◌, ◌-◌, ◌≤◌, ◌^◌, ◌<◌, ◌⊎◌, [], Some, IfOk, OnOk, OnErr};
-ghost use Rattle.gov_ids.specs.declared.PoolId.{PoolId};
+ghost use Rattle.std.specs.Prelude.{◌≡◌, ◌≤◌, ◌⊎◌, [], IfOk, OnOk, OnErr};
 ghost use Rattle.gov_ids.specs.Orders.{credential_cmp};
 ghost use Rattle.tx_records.specs.declared.limits.TheConstants.{SUPPLY_LIMIT};
-ghost use Rattle.coin_frac.specs.Totals.{total_of};
 ghost use Rattle.maps.specs.Maps.{IsMap, sum_values};
+ghost use Rattle.maps.specs.Replaced.{with_option};
 ghost use Rattle.view_map.specs.View.{frozen_of};
 ghost use Rattle.accounts.specs.Accounts.{with_entry, entered};
 ghost use Rattle.stake_book.specs.Ended.{delegating};
 ghost use Rattle.stake_book.specs.Stakes.{whole_entry};
-ghost use Rattle.stake_book.specs.Sums.{IsRaised, balance_of, pool_of, weight_of, share_of, weight_in, stake_in};
+ghost use Rattle.stake_book.specs.Sums.{balance_of, weight_of, share_of, weight_in};
 
+use crate::amounts::{lower, raise};
+use crate::counted::{CountedAccounts, pool};
 use crate::leaving::Leaving;
 use accounts::AccountBook;
 use book_records::{Entry, Registered};
@@ -22,7 +23,7 @@ use std::marker::Model;
 /// The accounts, with the sums over them. Contracts see it as the accounts. (Own)
 #[derive(Drop)]
 pub struct SummedAccounts {
-    accounts: AccountBook,
+    accounts: CountedAccounts,
     balances: u64,
     pools: BTreeMap<PoolId, u64>,
 }
@@ -45,55 +46,6 @@ fn balance(e: &Entry) -> u64
     e.registered.map_or(0, |r| r.rewards)
 }
 
-// The pool that an entry delegates to.
-fn pool(e: &Entry) -> Option<PoolId>
-    ensures { result ≡ pool_of e.now }
-{
-    e.registered?.pool
-}
-
-// Adds to the stake of a pool, in one search; nothing changes where there is no pool, and nothing is looked up for an amount of 0.
-fn raise_pool(
-    pools: &mut BTreeMap<PoolId, u64>,
-    pool: Option<PoolId>,
-    gained: u64,
-) -> Result<(), NoMemory>
-    requires fits { total_of pools.old.entries + gained < 2 ^ 64 }
-    ensures ok { OnOk result (IsRaised pool gained pools.old.entries pools.new.entries) }
-    ensures err { OnErr result (pools.new.entries ≡ pools.old.entries) }
-{
-    if gained == 0 {
-        return Ok(());
-    }
-    let Some(p) = pool else {
-        return Ok(());
-    };
-    let stake = pools.entry(p)?.or_insert(0);
-    *stake += gained;
-    Ok(())
-}
-
-// Takes from the stake of a pool, which goes with its last stake; nothing changes where there is no pool, and nothing is looked up for an amount of 0. It takes no memory.
-fn lower_pool(pools: &mut BTreeMap<PoolId, u64>, pool: Option<PoolId>, lost: u64)
-    requires enough { (p : PoolId) → pool ≡ Some p → lost ≤ stake_in pools.old.entries p }
-    ensures { IsRaised pool lost pools.new.entries pools.old.entries }
-{
-    if lost == 0 {
-        return;
-    }
-    let Some(p) = pool else {
-        return;
-    };
-    let Some(stake) = pools.get_mut(&p) else {
-        return;
-    };
-    let left = *stake - lost;
-    *stake = left;
-    if left == 0 {
-        pools.remove(&p);
-    }
-}
-
 // How much of what an entry gave to a pool stays there with the one in its place; 0 where the pool changes.
 fn left_there(from: Option<PoolId>, lost: u64, to: Option<PoolId>, gained: u64) -> u64
     ensures of_lost { result ≤ lost }
@@ -106,10 +58,10 @@ fn left_there(from: Option<PoolId>, lost: u64, to: Option<PoolId>, gained: u64) 
 impl SummedAccounts {
     /// No accounts. (Own)
     pub fn new(alloc: Global) -> SummedAccounts
-        ensures { result ≡ record { live = []; saved = [] } }
+        ensures { result ≡ record { live = []; frozen = [] } }
     {
         SummedAccounts {
-            accounts: AccountBook::new(alloc),
+            accounts: CountedAccounts::new(alloc),
             balances: 0,
             pools: BTreeMap::new(alloc),
         }
@@ -119,7 +71,7 @@ impl SummedAccounts {
     pub fn book(&self) -> &AccountBook
         ensures { result.now ≡ self.now }
     {
-        &self.accounts
+        self.accounts.book()
     }
 
     /// The entry of a credential; no stake and no registration where there is none. (Own)
@@ -128,24 +80,18 @@ impl SummedAccounts {
         ensures in_order { IsMap credential_cmp self.now.live }
         ensures within { weight_in self.now.live ≤ SUPPLY_LIMIT }
     {
-        self.accounts.get(c).unwrap_or(Entry {
+        self.accounts.book().get(c).unwrap_or(Entry {
             stake: 0,
             registered: None,
         })
     }
 
-    /// The credentials of the entries that delegate to what leaves, in order, in one walk. (Own)
+    /// The credentials of the entries that delegate to what leaves, in order, in one walk; without a walk where none does. (Own)
     pub fn delegating(&self, alloc: Global, leaving: &Leaving) -> Result<Vec<Credential>, NoMemory>
         ensures value { IfOk result (λ cs. cs.items ≡ delegating leaving.now self.now.live) }
         ensures in_order { IsMap credential_cmp self.now.live }
     {
-        let mut delegating = Vec::new(alloc);
-        for (c, entry) in self.accounts.iter() {
-            if leaving.change(entry.registered).is_some() {
-                delegating.push(*c)?;
-            }
-        }
-        Ok(delegating)
+        self.accounts.delegating(alloc, leaving)
     }
 
     /// The balances, added up, in lovelace. (Own)
@@ -181,19 +127,29 @@ impl SummedAccounts {
         let left = left_there(from, lost, to, gained);
         let more = gained - left;
         let less = lost - left;
-        raise_pool(&mut self.pools, to, more)?;
-        if let Err(error) = self.accounts.put(c, e) {
-            lower_pool(&mut self.pools, to, more);
+        raise(&mut self.pools, to, more)?;
+        if let Err(error) = self.accounts.put(c, before, e) {
+            lower(&mut self.pools, to, more);
             return Err(error);
         }
-        lower_pool(&mut self.pools, from, less);
+        lower(&mut self.pools, from, less);
         self.balances = held - ended + begun;
         Ok(())
     }
 
+    /// Sets the entry of a credential at the last freeze, none for an absence. The live entry stays; want of memory changes
+    /// nothing. (Own)
+    pub fn note_first(&mut self, c: Credential, first: Option<Entry>) -> Result<(), NoMemory>
+        ensures ok { OnOk result (self.new ≡
+            record self.old { frozen = with_option credential_cmp c first self.old.frozen }) }
+        ensures err { OnErr result (self.new ≡ self.old) }
+    {
+        self.accounts.note_first(c, first)
+    }
+
     /// Makes the live entries the frozen ones. It takes no memory and copies no entry. (Own)
     pub fn freeze(&mut self)
-        ensures fields { self.new ≡ record self.old { saved = [] } }
+        ensures fields { self.new ≡ record self.old { frozen = self.old.live } }
         ensures frozen { frozen_of credential_cmp self.new ≡ self.old.live }
     {
         self.accounts.freeze();

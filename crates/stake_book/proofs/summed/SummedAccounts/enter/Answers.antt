@@ -1,12 +1,14 @@
 use Rattle.std.proofs.Common.{◌≡◌, ℕ, List, ◌+◌, ◌-◌, ◌⊎◌, Option, refl, arith, ap, sym, subst, ◌∙◌}
 use Rattle.gov_ids.specs.declared.Credential.{Credential}
 use Rattle.gov_ids.specs.declared.PoolId.{PoolId}
+use Rattle.gov_ids.specs.Orders.{pool_cmp}
+use Rattle.gov_ids.proofs.Totals.{pool_total}
 use Rattle.book_records.specs.declared.Entry.{Entry}
 use Rattle.accounts.specs.Accounts.{Accounts, with_entry}
 use Rattle.stake_book.specs.Stakes.{whole_entry}
 use Rattle.stake_book.specs.Sums.{AreSummed, IsRaised, balance_of, pool_of, weight_of}
-use Rattle.stake_book.proofs.Entering.{shared_within, before_within, after_within, balances_within, entered_sum, entered_summed, before_enough}
-use Rattle.stake_book.proofs.Pools.{raised_enough, same_raised}
+use Rattle.stake_book.proofs.Entering.{shared_within, before_within, after_within, balances_within, entered_sum, entered_summed, undone, before_enough}
+use Rattle.stake_book.proofs.Raised.{raised_enough, same_raised}
 use Rattle.stake_book.proofs.summed.SummedAccounts.enter.Goals as goal
 
 pub overflow_add-lost : goal.overflow_add-lost
@@ -19,8 +21,8 @@ overflow_add-gained c =
     let s : AreSummed c.self.inside.balances c.self.inside.pools.entries c.args.self.now.live = subst (λ (a : Accounts). AreSummed c.self.inside.balances c.self.inside.pools.entries a.live) c.self.view_is c.self.invariant in
     omega (arith, c.balance-begun.ensures, c.requires.within, after_within weight_of refl c.args.c c.args.self.now.live c.args.e s.in_order)
 
-pub raise_pool-requires : goal.raise_pool-requires
-raise_pool-requires c =
+pub raise-requires : goal.raise-requires
+raise-requires c =
     let s : AreSummed c.self.inside.balances c.self.inside.pools.entries c.args.self.now.live = subst (λ (a : Accounts). AreSummed c.self.inside.balances c.self.inside.pools.entries a.live) c.self.view_is c.self.invariant in
     record {
       fits = omega (
@@ -34,13 +36,21 @@ raise_pool-requires c =
       );
     }
 
-pub lower_pool-requires : goal.lower_pool-requires
-lower_pool-requires c = record {
-  enough = λ p is. raised_enough c.pool-to.result (c.args.e.stake + c.balance-begun.result - c.left_there-left.result) c.self.inside.pools.entries c.raise_pool.new.pools.entries p c.in_ok-raise_pool.ensures.ok is;
+pub lower-requires : goal.lower-requires
+lower-requires c = record {
+  enough = λ p is. raised_enough pool_total c.pool-to.result (c.args.e.stake + c.balance-begun.result - c.left_there-left.result) c.self.inside.pools.entries c.raise.new.amounts.entries p c.in_ok-raise.ensures.ok is;
 }
 
-pub lower_pool-requires-2 : goal.lower_pool-requires-2
-lower_pool-requires-2 c =
+pub invariant_of-self-in-Err : goal.invariant_of-self-in-Err
+invariant_of-self-in-Err c =
+    let live : List (Credential × Entry) = c.self.inside.accounts.live in
+    let back : AreSummed c.self.inside.balances c.lower.new.amounts.entries live =
+    undone c.self.inside.balances c.self.inside.pools.entries c.raise.new.amounts.entries c.args.c live c.self.invariant c.pool-to.result (c.args.e.stake + c.balance-begun.result - c.left_there-left.result) c.lower.new.amounts.entries
+    c.in_ok-raise.ensures.ok c.lower.ensures in
+    subst (λ (a : Accounts). AreSummed c.self.inside.balances c.lower.new.amounts.entries a.live) (sym c.in-Err.ensures.err) back
+
+pub lower-requires-2 : goal.lower-requires-2
+lower-requires-2 c =
     let s : AreSummed c.self.inside.balances c.self.inside.pools.entries c.args.self.now.live = subst (λ (a : Accounts). AreSummed c.self.inside.balances c.self.inside.pools.entries a.live) c.self.view_is c.self.invariant in
     let from : c.pool-from.result ≡ pool_of (whole_entry c.args.self.now.live c.args.c) = c.pool-from.ensures ∙ ap pool_of c.requires.before in
     record {
@@ -48,7 +58,7 @@ lower_pool-requires-2 c =
         arith,
         c.balance-ended.ensures,
         ap weight_of c.requires.before,
-        before_enough c.self.inside.balances c.self.inside.pools.entries c.raise_pool.new.pools.entries c.args.c c.args.self.now.live s c.pool-to.result (c.args.e.stake + c.balance-begun.result - c.left_there-left.result) p c.in_ok-raise_pool.ensures.ok (sym from ∙ is),
+        before_enough c.self.inside.balances c.self.inside.pools.entries c.raise.new.amounts.entries c.args.c c.args.self.now.live s c.pool-to.result (c.args.e.stake + c.balance-begun.result - c.left_there-left.result) p c.in_ok-raise.ensures.ok (sym from ∙ is),
       );
     }
 
@@ -79,16 +89,16 @@ invariant_of-self-2 c =
     let from : c.pool-from.result ≡ pool_of before = c.pool-from.ensures ∙ ap pool_of c.requires.before in
     let lost : c.args.before.now.stake + c.balance-ended.result ≡ weight_of before = (λ i. c.args.before.now.stake + c.balance-ended.ensures i) ∙ ap weight_of c.requires.before in
     let gained : c.args.e.stake + c.balance-begun.result ≡ weight_of c.args.e = λ i. c.args.e.stake + c.balance-begun.ensures i in
-    let up : IsRaised (pool_of c.args.e) (weight_of c.args.e - left) c.self.inside.pools.entries c.raise_pool.new.pools.entries = same_raised c.pool-to.ensures (λ i. gained i - left) c.in_ok-raise_pool.ensures.ok in
-    let down : IsRaised (pool_of before) (weight_of before - left) c.lower_pool-2.new.pools.entries c.raise_pool.new.pools.entries = same_raised from (λ i. lost i - left) c.lower_pool-2.ensures in
+    let up : IsRaised pool_cmp (pool_of c.args.e) (weight_of c.args.e - left) c.self.inside.pools.entries c.raise.new.amounts.entries = same_raised c.pool-to.ensures (λ i. gained i - left) c.in_ok-raise.ensures.ok in
+    let down : IsRaised pool_cmp (pool_of before) (weight_of before - left) c.lower-2.new.amounts.entries c.raise.new.amounts.entries = same_raised from (λ i. lost i - left) c.lower-2.ensures in
     let same : (left ≡ 0) ⊎ (pool_of before ≡ pool_of c.args.e) = subst (λ (o : Option PoolId). (left ≡ 0) ⊎ (o ≡ pool_of c.args.e)) from (subst (λ (o : Option PoolId). (left ≡ 0) ⊎ (c.pool-from.result ≡ o)) c.pool-to.ensures c.left_there-left.ensures.pool) in
-    let after : AreSummed (c.self.inside.balances - balance_of before + balance_of c.args.e) c.lower_pool-2.new.pools.entries (with_entry c.args.c c.args.e c.args.self.now.live) =
-    entered_summed c.self.inside.balances c.self.inside.pools.entries c.raise_pool.new.pools.entries c.args.c c.args.self.now.live s c.args.e c.lower_pool-2.new.pools.entries left
+    let after : AreSummed (c.self.inside.balances - balance_of before + balance_of c.args.e) c.lower-2.new.amounts.entries (with_entry c.args.c c.args.e c.args.self.now.live) =
+    entered_summed c.self.inside.balances c.self.inside.pools.entries c.raise.new.amounts.entries c.args.c c.args.self.now.live s c.args.e c.lower-2.new.amounts.entries left
     (omega (arith, c.left_there-left.ensures.of_lost, lost)) (omega (arith, c.left_there-left.ensures.of_gained, gained)) same up down c.requires.within in
     let live : with_entry c.args.c c.args.e c.args.self.now.live ≡ c.put.new.self.live =
     ap (λ (a : Accounts). with_entry c.args.c c.args.e a.live) (sym c.self.view_is) ∙ ap (λ (a : Accounts). a.live) (sym c.in_default.ensures.ok) in
     let ended : balance_of before ≡ c.balance-ended.result = sym (c.balance-ended.ensures ∙ ap balance_of c.requires.before) in
     let held : c.self.inside.balances - balance_of before + balance_of c.args.e ≡ c.self.inside.balances - c.balance-ended.result + c.balance-begun.result =
     λ i. c.self.inside.balances - ended i + sym c.balance-begun.ensures i in
-    subst (λ (n : ℕ). AreSummed n c.lower_pool-2.new.pools.entries c.put.new.self.live) held
-    (subst (λ (es : List (Credential × Entry)). AreSummed (c.self.inside.balances - balance_of before + balance_of c.args.e) c.lower_pool-2.new.pools.entries es) live after)
+    subst (λ (n : ℕ). AreSummed n c.lower-2.new.amounts.entries c.put.new.self.live) held
+    (subst (λ (es : List (Credential × Entry)). AreSummed (c.self.inside.balances - balance_of before + balance_of c.args.e) c.lower-2.new.amounts.entries es) live after)

@@ -1,0 +1,35 @@
+-- How many accounts delegate to each pool and to each DRep. (Own)
+use Rattle.std.specs.Prelude.{ℕ, ◌≡◌, List, Option, Some, None}
+use Rattle.std.specs.Option.{option_and_then}
+use Rattle.gov_ids.specs.declared.Credential.{Credential}
+use Rattle.gov_ids.specs.declared.Drep.{Drep}
+use Rattle.gov_ids.specs.declared.Drep.TheVariants as drep
+use Rattle.gov_ids.specs.declared.PoolId.{PoolId}
+use Rattle.gov_ids.specs.Orders.{credential_cmp, pool_cmp}
+use Rattle.book_records.specs.declared.Entry.{Entry}
+use Rattle.book_records.specs.declared.Registered.{Registered}
+use Rattle.maps.specs.Maps.{IsMap, sum_values}
+use Rattle.stake_book.specs.Sums.{amount_at, amount_for, pool_of}
+
+-- the credential of a DRep that is registered
+abbrev pub credential_of : Drep → Option Credential
+credential_of (drep.Registered c) = Some c
+credential_of _ = None
+
+-- the DRep that an entry delegates to
+abbrev pub drep_of : Entry → Option Credential
+drep_of e = option_and_then (λ (r : Registered). option_and_then credential_of r.drep) e.registered
+
+-- 1 where it delegates to the pool
+abbrev pub joins_pool : PoolId → Entry → ℕ
+joins_pool p e = amount_for pool_cmp 1 (pool_of e) p
+
+-- 1 where it delegates to the DRep
+abbrev pub joins_drep : Credential → Entry → ℕ
+joins_drep c e = amount_for credential_cmp 1 (drep_of e) c
+
+-- the numbers are those of the entries, which stand in order
+pub record AreCounted (by_pool : List (PoolId × ℕ)) (by_drep : List (Credential × ℕ)) (entries : List (Credential × Entry)) : Type 0 where
+  pub in_order : IsMap credential_cmp entries
+  pub pools : (p : PoolId) → amount_at pool_cmp by_pool p ≡ sum_values (joins_pool p) entries
+  pub dreps : (c : Credential) → amount_at credential_cmp by_drep c ≡ sum_values (joins_drep c) entries
