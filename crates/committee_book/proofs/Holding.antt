@@ -65,7 +65,7 @@ left_by hot h s b e =
 
 -- ---- the cold keys of entries
 
-passed : (p : HotState → Bool) (s : Option HotState) → is_some (option_filter p s) ≡ some_and p s
+pub passed : (p : HotState → Bool) (s : Option HotState) → is_some (option_filter p s) ≡ some_and p s
 passed p None = refl
 passed p (Some s) = elim (p s) as (λ b. is_some (cond b (Some s) None) ≡ b) [ true ↦ refl | false ↦ refl ]
 

@@ -126,7 +126,7 @@ impl Holders {
 }
 
 /// Whether this is that hot key.
-fn is_hot_key(s: HotState, hot: &Credential) -> bool
+pub(crate) fn is_hot_key(s: HotState, hot: &Credential) -> bool
     ensures { result ≡ is_hot_key hot.now s }
 {
     match s {

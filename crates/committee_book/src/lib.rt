@@ -6,7 +6,9 @@ ghost use Rattle.gov_ids.specs.Orders.{credential_cmp};
 ghost use Rattle.maps.specs.Maps.{IsMap, entry_after, has_key, value_at, with_value, with_values, without_key};
 ghost use Rattle.maps.specs.Replaced.{with_option};
 ghost use Rattle.maps.specs.Words.{some_and};
-ghost use Rattle.gov_model.specs.Hot.{is_named, is_member, of_members};
+ghost use Rattle.std.specs.List.{list_any};
+ghost use Rattle.gov_model.specs.Hot.{is_hot_key, is_named, is_member, of_members};
+ghost use Rattle.gov_model.specs.Sides.{members_of};
 ghost use Rattle.committee_book.specs.Counts.{count_of};
 ghost use Rattle.committee_book.specs.Holders.{AreHeld, IsIndexed, entries_beside};
 
@@ -15,7 +17,7 @@ mod holders;
 use coin_frac::NoMemory;
 use gov_actions::{Committee, HotState};
 use gov_ids::Credential;
-use holders::Holders;
+use holders::{Holders, is_hot_key};
 use maps::keys_past;
 use std::alloc::Global;
 use std::collections::BTreeMap;
@@ -137,7 +139,7 @@ impl HotBook {
         self.holders.count(hot)
     }
 
-    /// Whether a member has this hot key, where the entries of cold keys that have one among the changed do not count. It walks the cold keys that have it, and no member. (GOV of the formal specification; the changed are own)
+    /// Whether a member has this hot key, where the entries of cold keys that have one among the changed do not count. It walks the cold keys that have it or the members, whichever are fewer. (GOV of the formal specification; the changed are own)
     pub fn seats(&self, hot: &Credential, c: Option<&Committee>, changed: Option<&HotBook>) -> bool
         ensures seated { result ≡ is_named (of_members (option_map (λ c. c.now) c.entry)
             (entries_beside (option_map (λ b. b.now) changed.entry) self.now)) hot.now }
@@ -146,7 +148,34 @@ impl HotBook {
         let Some(cold_keys) = self.holders.of(hot) else {
             return false;
         };
+        let members = members_of(c);
+        if members.len() < cold_keys.len() {
+            return self.seats_among(hot, members, changed);
+        }
         cold_keys.iter().any(|cold| is_seat(c, changed, cold))
+    }
+
+    // Whether one of these members has this hot key, with an entry that counts.
+    fn seats_among(
+        &self,
+        hot: &Credential,
+        members: &[(Credential, u64)],
+        changed: Option<&HotBook>,
+    ) -> bool
+        ensures { result ≡ list_any (λ m. some_and (is_hot_key hot.now) (value_at credential_cmp self.now m.0)
+            && not (some_and (λ es. has_key credential_cmp es m.0) (option_map (λ b. b.now) changed.entry))) members.now }
+    {
+        members.iter().any(|(cold, _)| self.has_hot(cold, hot) && !has_entry(changed, cold))
+    }
+
+    // Whether a cold key has this hot key.
+    fn has_hot(&self, cold: &Credential, hot: &Credential) -> bool
+        ensures { result ≡ some_and (is_hot_key hot.now) (value_at credential_cmp self.now cold.now) }
+    {
+        match self.get(cold) {
+            Some(s) => is_hot_key(s, hot),
+            None => false,
+        }
     }
 
     /// Only members keep their entries, and none where there is no committee. (EPOCH of the formal specification)
@@ -211,6 +240,16 @@ fn has_entry(changed: Option<&HotBook>, cold: &Credential) -> bool
         return false;
     };
     book.get(cold).is_some()
+}
+
+// The members of the committee, none where there is no committee.
+fn members_of(c: Option<&Committee>) -> &[(Credential, u64)]
+    ensures { result.now ≡ members_of (option_map (λ c. c.now) c.entry) }
+{
+    match c {
+        Some(committee) => committee.members.as_slice(),
+        None => &[],
+    }
 }
 
 /// Whether a cold key is a member of the committee, none being one where there is no committee. (CIP-1694, The constitutional committee)

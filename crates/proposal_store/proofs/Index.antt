@@ -1,4 +1,4 @@
--- What the index of children has after a proposal came.
+-- What the index of children has of a proposal.
 use Rattle.std.proofs.Common.{◌≡◌, true, false, cond, ◌&&◌, List, [], ◌∷◌, ◌++◌, Option, Some, unwrap_or, if◌then◌else◌, append-nil, refl, ap, sym, ◌∙◌}
 use Rattle.std.specs.Ordering.{eq_by_cmp}
 use Rattle.gov_ids.specs.declared.ActionId.{ActionId}
@@ -7,7 +7,7 @@ use Rattle.gov_actions.specs.declared.action.Proposal.{Proposal}
 use Rattle.gov_actions.specs.declared.action.Purpose.{Purpose}
 use Rattle.gov_actions.specs.Kinds.{purpose_of, previous_of, same_purpose}
 use Rattle.gov_model.specs.Ratified.{ids_of}
-use Rattle.gov_model.specs.Proposals.{children_of}
+use Rattle.gov_model.specs.Proposals.{children_of, is_child}
 use Rattle.maps.specs.Words.{holds, same_option}
 use Rattle.proposal_store.specs.declared.families.Parent.{Parent}
 use Rattle.proposal_store.specs.Families.{parent_cmp}
@@ -22,21 +22,20 @@ one_more parent q id ids was h =
       | false ↦ λ h. refl
     ] h
 
--- a child of its parent, and of no other
-noted : (p : Proposal) (purpose : Purpose) (q : Parent) (l : List ActionId) → purpose_of p.action ≡ Some purpose
-    → (if eq_by_cmp parent_cmp (record { purpose = purpose; previous = previous_of p.action }) q then l ++ p.id ∷ [] else l) ≡ l ++ children_of q.purpose q.previous (p ∷ [])
-noted p purpose q l h =
-    let is : eq_by_cmp parent_cmp (record { purpose = purpose; previous = previous_of p.action }) q ≡ (holds same_purpose (purpose_of p.action) q.purpose && same_option same_action (previous_of p.action) q.previous) =
-    parent_same (record { purpose = purpose; previous = previous_of p.action }) q
-    ∙ ap (λ (o : Option Purpose). holds same_purpose o q.purpose && same_option same_action (previous_of p.action) q.previous) (sym h) in
-    ap (λ b. cond b (l ++ p.id ∷ []) l) is
-    ∙ elim (holds same_purpose (purpose_of p.action) q.purpose && same_option same_action (previous_of p.action) q.previous)
-    as (λ b. cond b (l ++ p.id ∷ []) l ≡ l ++ ids_of (cond b (p ∷ []) [])) [
+-- a proposal is a child of what it follows, and of no other
+pub is_parent : (p : Proposal) (purpose : Purpose) (previous : Option ActionId) (q : Parent) → purpose_of p.action ≡ Some purpose → previous ≡ previous_of p.action
+    → eq_by_cmp parent_cmp (record { purpose = purpose; previous = previous }) q ≡ is_child q.purpose q.previous p
+is_parent p purpose previous q h follows =
+    (λ i. eq_by_cmp parent_cmp (record { purpose = purpose; previous = follows i }) q)
+    ∙ parent_same (record { purpose = purpose; previous = previous_of p.action }) q
+    ∙ ap (λ (o : Option Purpose). holds same_purpose o q.purpose && same_option same_action (previous_of p.action) q.previous) (sym h)
+
+-- and is noted as one
+pub noted_by : (p : Proposal) (purpose : Purpose) (previous : Option ActionId) (id : ActionId) (q : Parent) (l : List ActionId) → purpose_of p.action ≡ Some purpose → previous ≡ previous_of p.action → id ≡ p.id
+    → (if eq_by_cmp parent_cmp (record { purpose = purpose; previous = previous }) q then l ++ id ∷ [] else l) ≡ l ++ children_of q.purpose q.previous (p ∷ [])
+noted_by p purpose previous id q l h follows is =
+    (λ i. cond (is_parent p purpose previous q h follows i) (l ++ is i ∷ []) l)
+    ∙ elim (is_child q.purpose q.previous p) as (λ b. cond b (l ++ p.id ∷ []) l ≡ l ++ ids_of (cond b (p ∷ []) [])) [
       | true ↦ refl
       | false ↦ sym (append-nil l)
     ]
-
--- the same by what its parts are equal to
-pub noted_by : (p : Proposal) (purpose : Purpose) (previous : Option ActionId) (id : ActionId) (q : Parent) (l : List ActionId) → purpose_of p.action ≡ Some purpose → previous ≡ previous_of p.action → id ≡ p.id
-    → (if eq_by_cmp parent_cmp (record { purpose = purpose; previous = previous }) q then l ++ id ∷ [] else l) ≡ l ++ children_of q.purpose q.previous (p ∷ [])
-noted_by p purpose previous id q l h follows is = (λ i. if eq_by_cmp parent_cmp (record { purpose = purpose; previous = follows i }) q then l ++ is i ∷ [] else l) ∙ noted p purpose q l h

@@ -5,4 +5,8 @@ pub mod Retaining
 pub mod Adding
 pub mod Voting
 pub mod Leavers
+pub mod Shrunk
+pub mod Once
 pub mod Noting
+pub mod VotesNoted
+pub mod OneVote

@@ -1,9 +1,9 @@
 -- What is noted of the votes of DReps, and what stays noted.
-use Rattle.std.proofs.Common.{◌≡◌, ℕ, ◌+◌, ◌<◌, length, get_or, drop, add-one, true, false, cond, not, ◌||◌, ◌&&◌, List, [], ◌∷◌, ◌++◌, Option, Some, None, is_some, unwrap_or, Result, Ok, Err, OnOk, OnErr, if◌then◌else◌, refl, ap, sym, subst, ◌∙◌}
+use Rattle.std.proofs.Common.{◌≡◌, ℕ, ◌+◌, ◌<◌, length, get_or, drop, add-one, true, false, cond, not, ◌||◌, ◌&&◌, List, [], ◌∷◌, ◌++◌, map, Option, Some, None, IfSome, is_some, option_map, unwrap_or, if◌then◌else◌, refl, ap, sym, subst, ◌∙◌}
 use Rattle.std.proofs.Math.Seq.{drop-cons}
+use Rattle.std.specs.List.{AllByRecursion, IsDistinct}
 use Rattle.std.specs.Map.{values_of}
 use Rattle.std.specs.Ordering.{eq_by_cmp}
-use Rattle.std.proofs.lemmas.Bool.{or_left, or_right}
 use Rattle.std.proofs.lemmas.Cmp.{eq_by_cmp_equiv}
 use Rattle.gov_actions.specs.declared.action.Proposal.{Proposal}
 use Rattle.gov_actions.specs.declared.action.Vote.{Vote}
@@ -12,16 +12,20 @@ use Rattle.gov_ids.specs.declared.Credential.{Credential}
 use Rattle.gov_ids.specs.declared.Voter.{Voter}
 use Rattle.gov_ids.specs.declared.Voter.TheVariants as voter
 use Rattle.gov_ids.specs.Orders.{action_id_cmp, credential_cmp, voter_cmp}
-use Rattle.gov_ids.proofs.Exacts.{action_id_exact, credential_exact, voter_exact}
-use Rattle.gov_ids.proofs.Totals.{action_id_total, credential_total, voter_total}
-use Rattle.gov_model.specs.Proposals.{proposal_of, with_vote, without_vote}
-use Rattle.maps.proofs.Lookups.{has_key-with_value, has_key-without_key, value_at-without_key, without_key_absent}
+use Rattle.gov_ids.proofs.Exacts.{action_id_exact, credential_exact}
+use Rattle.gov_ids.proofs.Totals.{action_id_total, voter_total}
+use Rattle.gov_model.specs.Ratified.{ids_of}
+use Rattle.gov_model.specs.Proposals.{proposal_of, without_vote}
+use Rattle.maps.proofs.Lookups.{has_key-without_key, value_at-without_key, without_key_absent}
 use Rattle.maps.proofs.Ties.{same_key}
-use Rattle.maps.specs.Maps.{IsMap, has_key, has_member, value_at, without_key}
+use Rattle.maps.specs.Maps.{IsMap, has_member, value_at, without_key, without_member}
+use Rattle.maps.specs.Words.{or_else, some_and}
 use Rattle.gov_ids.specs.Same.{same_action}
 use Rattle.proposal_store.specs.Changes.{changing, dropping, each}
 use Rattle.proposal_store.specs.Store.{AllOrdered}
-use Rattle.proposal_store.specs.Voted.{noted_of, is_noted, KeepsNotes, IsNoted, AllNoted}
+use Rattle.proposal_store.specs.Voted.{has_vote, is_drep, is_noted, is_voted_on, noted_of, AreNoted, AreOnce}
+use Rattle.proposal_store.proofs.Once.{has_last, has_left_out, distinct_left_out}
+use Rattle.proposal_store.proofs.Retaining.{fresh}
 
 -- notes of DReps
 abbrev pub Notes : Type 0
@@ -43,108 +47,62 @@ has_one_more drep id ids old new at is c =
       | false ↦ λ _. refl
     ] refl
 
-stays_member : (ids : List ActionId) (x q : ActionId) → has_member action_id_cmp ids q ≡ true → has_member action_id_cmp (ids ++ x ∷ []) q ≡ true
-stays_member [] x q h = cc
-stays_member (i ∷ ids) x q h =
-    elim (eq_by_cmp action_id_cmp q i) as (λ b. (b || has_member action_id_cmp ids q) ≡ true → (b || has_member action_id_cmp (ids ++ x ∷ []) q) ≡ true) [ true ↦ λ _. refl | false ↦ λ h. stays_member ids x q h ] h
+-- ---- look-ups
 
-last_member : (ids : List ActionId) (x : ActionId) → has_member action_id_cmp (ids ++ x ∷ []) x ≡ true
-last_member [] x = ap (λ b. b || false) ((eq_by_cmp_equiv action_id_total).refl x)
-last_member (i ∷ ids) x =
-    elim (eq_by_cmp action_id_cmp x i) as (λ b. (b || has_member action_id_cmp (ids ++ x ∷ []) x) ≡ true) [ true ↦ refl | false ↦ last_member ids x ]
+-- with one more at the end
+found_last : (id : ActionId) (ps : List Proposal) (p : Proposal) → proposal_of id (ps ++ p ∷ []) ≡ or_else (proposal_of id ps) (cond (same_action p.id id) (Some p) None)
+found_last id [] p = refl
+found_last id (q ∷ ps) p =
+    elim (same_action q.id id) as (λ b. cond b (Some q) (proposal_of id (ps ++ p ∷ [])) ≡ or_else (cond b (Some q) (proposal_of id ps)) (cond (same_action p.id id) (Some p) None)) [
+      | true ↦ refl
+      | false ↦ found_last id ps p
+    ]
 
-keeps_one : (drep : Credential) (id : ActionId) (old new : Notes) → HasOneMore drep id old new → KeepsNotes old new
-keeps_one drep id old new h c q k =
-    ap (λ (ids : List ActionId). has_member action_id_cmp ids q) (h c)
-    ∙ elim (eq_by_cmp credential_cmp drep c) as (λ b. has_member action_id_cmp (cond b (noted_of old c ++ id ∷ []) (noted_of old c)) q ≡ true) [ true ↦ stays_member (noted_of old c) id q k | false ↦ k ]
+or_none : (o : Option Proposal) → or_else o None ≡ o
+or_none None = refl
+or_none (Some p) = refl
 
-pub keeps_all : (old new : Notes) → new ≡ old → KeepsNotes old new
-keeps_all old new h c q k = ap (λ (notes : Notes). is_noted notes c q) h ∙ k
+-- each changed, with its id
+found_mapped : (g : Proposal → Proposal) → ((p : Proposal) → (g p).id ≡ p.id) → (id : ActionId) (ps : List Proposal) → proposal_of id (map g ps) ≡ option_map g (proposal_of id ps)
+found_mapped g same id [] = refl
+found_mapped g same id (p ∷ ps) =
+    (λ i. cond (same_action (same p i) id) (Some (g p)) (found_mapped g same id ps i))
+    ∙ elim (same_action p.id id) as (λ b. cond b (Some (g p)) (option_map g (proposal_of id ps)) ≡ option_map g (cond b (Some p) (proposal_of id ps))) [ true ↦ refl | false ↦ refl ]
 
--- whatever comes of it, what was noted stays noted
-pub keeps_noted : {T E : Type 0} (r : Result T E) (drep : Credential) (id : ActionId) (old new : Notes) → OnOk r (HasOneMore drep id old new) → OnErr r (new ≡ old) → KeepsNotes old new
-keeps_noted (Ok x) drep id old new ok err = keeps_one drep id old new ok
-keeps_noted (Err e) drep id old new ok err = keeps_all old new err
+changed_here : (id : ActionId) (f : Proposal → Proposal) (q : ActionId) (p : Proposal) → same_action p.id q ≡ true → Some (changing id f p) ≡ cond (same_action id q) (Some (f p)) (Some p)
+changed_here id f q p t =
+    let is : p.id ≡ q = same_key action_id_exact p.id q t in
+    ap (λ (x : ActionId). Some (cond (same_action x id) (f p) p)) is
+    ∙ ap (λ b. Some (cond b (f p) p)) ((eq_by_cmp_equiv action_id_total).symm q id)
+    ∙ elim (same_action id q) as (λ b. Some (cond b (f p) p) ≡ cond b (Some (f p)) (Some p)) [ true ↦ refl | false ↦ refl ]
 
-noted_one : (drep : Credential) (id : ActionId) (old new : Notes) → HasOneMore drep id old new → is_noted new drep id ≡ true
-noted_one drep id old new h =
-    ap (λ (ids : List ActionId). has_member action_id_cmp ids id) (h drep ∙ ap (λ b. cond b (noted_of old drep ++ id ∷ []) (noted_of old drep)) ((eq_by_cmp_equiv credential_total).refl drep))
-    ∙ last_member (noted_of old drep) id
+changed_or_not : (id : ActionId) (f : Proposal → Proposal) (q : ActionId) (ps : List Proposal) → option_map (changing id f) (proposal_of q ps) ≡ cond (same_action id q) (option_map f (proposal_of q ps)) (proposal_of q ps)
+changed_or_not id f q [] = elim (same_action id q) as (λ b. ◌≡◌ {A = Option Proposal} None (cond b None None)) [ true ↦ refl | false ↦ refl ]
+changed_or_not id f q (p ∷ ps) =
+    elim (same_action p.id q) as (λ b. same_action p.id q ≡ b → option_map (changing id f) (cond b (Some p) (proposal_of q ps)) ≡ cond (same_action id q) (option_map f (cond b (Some p) (proposal_of q ps))) (cond b (Some p) (proposal_of q ps))) [
+      | true ↦ λ t. changed_here id f q p t
+      | false ↦ λ _. changed_or_not id f q ps
+    ] refl
 
--- the DRep of a voter
-drep_or : Credential → Voter → Credential
-drep_or d (voter.Committee c) = d
-drep_or d (voter.Drep c) = c
-drep_or d (voter.Pool p) = d
+-- the one of an id changed, with its id
+found_changed : (id : ActionId) (f : Proposal → Proposal) → ((p : Proposal) → (f p).id ≡ p.id) → (q : ActionId) (ps : List Proposal)
+    → proposal_of q (map (changing id f) ps) ≡ cond (same_action id q) (option_map f (proposal_of q ps)) (proposal_of q ps)
+found_changed id f same q ps =
+    found_mapped (changing id f) (λ p. elim (same_action p.id id) as (λ b. (cond b (f p) p).id ≡ p.id) [ true ↦ same p | false ↦ refl ]) q ps
+    ∙ changed_or_not id f q ps
 
--- the vote of each DRep that the voter is is noted
-abbrev pub IsVoterNoted : Notes → Voter → ActionId → Type 0
-IsVoterNoted notes v id = (c : Credential) → v ≡ voter.Drep c → is_noted notes c id ≡ true
+-- the votes of what is found are in order
+ordered_found : (id : ActionId) (ps : List Proposal) → AllOrdered ps → IfSome (proposal_of id ps) (λ p. IsMap voter_cmp p.votes)
+ordered_found id [] o = tt
+ordered_found id (p ∷ ps) o = elim (same_action p.id id) as (λ b. IfSome (cond b (Some p) (proposal_of id ps)) (λ q. IsMap voter_cmp q.votes)) [ true ↦ o.0 | false ↦ ordered_found id ps o.1 ]
 
-pub noted_drep : (notes : Notes) (v : Voter) (drep : Credential) (id : ActionId) → v ≡ voter.Drep drep → is_noted notes drep id ≡ true → IsVoterNoted notes v id
-unfolding drep_or
-noted_drep notes v drep id is h c e = ap (λ (q : Credential). is_noted notes q id) (ap (drep_or drep) (sym e ∙ is)) ∙ h
-
-pub noted_now : {T E : Type 0} (r : Result T E) (v : Voter) (drep : Credential) (id : ActionId) (old new : Notes) → v ≡ voter.Drep drep → OnOk r (HasOneMore drep id old new) → OnOk r (IsVoterNoted new v id)
-noted_now (Ok x) v drep id old new is ok = noted_drep new v drep id is (noted_one drep id old new ok)
-noted_now (Err e) v drep id old new is ok = tt
-
-pub keeps_both : (a b d : Notes) → KeepsNotes a b → KeepsNotes b d → KeepsNotes a d
-keeps_both a b d h k c id e = k c id (h c id e)
-
--- a vote more is noted, and the others are yet to come
-pub note_next : (old new : Notes) (v : Voter) (vote : Vote) (id : ActionId) (all rest : List (Voter × Vote)) → all ≡ (v, vote) ∷ rest → KeepsNotes old new → IsVoterNoted new v id
-    → (c : Credential) → (is_noted old c id || has_key voter_cmp all (voter.Drep c)) ≡ true → (is_noted new c id || has_key voter_cmp rest (voter.Drep c)) ≡ true
-note_next old new v vote id all rest steps k n c h =
-    let now = is_noted new c id in
-    let later = has_key voter_cmp rest (voter.Drep c) in
-    elim (is_noted old c id) as (λ b. is_noted old c id ≡ b → (b || has_key voter_cmp all (voter.Drep c)) ≡ true → (now || later) ≡ true) [
-      | true ↦ λ t _. or_left now later (k c id t)
-      | false ↦ λ _ h.
-          let cut : has_key voter_cmp ((v, vote) ∷ rest) (voter.Drep c) ≡ true = ap (λ (es : List (Voter × Vote)). has_key voter_cmp es (voter.Drep c)) (sym steps) ∙ h in
-          elim (eq_by_cmp voter_cmp (voter.Drep c) v) as (λ b. eq_by_cmp voter_cmp (voter.Drep c) v ≡ b → is_some (cond b (Some vote) (value_at voter_cmp rest (voter.Drep c))) ≡ true → (now || later) ≡ true) [
-            | true ↦ λ t _. or_left now later (n c (sym (same_key voter_exact (voter.Drep c) v t)))
-            | false ↦ λ _ r. or_right now later r
-          ] refl cut
-    ] refl h
-
-pub none_left : (notes : Notes) (id : ActionId) (c : Credential) (rest : List (Voter × Vote)) → rest ≡ [] → (is_noted notes c id || has_key voter_cmp rest (voter.Drep c)) ≡ true → is_noted notes c id ≡ true
-none_left notes id c rest none h =
-    elim (is_noted notes c id) as (λ b. (b || false) ≡ true → b ≡ true) [ true ↦ λ _. refl | false ↦ λ e. e ]
-    (ap (λ (es : List (Voter × Vote)). is_noted notes c id || has_key voter_cmp es (voter.Drep c)) (sym none) ∙ h)
-
--- ---- on a proposal
-
-pub noted_more : (old new : Notes) (p : Proposal) → KeepsNotes old new → IsNoted old p → IsNoted new p
-noted_more old new p k h c e = k c p.id (h c e)
-
-pub all_noted_more : (old new : Notes) (ps : List Proposal) → KeepsNotes old new → AllNoted old ps → AllNoted new ps
-all_noted_more old new [] k h = tt
-all_noted_more old new (p ∷ ps) k h = (noted_more old new p k h.0, all_noted_more old new ps k h.1)
-
--- with a vote of a voter that is noted
-noted_voted : (notes : Notes) (p : Proposal) (v : Voter) (vote : Vote) → IsVoterNoted notes v p.id → IsNoted notes p → IsNoted notes (with_vote v vote p)
-noted_voted notes p v vote n h c e =
-    let at : (eq_by_cmp voter_cmp v (voter.Drep c) || has_key voter_cmp p.votes (voter.Drep c)) ≡ true = sym (has_key-with_value voter_total v vote p.votes (voter.Drep c)) ∙ e in
-    elim (eq_by_cmp voter_cmp v (voter.Drep c)) as (λ b. eq_by_cmp voter_cmp v (voter.Drep c) ≡ b → (b || has_key voter_cmp p.votes (voter.Drep c)) ≡ true → is_noted notes c p.id ≡ true) [
-      | true ↦ λ t _. n c (same_key voter_exact v (voter.Drep c) t)
-      | false ↦ λ _ a. h c a
-    ] refl at
-
--- a vote that is put in or not is noted
-put_noted : {T E : Type 0} (r : Result T E) (notes : Notes) (old new : Proposal) (v : Voter) (vote : Vote) → OnOk r (new ≡ with_vote v vote old) → OnErr r (new ≡ old) → IsVoterNoted notes v old.id → IsNoted notes old
-    → IsNoted notes new × (new.id ≡ old.id)
-put_noted (Ok x) notes old new v vote ok err n h = (subst (λ (q : Proposal). IsNoted notes q) (sym ok) (noted_voted notes old v vote n h), ap (λ (q : Proposal). q.id) ok)
-put_noted (Err e) notes old new v vote ok err n h = (subst (λ (q : Proposal). IsNoted notes q) (sym err) h, ap (λ (q : Proposal). q.id) err)
-
--- of each
-all_noted_each : (g : Proposal → Proposal) (old new : Notes) → ((p : Proposal) → IsMap voter_cmp p.votes → IsNoted old p → IsNoted new (g p)) → (es : List (ActionId × Proposal))
-    → AllOrdered (values_of es) → AllNoted old (values_of es) → AllNoted new (values_of (each g es))
-all_noted_each g old new f [] o h = tt
-all_noted_each g old new f (e ∷ es) o h = (f e.1 o.0 h.0, all_noted_each g old new f es o.1 h.1)
+-- a vote less
+vote_less : (v : Voter) (c : Credential) (o : Option Proposal) → IfSome o (λ p. IsMap voter_cmp p.votes) → some_and (has_vote c) (option_map (without_vote v) o) ≡ (not (is_drep v c) && some_and (has_vote c) o)
+vote_less v c None m = elim (is_drep v c) as (λ b. false ≡ (not b && false)) [ true ↦ refl | false ↦ refl ]
+vote_less v c (Some p) m = has_key-without_key voter_total v p.votes (voter.Drep c) m
 
 -- the proposal that is found has the id
-found_id : (id : ActionId) (p : Proposal) (ps : List Proposal) → proposal_of id ps ≡ Some p → p.id ≡ id
+pub found_id : (id : ActionId) (p : Proposal) (ps : List Proposal) → proposal_of id ps ≡ Some p → p.id ≡ id
 found_id id p [] h = cc
 found_id id p (q ∷ ps) h =
     elim (same_action q.id id) as (λ b. same_action q.id id ≡ b → cond b (Some q) (proposal_of id ps) ≡ Some p → p.id ≡ id) [
@@ -152,39 +110,122 @@ found_id id p (q ∷ ps) h =
       | false ↦ λ _ h. found_id id p ps h
     ] refl h
 
--- and where a vote on it is put in or not, all are noted
-pub all_noted_voted : {T E : Type 0} (r : Result T E) (old new : Notes) (id : ActionId) (p written : Proposal) (v : Voter) (vote : Vote) (es : List (ActionId × Proposal)) → proposal_of id (values_of es) ≡ Some p
-    → OnOk r (written ≡ with_vote v vote p) → OnErr r (written ≡ p) → KeepsNotes old new → IsVoterNoted new v p.id → IsNoted old p → AllOrdered (values_of es) → AllNoted old (values_of es)
-    → AllNoted new (values_of (each (changing id (λ q. record q { votes = written.votes })) es))
-all_noted_voted r old new id p written v vote es found ok err k n h o all =
-    let w = put_noted r new p written v vote ok err n (noted_more old new p k h) in
-    let is : written.id ≡ id = w.1 ∙ found_id id p (values_of es) found in
-    all_noted_each (changing id (λ q. record q { votes = written.votes })) old new (λ q _ hq.
-    elim (same_action q.id id) as (λ b. same_action q.id id ≡ b → IsNoted new (cond b (record q { votes = written.votes }) q)) [
-      | true ↦ λ t c e. ap (λ (x : ActionId). is_noted new c x) (same_key action_id_exact q.id id t ∙ sym is) ∙ w.0 c e
-      | false ↦ λ _. noted_more old new q k hq
-    ] refl
-    ) es o all
+-- ---- what the notes have
 
--- the votes of a proposal that is found are noted
-pub found_noted : (notes : Notes) (id : ActionId) (p : Proposal) (ps : List Proposal) → AllNoted notes ps → proposal_of id ps ≡ Some p → IsNoted notes p
-found_noted notes id p [] a h = cc
-found_noted notes id p (q ∷ ps) a h =
-    elim (same_action q.id id) as (λ b. cond b (Some q) (proposal_of id ps) ≡ Some p → IsNoted notes p) [
-      | true ↦ λ h. let is : q ≡ p = cc in subst (λ (x : Proposal). IsNoted notes x) is a.0
-      | false ↦ λ h. found_noted notes id p ps a.1 h
-    ] h
+abbrev pub HasOne : Proposal → Notes → Notes → Type 0
+HasOne p old new = (c : Credential) → noted_of new c ≡ cond (has_vote c p) (noted_of old c ++ p.id ∷ []) (noted_of old c)
 
--- ---- a vote leaves
+pub AreNoted-none : (notes : Notes) → notes ≡ [] → AreNoted notes []
+unfolding IsDistinct
+AreNoted-none notes h = record {
+  noted = λ c id. ap (λ (l : Notes). is_noted l c id) h;
+  once = λ c. subst (λ (l : Notes). IsDistinct same_action (noted_of l c)) (sym h) tt;
+}
 
-noted_dropped : (notes : Notes) (v : Voter) (p : Proposal) → IsMap voter_cmp p.votes → IsNoted notes p → IsNoted notes (without_vote v p)
-noted_dropped notes v p m h c e =
-    let both : (not (eq_by_cmp voter_cmp v (voter.Drep c)) && has_key voter_cmp p.votes (voter.Drep c)) ≡ true = sym (has_key-without_key voter_total v p.votes (voter.Drep c) m) ∙ e in
-    elim (eq_by_cmp voter_cmp v (voter.Drep c)) as (λ b. (not b && has_key voter_cmp p.votes (voter.Drep c)) ≡ true → is_noted notes c p.id ≡ true) [ true ↦ λ a. cc | false ↦ λ a. h c a ] both
+pub AreNoted-same : (old new : Notes) (ps : List Proposal) → ((c : Credential) → noted_of new c ≡ noted_of old c) → AreNoted old ps → AreNoted new ps
+AreNoted-same old new ps e h = record {
+  noted = λ c id. ap (λ (ids : List ActionId). has_member action_id_cmp ids id) (e c) ∙ h.noted c id;
+  once = λ c. subst (λ (ids : List ActionId). IsDistinct same_action ids) (sym (e c)) (h.once c);
+}
 
-pub all_noted_dropped : (notes : Notes) (id : ActionId) (v : Voter) (es : List (ActionId × Proposal)) → AllOrdered (values_of es) → AllNoted notes (values_of es) → AllNoted notes (values_of (each (changing id (without_vote v)) es))
-all_noted_dropped notes id v es o all =
-    all_noted_each (changing id (without_vote v)) notes notes (λ q m hq. elim (same_action q.id id) as (λ b. IsNoted notes (cond b (without_vote v q) q)) [ true ↦ noted_dropped notes v q m hq | false ↦ hq ]) es o all
+-- of a new proposal none is noted
+pub none_noted : (notes : Notes) (ps : List Proposal) (p : Proposal) → AreNoted notes ps → proposal_of p.id ps ≡ None → (c : Credential) → is_noted notes c p.id ≡ false
+none_noted notes ps p h absent c = h.noted c p.id ∙ ap (λ (o : Option Proposal). some_and (has_vote c) o) absent
+
+-- of one that is found its votes are
+pub found_noted : (notes : Notes) (id : ActionId) (p : Proposal) (ps : List Proposal) → AreNoted notes ps → proposal_of id ps ≡ Some p → (c : Credential) → is_noted notes c p.id ≡ has_vote c p
+found_noted notes id p ps h found c =
+    ap (λ (x : ActionId). is_noted notes c x) (found_id id p ps found)
+    ∙ h.noted c id
+    ∙ ap (λ (o : Option Proposal). some_and (has_vote c) o) found
+
+-- one proposal more
+pub AreNoted-added : (old new : Notes) (ps : List Proposal) (p : Proposal) → AreNoted old ps → proposal_of p.id ps ≡ None → HasOne p old new → AreOnce new → AreNoted new (ps ++ p ∷ [])
+AreNoted-added old new ps p h absent more once = record {
+  noted = λ c id.
+      let was = is_noted old c id in
+      ap (λ (ids : List ActionId). has_member action_id_cmp ids id) (more c)
+      ∙ elim (has_vote c p) as (λ b. has_member action_id_cmp (cond b (noted_of old c ++ p.id ∷ []) (noted_of old c)) id ≡ cond b (was || same_action p.id id) was) [ true ↦ has_last (noted_of old c) p.id id | false ↦ refl ]
+      ∙ elim (same_action p.id id) as (λ b. same_action p.id id ≡ b → cond (has_vote c p) (was || b) was ≡ some_and (has_vote c) (or_else (proposal_of id ps) (cond b (Some p) None))) [
+        | true ↦ λ t.
+            let is : p.id ≡ id = same_key action_id_exact p.id id t in
+            let none : proposal_of id ps ≡ None = ap (λ (x : ActionId). proposal_of x ps) (sym is) ∙ absent in
+            let no : was ≡ false = h.noted c id ∙ ap (λ (o : Option Proposal). some_and (has_vote c) o) none in
+            ap (λ b. cond (has_vote c p) (b || true) b) no
+            ∙ elim (has_vote c p) as (λ b. cond b true false ≡ b) [ true ↦ refl | false ↦ refl ]
+            ∙ ap (λ (o : Option Proposal). some_and (has_vote c) (or_else o (Some p))) (sym none)
+        | false ↦ λ _.
+            elim (has_vote c p) as (λ b. cond b (was || false) was ≡ was) [ true ↦ elim was as (λ b. (b || false) ≡ b) [ true ↦ refl | false ↦ refl ] | false ↦ refl ]
+            ∙ h.noted c id
+            ∙ ap (λ (o : Option Proposal). some_and (has_vote c) o) (sym (or_none (proposal_of id ps)))
+      ] refl
+      ∙ ap (λ (o : Option Proposal). some_and (has_vote c) o) (sym (found_last id ps p));
+  once = once;
+}
+
+-- the votes of a proposal that is found change, with their notes
+pub AreNoted-voted : (old new : Notes) (id : ActionId) (p written : Proposal) (ps : List Proposal) → proposal_of id ps ≡ Some p
+    → ((c : Credential) (q : ActionId) → is_noted new c q ≡ cond (same_action p.id q) (has_vote c written) (is_noted old c q)) → AreOnce new → AreNoted old ps
+    → AreNoted new (map (changing id (λ (q : Proposal). record q { votes = written.votes })) ps)
+AreNoted-voted old new id p written ps found at once h =
+    let f : Proposal → Proposal = λ q. record q { votes = written.votes } in
+    record {
+      noted = λ c q.
+          at c q
+          ∙ ap (λ (x : ActionId). cond (same_action x q) (has_vote c written) (is_noted old c q)) (found_id id p ps found)
+          ∙ elim (same_action id q) as (λ b. same_action id q ≡ b → cond b (has_vote c written) (is_noted old c q) ≡ some_and (has_vote c) (cond b (option_map f (proposal_of q ps)) (proposal_of q ps))) [
+            | true ↦ λ t.
+                let there : proposal_of q ps ≡ Some p = ap (λ (x : ActionId). proposal_of x ps) (sym (same_key action_id_exact id q t)) ∙ found in
+                ap (λ (o : Option Proposal). some_and (has_vote c) (option_map f o)) (sym there)
+            | false ↦ λ _. h.noted c q
+          ] refl
+          ∙ ap (λ (o : Option Proposal). some_and (has_vote c) o) (sym (found_changed id f (λ _. refl) q ps));
+      once = once;
+    }
+
+-- the vote of a voter leaves a proposal, with its note
+pub AreNoted-dropped : (old new : Notes) (id : ActionId) (v : Voter) (ps : List Proposal) → AllOrdered ps
+    → ((c : Credential) → noted_of new c ≡ cond (is_drep v c) (without_member action_id_cmp id (noted_of old c)) (noted_of old c)) → AreNoted old ps
+    → AreNoted new (map (changing id (without_vote v)) ps)
+AreNoted-dropped old new id v ps o at h = record {
+  noted = λ c q.
+      let was = is_noted old c q in
+      ap (λ (ids : List ActionId). has_member action_id_cmp ids q) (at c)
+      ∙ elim (is_drep v c) as (λ b. has_member action_id_cmp (cond b (without_member action_id_cmp id (noted_of old c)) (noted_of old c)) q ≡ cond b (not (same_action id q) && was) was) [ true ↦ has_left_out (noted_of old c) id q (h.once c) | false ↦ refl ]
+      ∙ ap (λ b. cond (is_drep v c) (not (same_action id q) && b) b) (h.noted c q)
+      ∙ elim (same_action id q) as (λ b. cond (is_drep v c) (not b && is_voted_on c q ps) (is_voted_on c q ps) ≡ some_and (has_vote c) (cond b (option_map (without_vote v) (proposal_of q ps)) (proposal_of q ps))) [
+        | true ↦
+            elim (is_drep v c) as (λ b. cond b false (is_voted_on c q ps) ≡ (not b && is_voted_on c q ps)) [ true ↦ refl | false ↦ refl ]
+            ∙ sym (vote_less v c (proposal_of q ps) (ordered_found q ps o))
+        | false ↦ elim (is_drep v c) as (λ b. cond b (is_voted_on c q ps) (is_voted_on c q ps) ≡ is_voted_on c q ps) [ true ↦ refl | false ↦ refl ]
+      ]
+      ∙ ap (λ (x : Option Proposal). some_and (has_vote c) x) (sym (found_changed id (without_vote v) (λ _. refl) q ps));
+  once = λ c. subst (λ (ids : List ActionId). IsDistinct same_action ids) (sym (at c))
+      (elim (is_drep v c) as (λ b. IsDistinct same_action (cond b (without_member action_id_cmp id (noted_of old c)) (noted_of old c))) [ true ↦ distinct_left_out id (noted_of old c) (h.once c) | false ↦ h.once c ]);
+}
+
+-- the last proposal leaves, with the notes of its votes
+pub AreNoted-front : (old new : Notes) (ps : List Proposal) (p : Proposal) → IsDistinct same_action (ids_of (ps ++ p ∷ []))
+    → ((c : Credential) → noted_of new c ≡ cond (has_vote c p) (without_member action_id_cmp p.id (noted_of old c)) (noted_of old c)) → AreOnce new → AreNoted old (ps ++ p ∷ []) → AreNoted new ps
+AreNoted-front old new ps p d at once h = record {
+  noted = λ c q.
+      let here = same_action p.id q in
+      let before : is_noted old c q ≡ some_and (has_vote c) (or_else (proposal_of q ps) (cond here (Some p) None)) = h.noted c q ∙ ap (λ (o : Option Proposal). some_and (has_vote c) o) (found_last q ps p) in
+      ap (λ (ids : List ActionId). has_member action_id_cmp ids q) (at c)
+      ∙ elim (has_vote c p) as (λ b. has_member action_id_cmp (cond b (without_member action_id_cmp p.id (noted_of old c)) (noted_of old c)) q ≡ cond b (not here && is_noted old c q) (is_noted old c q)) [ true ↦ has_left_out (noted_of old c) p.id q (h.once c) | false ↦ refl ]
+      ∙ ap (λ b. cond (has_vote c p) (not here && b) b) before
+      ∙ elim here as (λ b. same_action p.id q ≡ b → cond (has_vote c p) (not b && some_and (has_vote c) (or_else (proposal_of q ps) (cond b (Some p) None))) (some_and (has_vote c) (or_else (proposal_of q ps) (cond b (Some p) None))) ≡ is_voted_on c q ps) [
+        | true ↦ λ t.
+            let none : proposal_of q ps ≡ None = ap (λ (x : ActionId). proposal_of x ps) (sym (same_key action_id_exact p.id q t)) ∙ fresh ps [] p d in
+            ap (λ (o : Option Proposal). cond (has_vote c p) false (some_and (has_vote c) (or_else o (Some p)))) none
+            ∙ elim (has_vote c p) as (λ b. cond b false b ≡ false) [ true ↦ refl | false ↦ refl ]
+            ∙ ap (λ (o : Option Proposal). some_and (has_vote c) o) (sym none)
+        | false ↦ λ _.
+            ap (λ (o : Option Proposal). cond (has_vote c p) (some_and (has_vote c) o) (some_and (has_vote c) o)) (or_none (proposal_of q ps))
+            ∙ elim (has_vote c p) as (λ b. cond b (is_voted_on c q ps) (is_voted_on c q ps) ≡ is_voted_on c q ps) [ true ↦ refl | false ↦ refl ]
+      ] refl;
+  once = once;
+}
 
 -- ---- a DRep leaves
 
@@ -197,30 +238,57 @@ has_left drep old new at c =
     ap (λ (o : Option (List ActionId)). unwrap_or o []) (at c)
     ∙ elim (eq_by_cmp credential_cmp drep c) as (λ b. unwrap_or (cond b None (value_at credential_cmp old c)) [] ≡ cond b [] (noted_of old c)) [ true ↦ refl | false ↦ refl ]
 
-noted_cleared : (drep : Credential) (old new : Notes) → HasLeft drep old new → (p : Proposal) → IsMap voter_cmp p.votes → IsNoted old p → IsNoted new (without_vote (voter.Drep drep) p)
-noted_cleared drep old new left p m h c e =
-    let both : (not (eq_by_cmp credential_cmp drep c) && has_key voter_cmp p.votes (voter.Drep c)) ≡ true = sym (has_key-without_key voter_total (voter.Drep drep) p.votes (voter.Drep c) m) ∙ e in
-    ap (λ (ids : List ActionId). has_member action_id_cmp ids p.id) (left c)
-    ∙ elim (eq_by_cmp credential_cmp drep c) as (λ b. (not b && has_key voter_cmp p.votes (voter.Drep c)) ≡ true → has_member action_id_cmp (cond b [] (noted_of old c)) p.id ≡ true) [ true ↦ λ a. cc | false ↦ λ a. h c a ] both
+pub AreNoted-cleared : (drep : Credential) (old new : Notes) (ps : List Proposal) → HasLeft drep old new → AllOrdered ps → AreNoted old ps → AreNoted new (map (without_vote (voter.Drep drep)) ps)
+unfolding IsDistinct
+AreNoted-cleared drep old new ps left o h =
+    let v = voter.Drep drep in
+    record {
+      noted = λ c q.
+          ap (λ (ids : List ActionId). has_member action_id_cmp ids q) (left c)
+          ∙ elim (eq_by_cmp credential_cmp drep c) as (λ b. has_member action_id_cmp (cond b [] (noted_of old c)) q ≡ (not b && is_noted old c q)) [ true ↦ refl | false ↦ refl ]
+          ∙ ap (λ b. not (is_drep v c) && b) (h.noted c q)
+          ∙ sym (vote_less v c (proposal_of q ps) (ordered_found q ps o))
+          ∙ ap (λ (x : Option Proposal). some_and (has_vote c) x) (sym (found_mapped (without_vote v) (λ _. refl) q ps));
+      once = λ c. subst (λ (ids : List ActionId). IsDistinct same_action ids) (sym (left c))
+          (elim (eq_by_cmp credential_cmp drep c) as (λ b. IsDistinct same_action (cond b [] (noted_of old c))) [ true ↦ tt | false ↦ h.once c ]);
+    }
 
-pub all_noted_cleared : (drep : Credential) (old new : Notes) → HasLeft drep old new → (es : List (ActionId × Proposal)) → AllOrdered (values_of es) → AllNoted old (values_of es) → AllNoted new (values_of (each (without_vote (voter.Drep drep)) es))
-all_noted_cleared drep old new left es o all = all_noted_each (without_vote (voter.Drep drep)) old new (noted_cleared drep old new left) es o all
+-- the votes of DReps on a proposal are noted
+abbrev IsNoted : Notes → Proposal → Type 0
+IsNoted notes p = (c : Credential) → is_noted notes c p.id ≡ has_vote c p
+
+all_noted_from : (notes : Notes) (all ps : List Proposal) → AreNoted notes all → AllByRecursion (λ (p : Proposal). proposal_of p.id all ≡ Some p) ps → AllByRecursion (λ (p : Proposal). IsNoted notes p) ps
+all_noted_from notes all [] h f = tt
+all_noted_from notes all (p ∷ ps) h f = (found_noted notes p.id p all h f.0, all_noted_from notes all ps h f.1)
+
+later_found : (p : Proposal) (all ps : List Proposal) → AllByRecursion (λ q. same_action p.id q ≡ false) (ids_of ps) → AllByRecursion (λ (q : Proposal). proposal_of q.id all ≡ Some q) ps
+    → AllByRecursion (λ (q : Proposal). proposal_of q.id (p ∷ all) ≡ Some q) ps
+later_found p all [] d f = tt
+later_found p all (q ∷ ps) d f = (ap (λ b. cond b (Some p) (proposal_of q.id all)) d.0 ∙ f.0, later_found p all ps d.1 f.1)
+
+-- each is found by its id
+all_found : (ps : List Proposal) → IsDistinct same_action (ids_of ps) → AllByRecursion (λ (p : Proposal). proposal_of p.id ps ≡ Some p) ps
+unfolding IsDistinct
+all_found [] d = tt
+all_found (p ∷ ps) d = (ap (λ b. cond b (Some p) (proposal_of p.id ps)) ((eq_by_cmp_equiv action_id_total).refl p.id), later_found p ps ps d.0 (all_found ps d.1))
 
 -- it has no vote where none is noted
 dropped_is : (notes : Notes) (drep : Credential) (p : Proposal) → IsNoted notes p → dropping (voter.Drep drep) (noted_of notes drep) p ≡ without_vote (voter.Drep drep) p
 dropped_is notes drep p h =
     let v = voter.Drep drep in
-    elim (is_noted notes drep p.id) as (λ b. is_noted notes drep p.id ≡ b → cond b (without_vote v p) p ≡ without_vote v p) [
-      | true ↦ λ _. refl
-      | false ↦ λ none. elim (value_at voter_cmp p.votes v) as (λ (o : Option Vote). value_at voter_cmp p.votes v ≡ o → p ≡ without_vote v p) [
-        | None ↦ λ e. ap (λ (votes : List (Voter × Vote)). record p { votes = votes }) (sym (without_key_absent voter_cmp v p.votes e))
-        | Some x ↦ λ e. let noted : is_noted notes drep p.id ≡ true = h drep (ap (λ (o : Option Vote). is_some o) e) in cc
-      ] refl
+    ap (λ b. cond b (without_vote v p) p) (h drep)
+    ∙ elim (value_at voter_cmp p.votes v) as (λ (o : Option Vote). value_at voter_cmp p.votes v ≡ o → cond (is_some o) (without_vote v p) p ≡ without_vote v p) [
+      | None ↦ λ e. ap (λ (votes : List (Voter × Vote)). record p { votes = votes }) (sym (without_key_absent voter_cmp v p.votes e))
+      | Some x ↦ λ _. refl
     ] refl
 
-pub each_dropped : (notes : Notes) (drep : Credential) (es : List (ActionId × Proposal)) → AllNoted notes (values_of es) → each (dropping (voter.Drep drep) (noted_of notes drep)) es ≡ each (without_vote (voter.Drep drep)) es
-each_dropped notes drep [] h = refl
-each_dropped notes drep (e ∷ es) h = λ i. (e.0, dropped_is notes drep e.1 h.0 i) ∷ each_dropped notes drep es h.1 i
+dropped_each : (notes : Notes) (drep : Credential) (es : List (ActionId × Proposal)) → AllByRecursion (λ (p : Proposal). IsNoted notes p) (values_of es) → each (dropping (voter.Drep drep) (noted_of notes drep)) es ≡ each (without_vote (voter.Drep drep)) es
+dropped_each notes drep [] h = refl
+dropped_each notes drep (e ∷ es) h = λ i. (e.0, dropped_is notes drep e.1 h.0 i) ∷ dropped_each notes drep es h.1 i
+
+pub each_dropped : (notes : Notes) (drep : Credential) (es : List (ActionId × Proposal)) → IsDistinct same_action (ids_of (values_of es)) → AreNoted notes (values_of es)
+    → each (dropping (voter.Drep drep) (noted_of notes drep)) es ≡ each (without_vote (voter.Drep drep)) es
+each_dropped notes drep es d h = dropped_each notes drep es (all_noted_from notes (values_of es) (values_of es) h (all_found (values_of es) d))
 
 -- ---- one id after another
 

@@ -20,10 +20,10 @@ use Rattle.gov_model.specs.Proposals.{proposal_of, is_child, children_of, deposi
 use Rattle.maps.proofs.Kept.{IsMap-with_value, IsMap-without_key}
 use Rattle.maps.specs.Maps.{IsMap}
 use Rattle.proposal_store.specs.declared.families.Parent.{Parent}
-use Rattle.proposal_store.specs.Added.{is_proposed}
+use Rattle.proposal_store.specs.Added.{times_added}
 use Rattle.proposal_store.specs.Changes.{each, changing}
 use Rattle.proposal_store.specs.Store.{AllKeyed, AllOrdered, IsStore}
-use Rattle.proposal_store.proofs.Adding.{Marks, kept_by}
+use Rattle.proposal_store.proofs.Adding.{Counts, kept_by}
 
 -- only votes are changed, and they stay in order
 pub record ChangesVotes (g : Proposal → Proposal) : Type 0 where
@@ -74,14 +74,14 @@ module _ (g : Proposal → Proposal) (c : ChangesVotes g) where
         | false ↦ later
       ]
 
-  pub IsStore-voted : (es : List (ActionId × Proposal)) (index : List (Parent × List ActionId)) (marks : Marks) (sum : ℕ) → IsStore es index marks sum → IsStore (each g es) index marks sum
-  IsStore-voted es index marks sum h =
+  pub IsStore-voted : (es : List (ActionId × Proposal)) (index : List (Parent × List ActionId)) (counts : Counts) (sum : ℕ) → IsStore es index counts sum → IsStore (each g es) index counts sum
+  IsStore-voted es index counts sum h =
       let values : values_of (each g es) ≡ map g (values_of es) = values_each g es in
       record {
         keyed = keyed_each es h.keyed;
         distinct = subst (λ (ids : List ActionId). IsDistinct same_action ids) (sym (ap (λ (ps : List Proposal). ids_of ps) values ∙ ids_each (values_of es))) h.distinct;
         children = λ q. h.children q ∙ sym (ap (λ (ps : List Proposal). children_of q.purpose q.previous ps) values ∙ children_each q.purpose q.previous (values_of es));
-        added = λ q. h.added q ∙ sym (ap (λ (ps : List Proposal). is_proposed q ps) values ∙ kept_by g c.actions q (values_of es));
+        added = λ q. h.added q ∙ sym (ap (λ (ps : List Proposal). times_added q ps) values ∙ kept_by g c.actions q (values_of es));
         deposits = h.deposits ∙ sym (ap (λ (ps : List Proposal). deposits_of ps) values ∙ deposits_each (values_of es));
         ordered = subst (λ (ps : List Proposal). AllOrdered ps) (sym values) (ordered_each (values_of es) h.ordered);
       }

@@ -1,33 +1,36 @@
--- The cold keys that live proposals add to the committee, as they are marked beside the proposals. (GOVCERT of the formal specification; that they are marked is own)
-use Rattle.std.specs.Prelude.{◌≡◌, ℕ, Bool, true, false, List, unwrap_or}
-use Rattle.std.specs.List.{list_any}
+-- The cold keys that live proposals add to the committee, as they are counted beside the proposals. (GOVCERT of the formal specification; that they are counted is own)
+use Rattle.std.specs.Prelude.{◌≡◌, ℕ, Bool, List, [], sum_by, unwrap_or}
+use Rattle.std.specs.List.{count_by, list_any}
+use Rattle.gov_actions.specs.declared.action.Action.{Action}
+use Rattle.gov_actions.specs.declared.action.Action.TheVariants.{UpdateCommittee}
 use Rattle.gov_actions.specs.declared.action.Proposal.{Proposal}
 use Rattle.gov_ids.specs.declared.Credential.{Credential}
 use Rattle.gov_ids.specs.Orders.{credential_cmp}
 use Rattle.gov_ids.specs.Same.{same_credential}
 use Rattle.ledger_model.specs.CertRules.{adds_member}
-use Rattle.maps.specs.Maps.{has_key, value_at}
+use Rattle.maps.specs.Maps.{value_at}
 
 -- a live proposal adds the cold key
 abbrev pub is_proposed : Credential → List Proposal → Bool
 is_proposed c ps = list_any (λ (p : Proposal). adds_member c p.action) ps
 
--- a cold key is one of these new members
-abbrev pub is_new_member : Credential → List (Credential × ℕ) → Bool
-is_new_member c add = list_any (λ m. same_credential c m.0) add
+-- the members that an action adds
+abbrev pub members_added : Action → List (Credential × ℕ)
+members_added (UpdateCommittee previous remove add threshold) = add
+members_added _ = []
 
--- the key is marked
-abbrev pub is_marked : List (Credential × Bool) → Credential → Bool
-is_marked marks c = unwrap_or (value_at credential_cmp marks c) false
+-- how often a cold key is one of these new members
+abbrev pub count_among : Credential → List (Credential × ℕ) → ℕ
+count_among c add = count_by (λ (m : Credential × ℕ). same_credential c m.0) add
 
--- exactly the keys that live proposals add are marked
-abbrev pub AreMarked : List (Credential × Bool) → List Proposal → Type 0
-AreMarked marks ps = (c : Credential) → is_marked marks c ≡ is_proposed c ps
+-- how often live proposals add a cold key
+abbrev pub times_added : Credential → List Proposal → ℕ
+times_added c ps = sum_by (λ (p : Proposal). count_among c (members_added p.action)) ps
 
--- the same keys are marked
-abbrev pub SameMarks : List (Credential × Bool) → List (Credential × Bool) → Type 0
-SameMarks old new = (c : Credential) → is_marked new c ≡ is_marked old c
+-- the count that is kept of a cold key, 0 where there is none
+abbrev pub count_at : List (Credential × ℕ) → Credential → ℕ
+count_at counts c = unwrap_or (value_at credential_cmp counts c) 0
 
--- each of these new members has its place
-abbrev pub HavePlaces : List (Credential × ℕ) → List (Credential × Bool) → Type 0
-HavePlaces add marks = (c : Credential) → is_new_member c add ≡ true → has_key credential_cmp marks c ≡ true
+-- each cold key has its count
+abbrev pub AreCounted : List (Credential × ℕ) → List Proposal → Type 0
+AreCounted counts ps = (c : Credential) → count_at counts c ≡ times_added c ps

@@ -1,5 +1,5 @@
 -- The index of children, by what they follow.
-use Rattle.std.specs.Prelude.{List, [], unwrap_or}
+use Rattle.std.specs.Prelude.{◌-◌, List, [], length, take, unwrap_or}
 use Rattle.std.specs.declared.cmp.Ordering.{Ordering}
 use Rattle.gov_ids.specs.declared.ActionId.{ActionId}
 use Rattle.maps.specs.Maps.{value_at}
@@ -13,3 +13,7 @@ parent_cmp = parent_ord.cmp-value.it
 -- the ids that the index has
 abbrev pub ids_at : List (Parent × List ActionId) → Parent → List ActionId
 ids_at index k = unwrap_or (value_at parent_cmp index k) []
+
+-- these without the last, if there is one
+abbrev pub all_but_last : {A : Type 0} → List A → List A
+all_but_last xs = take (length xs - 1) xs

@@ -11,7 +11,7 @@ use Rattle.gov_model.specs.Ratified.{ids_of}
 use Rattle.gov_model.specs.Proposals.{children_of, deposits_of}
 use Rattle.maps.specs.Maps.{IsMap, has_member}
 use Rattle.proposal_store.specs.declared.families.Parent.{Parent}
-use Rattle.proposal_store.specs.Added.{AreMarked}
+use Rattle.proposal_store.specs.Added.{AreCounted}
 use Rattle.proposal_store.specs.Families.{ids_at}
 
 -- each proposal stands at its id
@@ -22,12 +22,12 @@ AllKeyed es = AllByRecursion (λ (e : ActionId × Proposal). e.0 ≡ e.1.id) es
 abbrev pub AllOrdered : List Proposal → Type 0
 AllOrdered ps = AllByRecursion (λ (p : Proposal). IsMap voter_cmp p.votes) ps
 
--- each proposal stands at its id, no two have one, the index has the children of each, the cold keys that they add are marked, and the sum is that of the deposits
-pub record IsStore (entries : List (ActionId × Proposal)) (index : List (Parent × List ActionId)) (marks : List (Credential × Bool)) (sum : ℕ) : Type 0 where
+-- each proposal stands at its id, no two have one, the index has the children of each, the cold keys that they add are counted, and the sum is that of the deposits
+pub record IsStore (entries : List (ActionId × Proposal)) (index : List (Parent × List ActionId)) (counts : List (Credential × ℕ)) (sum : ℕ) : Type 0 where
   pub keyed : AllKeyed entries
   pub distinct : IsDistinct same_action (ids_of (values_of entries))
   pub children : (q : Parent) → ids_at index q ≡ children_of q.purpose q.previous (values_of entries)
-  pub added : AreMarked marks (values_of entries)
+  pub added : AreCounted counts (values_of entries)
   pub deposits : sum ≡ deposits_of (values_of entries)
   pub ordered : AllOrdered (values_of entries)
 

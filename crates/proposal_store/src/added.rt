@@ -1,10 +1,7 @@
-ghost use Rattle.std.specs.Prelude.{◌≡◌, ◌||◌, [], true, OnOk};
-ghost use Rattle.std.specs.Ordering.{eq_by_cmp};
+ghost use Rattle.std.specs.Prelude.{◌≡◌, ◌+◌, ◌-◌, [], nat_lt, OnOk, OnErr, if◌then◌else◌};
 ghost use Rattle.gov_ids.specs.declared.Credential.{Credential};
-ghost use Rattle.gov_ids.specs.Orders.{credential_cmp};
-ghost use Rattle.ledger_model.specs.CertRules.{adds_member};
-ghost use Rattle.maps.specs.Maps.{has_key};
-ghost use Rattle.proposal_store.specs.Added.{is_marked, is_new_member, HavePlaces, SameMarks};
+ghost use Rattle.gov_ids.specs.Same.{same_credential};
+ghost use Rattle.proposal_store.specs.Added.{count_among, count_at, members_added};
 
 use coin_frac::NoMemory;
 use gov_actions::Action;
@@ -13,19 +10,19 @@ use std::alloc::Global;
 use std::collections::BTreeMap;
 use std::marker::Model;
 
-// The cold keys that live proposals add to the committee are marked, so that whether one adds a key is no walk. A key gets its place before it is marked, so that want of memory changes no mark.
+// How often live proposals add each cold key to the committee, so that whether one adds a key is no walk; a key that none adds stands in no entry.
 #[derive(Drop)]
 pub(crate) struct AddedKeys {
-    marks: BTreeMap<Credential, bool>,
+    counts: BTreeMap<Credential, u64>,
 }
 
 impl Model for AddedKeys {
-    ghost use Rattle.std.specs.Prelude.{Bool, List};
+    ghost use Rattle.std.specs.Prelude.{ℕ, List};
     ghost use Rattle.gov_ids.specs.declared.Credential.{Credential};
 
-    ghost Value = { List (Credential × Bool) };
+    ghost Value = { List (Credential × ℕ) };
 
-    ghost view = { λ a. a.marks.entries };
+    ghost view = { λ a. a.counts.entries };
 }
 
 impl AddedKeys {
@@ -33,66 +30,74 @@ impl AddedKeys {
         ensures { result ≡ [] }
     {
         AddedKeys {
-            marks: BTreeMap::new(alloc),
+            counts: BTreeMap::new(alloc),
         }
     }
 
     pub(crate) fn has(&self, cold: &Credential) -> bool
-        ensures { result ≡ is_marked self.now cold.now }
+        ensures { result ≡ nat_lt 0 (count_at self.now cold.now) }
     {
-        self.marks.get(cold).copied().unwrap_or(false)
+        self.of(cold) > 0
     }
 
-    // Places for these new members, without a mark. Want of memory changes no mark.
-    pub(crate) fn make_places(&mut self, add: &[(Credential, u64)]) -> Result<(), NoMemory>
-        ensures same { SameMarks self.old self.new }
-        ensures places { OnOk result (HavePlaces add.now self.new) }
+    // How often a key is added.
+    fn of(&self, cold: &Credential) -> u64
+        ensures { result ≡ count_at self.now cold.now }
     {
-        for (cold, _) in add {
-            self.make_place(*cold)?;
+        self.counts.get(cold).copied().unwrap_or(0)
+    }
+
+    // These new members are counted. Want of memory changes no count; a count past 64 bits is more than any memory holds.
+    pub(crate) fn raise(&mut self, add: &[(Credential, u64)]) -> Result<(), NoMemory>
+        ensures ok { OnOk result ((c : Credential) → count_at self.new c ≡ count_at self.old c + count_among c add.now) }
+        ensures err { OnErr result ((c : Credential) → count_at self.new c ≡ count_at self.old c) }
+    {
+        for (place, (cold, _)) in add.iter().enumerate() {
+            let Ok(()) = self.raise_one(*cold) else {
+                self.lower(&add[..place]);
+                return Err(NoMemory);
+            };
         }
         Ok(())
     }
 
-    // These new members, which have their places, are marked.
-    pub(crate) fn mark(&mut self, add: &[(Credential, u64)])
-        requires { HavePlaces add.now self.old }
-        ensures { (c : Credential) → is_marked self.new c ≡ (is_marked self.old c || is_new_member c add.now) }
+    // These new members are no longer counted. It takes no memory.
+    pub(crate) fn lower(&mut self, add: &[(Credential, u64)])
+        ensures { (c : Credential) → count_at self.new c ≡ count_at self.old c - count_among c add.now }
     {
         for (cold, _) in add {
-            self.mark_one(cold);
+            self.lower_one(cold);
         }
     }
 
-    fn make_place(&mut self, cold: Credential) -> Result<(), NoMemory>
-        ensures same { SameMarks self.old self.new }
-        ensures placed { OnOk result ((c : Credential) → has_key credential_cmp self.new c
-            ≡ (eq_by_cmp credential_cmp cold c || has_key credential_cmp self.old c)) }
+    // A key is added once more. Want of memory changes nothing.
+    fn raise_one(&mut self, cold: Credential) -> Result<(), NoMemory>
+        ensures ok { OnOk result ((c : Credential) → count_at self.new c
+            ≡ count_at self.old c + (if same_credential c cold then 1 else 0)) }
+        ensures err { OnErr result (self.new ≡ self.old) }
     {
-        if self.marks.contains_key(&cold) {
-            return Ok(());
-        }
-        self.marks.insert(cold, false)?;
+        let count = self.of(&cold).checked_add(1).ok_or(NoMemory)?;
+        self.counts.insert(cold, count)?;
         Ok(())
     }
 
-    fn mark_one(&mut self, cold: &Credential)
-        requires { has_key credential_cmp self.old cold.now ≡ true }
-        ensures marked { (c : Credential) → is_marked self.new c
-            ≡ (eq_by_cmp credential_cmp cold.now c || is_marked self.old c) }
-        ensures places { (c : Credential) →
-            has_key credential_cmp self.old c ≡ true → has_key credential_cmp self.new c ≡ true }
+    // A key is added once less.
+    fn lower_one(&mut self, cold: &Credential)
+        ensures { (c : Credential) → count_at self.new c
+            ≡ count_at self.old c - (if same_credential c cold.now then 1 else 0) }
     {
-        let Some(mark) = self.marks.get_mut(cold) else {
-            unreachable!()
-        };
-        *mark = true;
+        let left = self.of(cold).saturating_sub(1);
+        if left == 0 {
+            self.counts.remove(cold);
+        } else if let Some(count) = self.counts.get_mut(cold) {
+            *count = left;
+        }
     }
 }
 
 // The members that an action adds to the committee.
 pub(crate) fn new_members(action: &Action) -> &[(Credential, u64)]
-    ensures { (c : Credential) → is_new_member c result.now ≡ adds_member c action.now }
+    ensures { result.now ≡ members_added action.now }
 {
     match action {
         Action::UpdateCommittee { add, .. } => add.as_slice(),

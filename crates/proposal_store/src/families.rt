@@ -1,8 +1,8 @@
 ghost use Rattle.std.specs.Prelude.{◌≡◌, ◌++◌, [], ◌∷◌, OnOk, OnErr, if◌then◌else◌};
 ghost use Rattle.std.specs.Ordering.{eq_by_cmp};
-ghost use Rattle.gov_model.specs.Proposals.{children_of};
+ghost use Rattle.gov_model.specs.Proposals.{children_of, is_child};
 ghost use Rattle.proposal_store.specs.declared.families.Parent.{Parent};
-ghost use Rattle.proposal_store.specs.Families.{parent_cmp, ids_at};
+ghost use Rattle.proposal_store.specs.Families.{parent_cmp, ids_at, all_but_last};
 
 use crate::live::LiveProposal;
 use coin_frac::NoMemory;
@@ -83,5 +83,40 @@ impl Families {
             Some(purpose) => self.add(Parent { purpose, previous }, p.id()),
             None => Ok(()),
         }
+    }
+
+    // A proposal that is the last child of what it follows leaves the children. It takes no memory.
+    pub(crate) fn forget_last(&mut self, p: &LiveProposal)
+        ensures { (q : Parent) → ids_at self.new q ≡ (if is_child q.purpose q.previous p.now
+            then all_but_last (ids_at self.old q) else ids_at self.old q) }
+    {
+        let previous = p.action().previous();
+        if let Some(purpose) = p.action().purpose() {
+            self.drop_last(&Parent { purpose, previous });
+        }
+    }
+
+    // The last child leaves.
+    fn drop_last(&mut self, parent: &Parent)
+        ensures { (q : Parent) → ids_at self.new q ≡ (if eq_by_cmp parent_cmp parent.now q
+            then all_but_last (ids_at self.old q) else ids_at self.old q) }
+    {
+        let Some(ids) = self.index.get_mut(parent) else {
+            return;
+        };
+        cut_last(ids);
+        if ids.is_empty() {
+            let emptied = self.index.remove(parent);
+            drop(emptied);
+        }
+    }
+}
+
+// The last of these ids leaves, if there is one.
+fn cut_last(ids: &mut Listed<ActionId>)
+    ensures { ids.new ≡ all_but_last ids.old }
+{
+    if let Some(last) = ids.len().checked_sub(1) {
+        ids.remove(last);
     }
 }

@@ -1,8 +1,11 @@
-ghost use Rattle.std.specs.Prelude.{◌≡◌, [], IfOk, OnOk, OnErr};
-ghost use Rattle.gov_ids.specs.Orders.{voter_cmp};
+ghost use Rattle.std.specs.Prelude.{◌≡◌, ◌++◌, [], ◌∷◌, false, IfOk, OnOk, OnErr, if◌then◌else◌};
+ghost use Rattle.gov_ids.specs.declared.ActionId.{ActionId};
+ghost use Rattle.gov_ids.specs.declared.Credential.{Credential};
+ghost use Rattle.gov_ids.specs.Orders.{action_id_cmp, voter_cmp};
+ghost use Rattle.gov_ids.specs.Same.{same_action};
 ghost use Rattle.gov_model.specs.Proposals.{with_vote, without_vote};
-ghost use Rattle.maps.specs.Maps.{IsMap, value_at, with_values};
-ghost use Rattle.proposal_store.specs.Voted.{IsNoted, KeepsNotes};
+ghost use Rattle.maps.specs.Maps.{IsMap, value_at, with_values, without_member};
+ghost use Rattle.proposal_store.specs.Voted.{AreOnce, has_vote, is_noted, noted_of};
 
 use crate::voted::VotedOn;
 use coin_frac::NoMemory;
@@ -121,19 +124,60 @@ impl LiveProposal {
         })
     }
 
-    // The votes are noted.
+    // The votes of DReps are noted, of which none is. Want of memory changes no note.
     pub(crate) fn note_votes(&self, voted: &mut VotedOn) -> Result<(), NoMemory>
-        ensures kept { KeepsNotes voted.old voted.new }
-        ensures noted { OnOk result (IsNoted voted.new self.now) }
+        requires ordered { IsMap voter_cmp self.now.votes }
+        requires fresh { (c : Credential) → is_noted voted.old c self.now.id ≡ false }
+        requires once { AreOnce voted.old }
+        ensures ok { OnOk result ((c : Credential) → noted_of voted.new c ≡
+            (if has_vote c self.now then noted_of voted.old c ++ self.now.id ∷ [] else noted_of voted.old c)) }
+        ensures err { OnErr result ((c : Credential) → noted_of voted.new c ≡ noted_of voted.old c) }
+        ensures apart { AreOnce voted.new }
     {
         for (v, _) in &self.votes {
-            voted.note_vote(v, self.proposal.id)?;
+            let Ok(()) = voted.note_vote(v, self.proposal.id) else {
+                self.forget_votes(voted);
+                return Err(NoMemory);
+            };
         }
         Ok(())
     }
 
+    // The notes of its votes leave. It takes no memory.
+    pub(crate) fn forget_votes(&self, voted: &mut VotedOn)
+        requires { AreOnce voted.old }
+        ensures without { (c : Credential) → noted_of voted.new c ≡ (if has_vote c self.now
+            then without_member action_id_cmp self.now.id (noted_of voted.old c) else noted_of voted.old c) }
+        ensures once { AreOnce voted.new }
+    {
+        for (v, _) in &self.votes {
+            voted.forget_vote(v, &self.proposal.id);
+        }
+    }
+
+    // A vote in place of an earlier one of the voter, with its note. Want of memory changes no vote and no note.
+    pub(crate) fn vote(&mut self, voted: &mut VotedOn, v: Voter, vote: Vote) -> Result<(), NoMemory>
+        requires noted { (c : Credential) → is_noted voted.old c self.old.id ≡ has_vote c self.old }
+        requires once { AreOnce voted.old }
+        ensures ok { OnOk result (self.new ≡ with_vote v vote self.old) }
+        ensures err { OnErr result (self.new ≡ self.old) }
+        ensures notes { (c : Credential) (id : ActionId) → is_noted voted.new c id ≡
+            (if same_action self.old.id id then has_vote c self.new else is_noted voted.old c id) }
+        ensures apart { AreOnce voted.new }
+    {
+        if self.vote_of(&v).is_some() {
+            return self.put_vote(v, vote);
+        }
+        voted.note_vote(&v, self.proposal.id)?;
+        let Ok(()) = self.put_vote(v, vote) else {
+            voted.forget_vote(&v, &self.proposal.id);
+            return Err(NoMemory);
+        };
+        Ok(())
+    }
+
     // A vote in place of an earlier one of the voter. Want of memory changes nothing.
-    pub(crate) fn put_vote(&mut self, v: Voter, vote: Vote) -> Result<(), NoMemory>
+    fn put_vote(&mut self, v: Voter, vote: Vote) -> Result<(), NoMemory>
         ensures ok { OnOk result (self.new ≡ with_vote v vote self.old) }
         ensures err { OnErr result (self.new ≡ self.old) }
     {

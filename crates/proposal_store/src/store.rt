@@ -1,14 +1,19 @@
-ghost use Rattle.std.specs.Prelude.{◌≡◌, ◌+◌, ◌^◌, ◌<◌, ◌++◌, [], ◌∷◌, None, filter, map, length, slice_get, OnOk, OnErr, IfOk};
+ghost use Rattle.std.specs.Prelude.{◌≡◌, ◌+◌, ◌^◌, ◌<◌, ◌++◌, [], ◌∷◌, false, None, filter, map, length, slice_get, take, OnOk, OnErr, IfOk, if◌then◌else◌};
 ghost use Rattle.std.specs.Option.{option_copied};
 ghost use Rattle.std.specs.List.{IsDistinct};
 ghost use Rattle.std.specs.Map.{values_of};
+ghost use Rattle.gov_ids.specs.declared.ActionId.{ActionId};
 ghost use Rattle.gov_ids.specs.declared.Voter.TheVariants.{Drep};
-ghost use Rattle.gov_ids.specs.Orders.{voter_cmp};
+ghost use Rattle.gov_ids.specs.Orders.{action_id_cmp, voter_cmp};
 ghost use Rattle.gov_ids.specs.Same.{same_action};
 ghost use Rattle.gov_model.specs.Ratified.{ids_of};
 ghost use Rattle.gov_model.specs.Proposals.{proposal_of, children_of, deposits_of, those_of, others_than, with_vote, without_vote, with_change};
-ghost use Rattle.maps.specs.Maps.{IsMap};
-ghost use Rattle.proposal_store.specs.Added.{is_proposed};
+ghost use Rattle.maps.specs.Maps.{IsMap, has_member};
+ghost use Rattle.gov_ids.specs.declared.Credential.{Credential};
+ghost use Rattle.proposal_store.specs.declared.families.Parent.{Parent};
+ghost use Rattle.proposal_store.specs.Added.{count_among, count_at, is_proposed, members_added};
+ghost use Rattle.proposal_store.specs.Families.{all_but_last, ids_at};
+ghost use Rattle.proposal_store.specs.Voted.{has_vote, is_noted, is_voted_on, noted_of, AreOnce};
 ghost use Rattle.proposal_store.specs.Leaving.{without_votes_of};
 ghost use Rattle.proposal_store.specs.Changes.{each, changing, dropping};
 ghost use Rattle.proposal_store.specs.Store.{AllKeyed, AllOrdered, is_in, is_out};
@@ -56,14 +61,14 @@ impl Model for ProposalStore {
     ghost use Rattle.std.specs.Map.{values_of};
     ghost use Rattle.gov_actions.specs.declared.action.Proposal.{Proposal};
     ghost use Rattle.proposal_store.specs.Store.{IsStore};
-    ghost use Rattle.proposal_store.specs.Voted.{AllNoted};
+    ghost use Rattle.proposal_store.specs.Voted.{AreNoted};
 
     ghost Value = { List Proposal };
 
     ghost view = { λ a. values_of a.proposals.entries };
 
     ghost invariant = { λ a. IsStore a.proposals.entries a.families a.added a.deposits
-        × AllNoted a.voted (values_of a.proposals.entries) };
+        × AreNoted a.voted (values_of a.proposals.entries) };
 }
 
 impl ProposalStore {
@@ -148,6 +153,28 @@ impl ProposalStore {
         self.refill(old.into_proposals(), &keep)
     }
 
+    /// Keeps the first proposals in order of submission, `n` at most. It takes no memory, and walks those that leave. (Own)
+    pub fn keep_first(&mut self, n: u64)
+        ensures { self.new ≡ take n self.old }
+    {
+        for _ in n..self.len() {
+            self.drop_last();
+        }
+    }
+
+    // The last proposal leaves, with its votes.
+    fn drop_last(&mut self)
+        ensures { self.new ≡ all_but_last self.old }
+    {
+        let Some((_, p)) = self.proposals.pop() else {
+            return;
+        };
+        p.forget_votes(&mut self.voted);
+        self.families.forget_last(&p);
+        self.added.lower(new_members(p.action()));
+        self.deposits -= p.deposit();
+    }
+
     // The proposals, each at its id.
     fn into_proposals(self) -> IndexMap<ActionId, LiveProposal>
         ensures proposals { values_of result.entries ≡ self }
@@ -171,11 +198,10 @@ impl ProposalStore {
         ensures ok { OnOk result (self.new ≡ with_change id.now (with_vote v vote) self.old) }
         ensures err { OnErr result (self.new ≡ self.old) }
     {
-        let Some(p) = self.proposals.get_mut(id) else {
-            return Ok(());
-        };
-        self.voted.note_voter(p, &v)?;
-        p.put_vote(v, vote)
+        match self.proposals.get_mut(id) {
+            Some(p) => p.vote(&mut self.voted, v, vote),
+            None => Ok(()),
+        }
     }
 
     /// The vote of a voter on the proposal of an id leaves, if there is one. (Own)
@@ -183,6 +209,15 @@ impl ProposalStore {
         ensures { self.new ≡ with_change id.now (without_vote v.now) self.old }
     {
         drop_at(&mut self.proposals, id, v);
+        self.voted.forget_vote(v, id);
+    }
+
+    /// The ids of the proposals on which a DRep has a vote, each once, in no order that means anything. It walks no proposal. (Own)
+    pub fn voted_on(&self, drep: &Credential) -> &[ActionId]
+        ensures voted { (id : ActionId) → has_member action_id_cmp result.now id ≡ is_voted_on drep.now id self.now }
+        ensures once { IsDistinct same_action result.now }
+    {
+        self.voted.of(drep)
     }
 
     /// The votes of a DRep leave all proposals. (Own)
@@ -219,11 +254,7 @@ impl ProposalStore {
         ensures err { OnErr result (self.new ≡ self.old) }
     {
         self.proposals.reserve(1)?;
-        let add = new_members(p.action());
-        self.added.make_places(add)?;
-        p.note_votes(&mut self.voted)?;
-        self.families.note(&p)?;
-        self.added.mark(add);
+        note_beside(&p, &mut self.families, &mut self.voted, &mut self.added)?;
         self.deposits += p.deposit();
         self.proposals.insert(p.id(), p)?;
         Ok(())
@@ -252,6 +283,41 @@ impl ProposalStore {
         }
         Ok(removed)
     }
+}
+
+// What is kept beside the proposals, with one more. Want of memory changes no child, no note and no count.
+fn note_beside(
+    p: &LiveProposal,
+    families: &mut Families,
+    voted: &mut VotedOn,
+    added: &mut AddedKeys,
+) -> Result<(), NoMemory>
+    requires ordered { IsMap voter_cmp p.now.votes }
+    requires fresh { (c : Credential) → is_noted voted.old c p.now.id ≡ false }
+    requires once { AreOnce voted.old }
+    ensures children { OnOk result ((q : Parent) →
+        ids_at families.new q ≡ ids_at families.old q ++ children_of q.purpose q.previous (p.now ∷ [])) }
+    ensures notes { OnOk result ((c : Credential) → noted_of voted.new c ≡
+        (if has_vote c p.now then noted_of voted.old c ++ p.now.id ∷ [] else noted_of voted.old c)) }
+    ensures counts { OnOk result ((c : Credential) →
+        count_at added.new c ≡ count_at added.old c + count_among c (members_added p.now.action)) }
+    ensures no_child { OnErr result (families.new ≡ families.old) }
+    ensures no_note { OnErr result ((c : Credential) → noted_of voted.new c ≡ noted_of voted.old c) }
+    ensures no_count { OnErr result ((c : Credential) → count_at added.new c ≡ count_at added.old c) }
+    ensures apart { AreOnce voted.new }
+{
+    let add = new_members(p.action());
+    added.raise(add)?;
+    let Ok(()) = p.note_votes(voted) else {
+        added.lower(add);
+        return Err(NoMemory);
+    };
+    let Ok(()) = families.note(p) else {
+        p.forget_votes(voted);
+        added.lower(add);
+        return Err(NoMemory);
+    };
+    Ok(())
 }
 
 // The vote of a voter leaves the proposals of these ids.

@@ -1,11 +1,13 @@
-ghost use Rattle.std.specs.Prelude.{◌≡◌, ◌++◌, [], ◌∷◌, true, OnOk, OnErr, if◌then◌else◌};
+ghost use Rattle.std.specs.Prelude.{◌≡◌, ◌++◌, [], ◌∷◌, true, false, None, slice_get, IfSome, OnOk, OnErr, if◌then◌else◌};
 ghost use Rattle.std.specs.Ordering.{eq_by_cmp};
+ghost use Rattle.std.specs.List.{IsDistinct};
 ghost use Rattle.gov_ids.specs.declared.Credential.{Credential};
-ghost use Rattle.gov_ids.specs.declared.Voter.TheVariants.{Drep};
-ghost use Rattle.gov_ids.specs.Orders.{credential_cmp};
-ghost use Rattle.proposal_store.specs.Voted.{noted_of, is_noted, KeepsNotes, IsNoted};
+ghost use Rattle.gov_ids.specs.Orders.{action_id_cmp, credential_cmp};
+ghost use Rattle.gov_ids.specs.Same.{same_action};
+ghost use Rattle.maps.specs.Maps.{has_member, without_member};
+ghost use Rattle.maps.specs.Words.{some_and};
+ghost use Rattle.proposal_store.specs.Voted.{noted_of, is_drep, AreOnce};
 
-use crate::live::LiveProposal;
 use coin_frac::NoMemory;
 use gov_ids::{ActionId, Credential, Voter};
 use listed::Listed;
@@ -13,7 +15,7 @@ use std::alloc::Global;
 use std::collections::BTreeMap;
 use std::marker::Model;
 
-// The live proposals that each DRep voted on, so that no DRep that leaves walks the others.
+// The live proposals on which each DRep has a vote, so that no DRep that leaves walks the others.
 #[derive(Drop)]
 pub(crate) struct VotedOn {
     alloc: Global,
@@ -40,6 +42,16 @@ impl VotedOn {
         }
     }
 
+    // The proposals of a DRep.
+    pub(crate) fn of(&self, drep: &Credential) -> &[ActionId]
+        ensures { result.now ≡ noted_of self.now drep.now }
+    {
+        match self.notes.get(drep) {
+            Some(ids) => ids.as_slice(),
+            None => &[],
+        }
+    }
+
     // The proposals of a DRep, which leave the notes.
     pub(crate) fn take(&mut self, drep: &Credential) -> Listed<ActionId>
         ensures taken { result ≡ noted_of self.old drep.now }
@@ -52,29 +64,26 @@ impl VotedOn {
         }
     }
 
-    // A proposal on which a voter is about to vote. Only the first vote of a DRep on it has to be noted.
-    pub(crate) fn note_voter(&mut self, p: &LiveProposal, v: &Voter) -> Result<(), NoMemory>
-        requires { IsNoted self.old p.now }
-        ensures kept { KeepsNotes self.old self.new }
-        ensures noted { OnOk result ((c : Credential) → v.now ≡ Drep c → is_noted self.new c p.now.id ≡ true) }
-    {
-        let Voter::Drep(drep) = v else {
-            return Ok(());
-        };
-        if p.vote_of(v).is_some() {
-            return Ok(());
-        }
-        self.note(*drep, p.id())
-    }
-
-    // A proposal with a vote of a voter.
+    // A vote of a voter on a proposal on which it had none. Want of memory changes nothing.
     pub(crate) fn note_vote(&mut self, v: &Voter, id: ActionId) -> Result<(), NoMemory>
-        ensures kept { KeepsNotes self.old self.new }
-        ensures noted { OnOk result ((c : Credential) → v.now ≡ Drep c → is_noted self.new c id ≡ true) }
+        ensures ok { OnOk result ((c : Credential) → noted_of self.new c ≡
+            (if is_drep v.now c then noted_of self.old c ++ id ∷ [] else noted_of self.old c)) }
+        ensures err { OnErr result (self.new ≡ self.old) }
     {
         match v {
             Voter::Drep(drep) => self.note(*drep, id),
             _ => Ok(()),
+        }
+    }
+
+    // The vote of a voter on a proposal has left. It takes no memory.
+    pub(crate) fn forget_vote(&mut self, v: &Voter, id: &ActionId)
+        requires { AreOnce self.old }
+        ensures { (c : Credential) → noted_of self.new c ≡
+            (if is_drep v.now c then without_member action_id_cmp id.now (noted_of self.old c) else noted_of self.old c) }
+    {
+        if let Voter::Drep(drep) = v {
+            self.forget(drep, id);
         }
     }
 
@@ -93,4 +102,43 @@ impl VotedOn {
         self.notes.insert(drep, ids)?;
         Ok(())
     }
+
+    // One proposal less of a DRep, which is looked for from the end.
+    fn forget(&mut self, drep: &Credential, id: &ActionId)
+        requires { AreOnce self.old }
+        ensures { (c : Credential) → noted_of self.new c ≡ (if eq_by_cmp credential_cmp drep.now c
+            then without_member action_id_cmp id.now (noted_of self.old c) else noted_of self.old c) }
+    {
+        let Some(ids) = self.notes.get_mut(drep) else {
+            return;
+        };
+        take_out(ids, id);
+        if ids.is_empty() {
+            let emptied = self.notes.remove(drep);
+            drop(emptied);
+        }
+    }
+}
+
+// An id leaves these, which name each once.
+fn take_out(ids: &mut Listed<ActionId>, id: &ActionId)
+    requires { IsDistinct same_action ids.old }
+    ensures { ids.new ≡ without_member action_id_cmp id.now ids.old }
+{
+    if let Some(i) = last_place(ids.as_slice(), id) {
+        ids.remove(i);
+    }
+}
+
+// Where an id stands last, none where it does not.
+fn last_place(ids: &[ActionId], id: &ActionId) -> Option<usize>
+    ensures found { IfSome result (λ i. some_and (same_action id.now) (slice_get ids.now i) ≡ true) }
+    ensures absent { result ≡ None → has_member action_id_cmp ids.now id.now ≡ false }
+{
+    for i in (0..ids.len()).rev() {
+        if ids[i] == *id {
+            return Some(i);
+        }
+    }
+    None
 }

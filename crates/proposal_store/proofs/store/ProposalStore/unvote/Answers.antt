@@ -5,8 +5,8 @@ use Rattle.gov_actions.specs.declared.action.Proposal.{Proposal}
 use Rattle.gov_model.specs.Proposals.{without_vote, with_change}
 use Rattle.proposal_store.specs.Changes.{changing}
 use Rattle.proposal_store.specs.Store.{IsStore}
-use Rattle.proposal_store.specs.Voted.{AllNoted}
-use Rattle.proposal_store.proofs.Noting.{all_noted_dropped}
+use Rattle.proposal_store.specs.Voted.{AreNoted}
+use Rattle.proposal_store.proofs.Noting.{AreNoted-dropped}
 use Rattle.proposal_store.proofs.Voting.{values_each, IsStore-voted, changing_votes, dropping_votes}
 use Rattle.proposal_store.proofs.store.ProposalStore.unvote.Goals as goal
 
@@ -23,10 +23,18 @@ returns c =
     ∙ values_each f c.self.inside.proposals.entries
     ∙ ap (λ (ps : List Proposal). with_change c.args.id.now (without_vote c.args.v.now) ps) c.self.view_is
 
+pub forget_vote-requires : goal.forget_vote-requires
+forget_vote-requires c = c.self.invariant.1.once
+
 pub invariant_of-self : goal.invariant_of-self
 invariant_of-self c =
+    let id = c.args.id.now in
     let f = without_vote c.args.v.now in
     let a = c.self.inside in
     let es = a.proposals.entries in
-    subst (λ (l : List (ActionId × Proposal)). IsStore l a.families a.added a.deposits × AllNoted a.voted (values_of l)) (sym c.drop_at.ensures)
-    (IsStore-voted (changing c.args.id.now f) (changing_votes c.args.id.now f (dropping_votes c.args.v.now)) es a.families a.added a.deposits c.self.invariant.0, all_noted_dropped a.voted c.args.id.now c.args.v.now es c.self.invariant.0.ordered c.self.invariant.1)
+    let notes = c.forget_vote.new.self in
+    subst (λ (l : List (ActionId × Proposal)). IsStore l a.families a.added a.deposits × AreNoted notes (values_of l)) (sym c.drop_at.ensures) (
+      IsStore-voted (changing id f) (changing_votes id f (dropping_votes c.args.v.now)) es a.families a.added a.deposits c.self.invariant.0,
+      subst (λ (ps : List Proposal). AreNoted notes ps) (sym (values_each (changing id f) es))
+          (AreNoted-dropped a.voted notes id c.args.v.now (values_of es) c.self.invariant.0.ordered c.forget_vote.ensures c.self.invariant.1),
+    )
