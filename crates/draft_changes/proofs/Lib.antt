@@ -9,3 +9,4 @@ pub mod PoolChanging
 pub mod Ending
 pub mod Awaking
 pub mod Lowering
+pub mod Naming

@@ -7,3 +7,4 @@ pub mod ChangedPools
 pub mod ChangedParts
 pub mod Numbered
 pub mod Balances
+pub mod Names

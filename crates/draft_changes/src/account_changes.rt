@@ -8,6 +8,7 @@ ghost use Rattle.draft_changes.specs.Changed.{with_registrations};
 ghost use Rattle.maps.specs.Maps.{IsMap, IsSet, value_at};
 ghost use Rattle.stake_book.specs.Stakes.{HasRoom, accounts_of, delegates_to_dreps, without_dreps};
 
+use crate::changed_names::names_in;
 use book_records::Registered;
 use coin_frac::NoMemory;
 use gov_ids::{Credential, Drep};
@@ -136,12 +137,20 @@ impl AccountChanges {
         self.entries.is_empty() && self.left.is_empty()
     }
 
+    /// The credentials whose registration changed, in order.
+    pub fn changed(&self, alloc: Global) -> Result<Vec<Credential>, NoMemory>
+        ensures names { IfOk result (λ names. names.items ≡ keys_of self.now.accounts) }
+        ensures in_order { IsMap credential_cmp self.now.accounts }
+    {
+        names_in(alloc, &self.entries)
+    }
+
     /// The DReps that left, in order.
     pub fn left(&self, alloc: Global) -> Result<Vec<Credential>, NoMemory>
         ensures names { IfOk result (λ names. names.items ≡ self.now.left) }
         ensures in_order { IsSet credential_cmp self.now.left }
     {
-        names_of(alloc, &self.left)
+        names_in(alloc, &self.left)
     }
 
     /// Lays these changes over the book, none of which raises a balance; `left` are the DReps that left. It walks the accounts of the book where there are any, and else the changed ones alone. After want of memory the caller drops the book.
@@ -157,14 +166,6 @@ impl AccountChanges {
         take_left(stake, left)?;
         put_accounts(stake, self.entries, &self.left)
     }
-}
-
-/// The names of those that left.
-fn names_of(alloc: Global, left: &BTreeMap<Credential, u64>) -> Result<Vec<Credential>, NoMemory>
-    ensures { IfOk result (λ names. names.items ≡ keys_of left.now.entries) }
-{
-    let names = left.iter().map(|(c, _)| *c).collect(alloc)?;
-    Ok(names)
 }
 
 /// Ends the delegations to the DReps that left.

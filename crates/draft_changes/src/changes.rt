@@ -1,21 +1,24 @@
-ghost use Rattle.std.specs.Prelude.{◌≡◌, OnOk, map};
+ghost use Rattle.std.specs.Prelude.{◌≡◌, IfOk, OnOk, map};
 ghost use Rattle.book_records.specs.Dormancy.{AllFit};
 ghost use Rattle.gov_ids.specs.Orders.{credential_cmp, pool_cmp};
 ghost use Rattle.draft_changes.specs.Balances.{KeepsOutputs, NoneRises};
 ghost use Rattle.draft_changes.specs.Changed.{with_registrations};
 ghost use Rattle.draft_changes.specs.ChangedDreps.{laid_over};
 ghost use Rattle.draft_changes.specs.ChangedParts.{changed_of};
+ghost use Rattle.draft_changes.specs.Names.{AreInOrder, names_of};
 ghost use Rattle.maps.specs.Maps.{IsMap, with_values};
 ghost use Rattle.proposal_store.specs.Leaving.{without_votes_of};
 ghost use Rattle.stake_book.specs.Stakes.{HasRoom, accounts_of, without_dreps};
 
 use crate::account_changes::AccountChanges;
+use crate::changed_names::ChangedNames;
 use crate::drep_changes::DrepChanges;
 use crate::hot_changes::HotChanges;
 use crate::pool_changes::PoolChanges;
 use crate::voters::VoterChanges;
 use coin_frac::NoMemory;
 use ledger_books::Books;
+use listed::Listed;
 use proposal_store::ProposalStore;
 use stake_book::StakeBook;
 use std::alloc::Global;
@@ -51,6 +54,22 @@ impl Changes {
             accounts,
             voters: VoterChanges { pools, dreps, hot },
         }
+    }
+
+    /// The names that these changes touch. (Own)
+    pub fn names(&self, alloc: Global) -> Result<ChangedNames, NoMemory>
+        ensures names { IfOk result (λ names. names ≡ names_of self.now) }
+        ensures in_order { OnOk result (AreInOrder (names_of self.now)) }
+    {
+        let VoterChanges { pools, dreps, hot } = &self.voters;
+        Ok(ChangedNames {
+            accounts: Listed::from_vec(self.accounts.changed(alloc)?),
+            left: Listed::from_vec(self.accounts.left(alloc)?),
+            pools: Listed::from_vec(pools.changed(alloc)?),
+            dreps: Listed::from_vec(dreps.changed(alloc)?),
+            refreshed: dreps.is_refreshed(),
+            hot: Listed::from_vec(hot.changed(alloc)?),
+        })
     }
 
     /// Lays these changes over the books. No change raises a balance, so there is room for all. After want of memory the caller drops the books. (Own)

@@ -1,11 +1,13 @@
-ghost use Rattle.std.specs.Prelude.{◌≡◌, ◌+◌, ◌<◌, ◌^◌, [], option_map, if◌then◌else◌, OnOk, OnErr};
+ghost use Rattle.std.specs.Prelude.{◌≡◌, ◌+◌, ◌<◌, ◌^◌, [], option_map, if◌then◌else◌, IfOk, OnOk, OnErr};
+ghost use Rattle.std.specs.Map.{keys_of};
 ghost use Rattle.std.specs.Option.{ForSome};
 ghost use Rattle.gov_ids.specs.Orders.{credential_cmp};
 ghost use Rattle.book_records.specs.Dormancy.{AllFit};
 ghost use Rattle.draft_changes.specs.ChangedDreps.{AllAddable, awakened, laid_over, with_change, with_refresh};
 ghost use Rattle.draft_changes.specs.Changed.{dormant_by, with_dreps};
-ghost use Rattle.maps.specs.Maps.{value_at};
+ghost use Rattle.maps.specs.Maps.{IsMap, value_at};
 
+use crate::changed_names::names_in;
 use book_records::DrepState;
 use coin_frac::NoMemory;
 use drep_book::{DrepBook, with_dormant};
@@ -63,6 +65,21 @@ impl DrepChanges {
     {
         let before = awakened(self.refreshed, book.get(c), epoch, book.dormant());
         self.entries.get(c).copied().unwrap_or(before)
+    }
+
+    /// The DReps that changed, in order.
+    pub fn changed(&self, alloc: Global) -> Result<Vec<Credential>, NoMemory>
+        ensures names { IfOk result (λ names. names.items ≡ keys_of self.now.dreps) }
+        ensures in_order { IsMap credential_cmp self.now.dreps }
+    {
+        names_in(alloc, &self.entries)
+    }
+
+    /// Whether the dormant epochs were added.
+    pub fn is_refreshed(&self) -> bool
+        ensures { result ≡ self.now.refreshed }
+    {
+        self.refreshed
     }
 
     /// The dormant epochs that are left, over this book.

@@ -1,5 +1,6 @@
-ghost use Rattle.std.specs.Prelude.{◌≡◌, OnOk, OnErr, option_map};
+ghost use Rattle.std.specs.Prelude.{◌≡◌, IfOk, OnOk, OnErr, option_map};
 ghost use Rattle.std.specs.List.{list_any};
+ghost use Rattle.std.specs.Map.{keys_of};
 ghost use Rattle.gov_ids.specs.Orders.{credential_cmp};
 ghost use Rattle.gov_model.specs.Hot.{is_hot_key, is_named, of_members};
 ghost use Rattle.draft_changes.specs.ChangedHot.{IsOver, none_changed};
@@ -87,6 +88,16 @@ impl HotChanges {
         members
             .iter()
             .any(|(cold, _)| is_hot_key(self.latest(cold, book), hot))
+    }
+
+    /// The cold keys whose entry changed, in order.
+    pub fn changed(&self, alloc: Global) -> Result<Vec<Credential>, NoMemory>
+        ensures names { IfOk result (λ names. names.items ≡ keys_of self.now.entries) }
+        ensures in_order { IsMap credential_cmp self.now.entries }
+    {
+        let entries = self.entries.listed(alloc)?;
+        let names = entries.iter().map(|(cold, _)| *cold).collect(alloc)?;
+        Ok(names)
     }
 
     /// A hot key or a resignation in place of what the cold key had, over this book. Want of memory changes nothing.

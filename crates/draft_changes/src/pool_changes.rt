@@ -1,4 +1,5 @@
-ghost use Rattle.std.specs.Prelude.{◌≡◌, OnOk, OnErr};
+ghost use Rattle.std.specs.Prelude.{◌≡◌, IfOk, OnOk, OnErr};
+ghost use Rattle.std.specs.Map.{keys_of};
 ghost use Rattle.gov_ids.specs.Orders.{pool_cmp};
 ghost use Rattle.book_records.specs.Pools.{is_key_of_other};
 ghost use Rattle.draft_changes.specs.ChangedPools.{IsOver, none_changed};
@@ -65,6 +66,14 @@ impl PoolChanges {
         let covered = self.covered.count_of_others(key, p);
         let before = book.count_of_others(key, p);
         self.entries.key_of_other(key, p) || covered < before
+    }
+
+    /// The pools that changed, in order.
+    pub fn changed(&self, alloc: Global) -> Result<Vec<PoolId>, NoMemory>
+        ensures names { IfOk result (λ names. names.items ≡ keys_of self.now.entries) }
+        ensures in_order { IsMap pool_cmp self.now.entries }
+    {
+        self.entries.ids(alloc)
     }
 
     /// A pool in place of what the id had, over this book. Want of memory changes nothing.

@@ -6,6 +6,7 @@ use Rattle.std.proofs.lemmas.List.Folds.{list_all-append}
 use Rattle.maps.specs.Words.{with_fronts}
 use Rattle.gov_actions.specs.declared.action.Proposal.{Proposal}
 use Rattle.gov_actions.specs.declared.tally.Need.{Need}
+use Rattle.gov_actions.specs.declared.tally.Tally.{Tally}
 use Rattle.gov_actions.specs.declared.tally.Verdict.{Verdict}
 use Rattle.gov_actions.specs.declared.tally.Role.TheVariants as role
 use Rattle.gov_actions.specs.Kinds.{is_delaying}
@@ -21,7 +22,8 @@ use Rattle.snapshots.specs.Frozen.{frozen_copy_of}
 use Rattle.tally.specs.declared.cells.TallyCell.{TallyCell}
 use Rattle.tally.specs.Cells.{cell_of}
 use Rattle.ratify.specs.declared.pass.Pass.{Pass}
-use Rattle.ratify.specs.Passes.{LooksAt, LooksAtOne, are_met, can_be_enacted, chosen_of, counts_in, is_next, pass_after, state_after, tally_after, tally_by, verdict_by, with_enacted, with_tally}
+use Rattle.ratify.specs.declared.passing.Passing.{Passing}
+use Rattle.ratify.specs.Passes.{AddsOne, Begins, LooksAt, LooksAtOne, TellsOne, are_met, can_be_enacted, chosen_of, counts_in, is_next, pass_after, passing_after, state_after, tally_after, tally_by, verdict_by, with_enacted}
 use Rattle.ratify.proofs.Fronts.{chosen-push, fronts-push}
 use Rattle.ratify.proofs.Enacting.{enacted-none, enacted-push}
 
@@ -53,9 +55,8 @@ told : (s : Snapshot) (front : List Proposal) (a : Proposal) → map (tally_afte
 told s front a =
     sym (map-append (tally_after s) (with_fronts front) ((front, a) ∷ [])) ∙ ap (map (tally_after s)) (sym (fronts-push [] front a))
 
--- one that is not ready leaves its tally
-pub passed_over : (s : Snapshot) (front : List Proposal) (a : Proposal) → is_ready s (chosen_of s front) a ≡ false
-    → with_tally (tally_after s (front, a)) (pass_after s front) ≡ pass_after s (front ++ a ∷ [])
+-- one that is not ready changes nothing
+passed_over : (s : Snapshot) (front : List Proposal) (a : Proposal) → is_ready s (chosen_of s front) a ≡ false → passing_after s front ≡ passing_after s (front ++ a ∷ [])
 passed_over s front a h =
     let chosen : chosen_of s front ≡ chosen_of s (front ++ a ∷ []) =
     sym (chosen-push (is_ready s) front a ∙ ap (λ b. cond b (chosen_of s front ++ a ∷ []) (chosen_of s front)) h) in
@@ -63,7 +64,6 @@ passed_over s front a h =
       ratified = ids_of (chosen i);
       goes_on = goes_on_after (chosen i);
       state = enacted_after s (chosen i);
-      tallies = told s front a i;
     }
 
 alone : (b : Bool) → b ≡ (true && (b && true))
@@ -75,9 +75,8 @@ goes_on-push es a h =
     let test : Proposal → Bool = λ e. not (is_delaying e.action) in
     alone (test a) ∙ sym (ap (λ b. b && (test a && true)) h) ∙ sym (list_all-append test es (a ∷ []))
 
--- one that is ready is enacted, too
-pub enacted_next : (s : Snapshot) (front : List Proposal) (a : Proposal) → is_ready s (chosen_of s front) a ≡ true
-    → with_enacted a (with_tally (tally_after s (front, a)) (pass_after s front)) ≡ pass_after s (front ++ a ∷ [])
+-- one that is ready is enacted
+enacted_next : (s : Snapshot) (front : List Proposal) (a : Proposal) → is_ready s (chosen_of s front) a ≡ true → with_enacted a (passing_after s front) ≡ passing_after s (front ++ a ∷ [])
 enacted_next s front a h =
     let es : List Proposal = chosen_of s front in
     let on : goes_on_after es ≡ true = ready_goes_on s es a h in
@@ -86,15 +85,20 @@ enacted_next s front a h =
       ratified = (sym (map-append (λ (b : Proposal). b.id) es (a ∷ [])) ∙ ap ids_of chosen) i;
       goes_on = (goes_on-push es a on ∙ ap goes_on_after chosen) i;
       state = (enacted-push s es a on ∙ ap (enacted_after s) chosen) i;
-      tallies = told s front a i;
     }
 
+-- by whether it is ready
+next_is : (s : Snapshot) (front : List Proposal) (a : Proposal) (ready : Bool) → ready ≡ is_ready s (chosen_of s front) a
+    → cond ready (with_enacted a (passing_after s front)) (passing_after s front) ≡ passing_after s (front ++ a ∷ [])
+next_is s front a true h = enacted_next s front a (sym h)
+next_is s front a false h = passed_over s front a (sym h)
+
 -- a proposal that is looked at, by its cell and by what is computed of it
-module _ (f : Frozen) (p : Pass) (a : Proposal) (cell : TallyCell) (counts : List (ℕ × ℕ)) (needs : List Need) (ready : Bool) (became : Verdict)
+module _ (f : Frozen) (p : Passing) (a : Proposal) (cell : TallyCell) (counts : List (ℕ × ℕ)) (needs : List Need) (ready : Bool) (became : Verdict)
     (counts_are : counts ≡ counts_in cell)
     (needs_are : (s : Snapshot) → f ≡ frozen_copy_of s → needs ≡ map (λ r. need_of r s p.state a.action) roles)
     (tested : ready ≡ is_next f.epoch p a.action needs counts) (judged : became ≡ verdict_by ready a.expires_after f.epoch) where
-  module _ (s : Snapshot) (front : List Proposal) (of : f ≡ frozen_copy_of s) (counted : cell ≡ cell_of s a) (before : p ≡ pass_after s front) where
+  module _ (s : Snapshot) (front : List Proposal) (of : f ≡ frozen_copy_of s) (counted : cell ≡ cell_of s a) (before : p ≡ passing_after s front) where
     same_epoch : f.epoch ≡ s.epoch
     same_epoch = ap (λ (g : Frozen). g.epoch) of
 
@@ -102,7 +106,7 @@ module _ (f : Frozen) (p : Pass) (a : Proposal) (cell : TallyCell) (counts : Lis
     same_counts = counts_are ∙ ap counts_in counted
 
     same_needs : needs ≡ map (λ r. need_of r s (state_after s front) a.action) roles
-    same_needs = needs_are s of ∙ ap (λ (q : Pass). map (λ r. need_of r s q.state a.action) roles) before
+    same_needs = needs_are s of ∙ ap (λ (q : Passing). map (λ r. need_of r s q.state a.action) roles) before
 
     same_test : ready ≡ is_ready s (chosen_of s front) a
     same_test = tested ∙ (λ i. is_next (same_epoch i) (before i) a.action (same_needs i) (same_counts i)) ∙ ready_is s front a
@@ -110,17 +114,25 @@ module _ (f : Frozen) (p : Pass) (a : Proposal) (cell : TallyCell) (counts : Lis
     same_tally : tally_by a counts needs became ≡ tally_after s (front, a)
     same_tally = λ i. tally_by a (same_counts i) (same_needs i) ((judged ∙ (λ j. verdict_by (same_test j) a.expires_after (same_epoch j))) i)
 
-  pub looked_over : ready ≡ false → LooksAtOne f cell p a (with_tally (tally_by a counts needs became) p)
-  looked_over h = λ s of counted front before.
-      (λ i. with_tally (same_tally s front of counted before i) (before i)) ∙ passed_over s front a (sym (same_test s front of counted before) ∙ h)
+  pub looked_at : LooksAtOne f cell p a (cond ready (with_enacted a p) p)
+  looked_at = λ s of counted front before.
+      (λ i. cond ready (with_enacted a (before i)) (before i)) ∙ next_is s front a ready (same_test s front of counted before)
 
-  pub looked_enacted : ready ≡ true → LooksAtOne f cell p a (with_enacted a (with_tally (tally_by a counts needs became) p))
-  looked_enacted h = λ s of counted front before.
-      (λ i. with_enacted a (with_tally (same_tally s front of counted before i) (before i))) ∙ enacted_next s front a (sym (same_test s front of counted before) ∙ h)
+  pub tally_is : TellsOne f cell p a (tally_by a counts needs became)
+  tally_is = λ s of counted front before. same_tally s front of counted before
+
+-- one more proposal is looked at, and its tally put behind the others
+pub tallied : (f : Frozen) (cell : TallyCell) (p : Pass) (a : Proposal) (q : Passing) (t : Tally) → LooksAtOne f cell p.passing a q → TellsOne f cell p.passing a t
+    → AddsOne f cell p a (record { passing = q; tallies = p.tallies ++ t ∷ [] })
+tallied f cell p a q t looks tells = λ s of counted front before.
+    let stood : p.passing ≡ passing_after s front = ap (λ (x : Pass). x.passing) before in
+    let tallies : p.tallies ++ t ∷ [] ≡ map (tally_after s) (with_fronts (front ++ a ∷ [])) =
+    (λ i. (before i).tallies ++ tells s of counted front stood i ∷ []) ∙ told s front a in
+    λ i. record { passing = looks s of counted front stood i; tallies = tallies i }
 
 -- before the first
-pub none_looked_at : (f : Frozen) (s : Snapshot) (p : Pass) → f ≡ frozen_copy_of s → p ≡ record { ratified = []; goes_on = true; state = f.start; tallies = [] } → p ≡ pass_after s []
-none_looked_at f s p of is = is ∙ (λ i. record { ratified = []; goes_on = true; state = (ap (λ (g : Frozen). g.start) of ∙ sym (enacted-none s)) i; tallies = [] })
+pub none_looked_at : (f : Frozen) (p : Passing) → p ≡ record { ratified = []; goes_on = true; state = f.start } → Begins f p
+none_looked_at f p is = λ s of. is ∙ (λ i. record { ratified = []; goes_on = true; state = (ap (λ (g : Frozen). g.start) of ∙ sym (enacted-none s)) i })
 
 -- the cell at the place of a proposal is its cell
 cell_at : (s : Snapshot) (ps : List Proposal) (cells : List TallyCell) (i : ℕ) (a : Proposal) (cell : TallyCell)
@@ -131,7 +143,7 @@ cell_at s ps cells i a cell h is at all =
 -- one more after these
 pub looked_more : (f : Frozen) (cells : List TallyCell) (p q r : Pass) (xs zs : List Proposal) (i : ℕ) (a : Proposal) (cell : TallyCell)
     → i < length f.proposals → a ≡ get_or f.proposals i a → cell ≡ get_or cells i cell → xs ++ a ∷ [] ≡ zs
-    → LooksAt f cells p xs q → LooksAtOne f cell q a r → LooksAt f cells p zs r
+    → LooksAt f cells p xs q → AddsOne f cell q a r → LooksAt f cells p zs r
 looked_more f cells p q r xs zs i a cell h is at all first then = λ s of counted front before.
     let own : cell ≡ cell_of s a = cell_at s f.proposals cells i a cell h is at (counted ∙ ap (λ (g : Frozen). map (cell_of s) g.proposals) (sym of)) in
     then s of own (front ++ xs) (first s of counted front before) ∙ ap (pass_after s) (append_assoc front xs (a ∷ []) ∙ ap (λ (l : List Proposal). front ++ l) all)

@@ -21,6 +21,7 @@ use Rattle.snapshots.specs.Frozen.{frozen_copy_of}
 use Rattle.tally.specs.declared.cells.TallyCell.{TallyCell}
 use Rattle.tally.specs.Cells.{cell_of}
 use Rattle.ratify.specs.declared.pass.Pass.{Pass}
+use Rattle.ratify.specs.declared.passing.Passing.{Passing}
 
 -- those of front that are ratified
 abbrev pub chosen_of : Snapshot → List Proposal → List Proposal
@@ -43,7 +44,7 @@ abbrev pub are_met : List Need → List (ℕ × ℕ) → Bool
 are_met needs counts = list_all (λ p. meets p.0 p.1) (zip needs counts)
 
 -- the next action is ratified, by what the roles need and by their counts
-abbrev pub is_next : ℕ → Pass → Action → List Need → List (ℕ × ℕ) → Bool
+abbrev pub is_next : ℕ → Passing → Action → List Need → List (ℕ × ℕ) → Bool
 is_next epoch p a needs counts = p.goes_on && can_be_enacted epoch p.state a && are_met needs counts
 
 -- what becomes of a proposal, by whether it is ready and by its last epoch
@@ -62,25 +63,44 @@ tally_after s (front, a) =
     (verdict_by (is_ready s (chosen_of s front) a) a.expires_after s.epoch)
 
 -- the pass after the proposals of front
-abbrev pub pass_after : Snapshot → List Proposal → Pass
-pass_after s front = record {
+abbrev pub passing_after : Snapshot → List Proposal → Passing
+passing_after s front = record {
   ratified = ids_of (chosen_of s front);
   goes_on = goes_on_after (chosen_of s front);
   state = state_after s front;
+}
+
+-- and what it told on the way
+abbrev pub pass_after : Snapshot → List Proposal → Pass
+pass_after s front = record {
+  passing = passing_after s front;
   tallies = map (tally_after s) (with_fronts front);
 }
 
--- a pass with one more tally
-abbrev pub with_tally : Tally → Pass → Pass
-with_tally t p = record p { tallies = p.tallies ++ t ∷ [] }
-
 -- a pass with one more proposal that is enacted
-abbrev pub with_enacted : Proposal → Pass → Pass
-with_enacted a p = record p {
+abbrev pub with_enacted : Proposal → Passing → Passing
+with_enacted a p = record {
   ratified = p.ratified ++ a.id ∷ [];
   goes_on = not (is_delaying a.action);
   state = enacted_from p.state ((a.id, a.action) ∷ []);
 }
+
+-- the pass has looked at none
+abbrev pub Begins : Frozen → Passing → Type 0
+Begins f p = (s : Snapshot) → f ≡ frozen_copy_of s → p ≡ passing_after s []
+
+-- P holds after each front at which the pass may stand, for these counts of the proposal
+abbrev pub ForFront : Frozen → TallyCell → Passing → Proposal → (Snapshot → List Proposal → Type 0) → Type 0
+ForFront f counts before a P =
+    (s : Snapshot) → f ≡ frozen_copy_of s → counts ≡ cell_of s a → (front : List Proposal) → before ≡ passing_after s front → P s front
+
+-- the pass has looked at one more proposal, by its counts
+abbrev pub LooksAtOne : Frozen → TallyCell → Passing → Proposal → Passing → Type 0
+LooksAtOne f counts before a after = ForFront f counts before a (λ s front. after ≡ passing_after s (front ++ a ∷ []))
+
+-- and this is the tally of the proposal
+abbrev pub TellsOne : Frozen → TallyCell → Passing → Proposal → Tally → Type 0
+TellsOne f counts before a tally = ForFront f counts before a (λ s front. tally ≡ tally_after s (front, a))
 
 -- the proposals of a priority, in order of submission
 abbrev pub of_priority : ℕ → List Proposal → List Proposal
@@ -99,6 +119,6 @@ abbrev pub LooksAt : Frozen → List TallyCell → Pass → List Proposal → Pa
 LooksAt f cells before more after = ForTallied f cells (λ s. Follows s before more after)
 
 -- a pass has looked at a proposal, by its cell
-abbrev pub LooksAtOne : Frozen → TallyCell → Pass → Proposal → Pass → Type 0
-LooksAtOne f cell before a after =
+abbrev pub AddsOne : Frozen → TallyCell → Pass → Proposal → Pass → Type 0
+AddsOne f cell before a after =
     (s : Snapshot) → f ≡ frozen_copy_of s → cell ≡ cell_of s a → Follows s before (a ∷ []) after

@@ -63,13 +63,13 @@ pub fn ratify_tallied(
     ensures tallies { IfOk result (λ o. ForSnapshot f.now c.now (λ s. o.tallies ≡ tallies_of s o.ratified)) }
     ensures in_order { IfOk result (λ o. IsMap credential_cmp (members_of o.state.committee)) }
 {
-    let pass = Pass::over_all(alloc, f, cells)?;
-    let expired = expired(alloc, f, pass.ratified.as_slice())?;
+    let Pass { passing, tallies } = Pass::over_all(alloc, f, cells)?;
+    let expired = expired(alloc, f, passing.ratified.as_slice())?;
     Ok(Outcome {
-        ratified: pass.ratified,
+        ratified: passing.ratified,
         expired,
-        state: pass.state,
-        tallies: pass.tallies,
+        state: passing.state,
+        tallies,
     })
 }
 

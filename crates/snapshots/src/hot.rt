@@ -43,6 +43,13 @@ impl HotList {
         self.entries
     }
 
+    /// The entries, in the order in which they stand. (Own)
+    pub fn as_slice(&self) -> &[(Credential, HotState)]
+        ensures { result.now ≡ self.now }
+    {
+        self.entries.as_slice()
+    }
+
     /// What a cold key has authorized, the first where it stands more than once. (CIP-1694, The constitutional committee)
     pub fn get(&self, cold: &Credential) -> Option<HotState>
         ensures { result ≡ value_at credential_cmp self.now cold.now }

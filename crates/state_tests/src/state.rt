@@ -12,8 +12,8 @@ use live_ledger::GenesisFault;
 use record_read::{RecordFault, read_record};
 use std::alloc::Global;
 use thiserror::Error;
-use tx_records::{Genesis, Record, Reply, Rewards, Tx};
-use tx_rule::apply_tx;
+use tx_records::{Genesis, Record, Reply, Rewards, Tx, TxFault};
+use tx_rule::{accepted, judged};
 
 /// Why a line leaves no state.
 #[derive(Clone, Copy, Debug, Error)]
@@ -127,11 +127,18 @@ fn after_block(s: LedgerState, slot: u64, pulse: u32) -> Result<(LedgerState, Re
     }
 }
 
-/// The state after a transaction, and the reply.
+/// The state after a transaction that is judged first and then applied, and the reply.
 fn after_tx(alloc: Global, s: LedgerState, tx: &Tx) -> Result<(LedgerState, Reply), Stop>
     requires within { tx_limits.is_within_limits tx.now ≡ true }
 {
-    Ok(apply_tx(alloc, s, tx)?)
+    match judged(alloc, &s, tx) {
+        Ok(changes) => Ok(accepted(s, changes, tx)?),
+        Err(TxFault::Refused(rule)) => Ok((s, Reply::Refused(rule))),
+        Err(TxFault::NoMemory) => {
+            drop(s);
+            Err(Stop::NoMemory)
+        }
+    }
 }
 
 /// The state after a reward update, and the reply.

@@ -1,3 +1,3 @@
-pub mod Judged
+pub mod Grouped
 pub mod Certified
 pub mod Stepped

@@ -17,10 +17,6 @@ not_refused Absent rule h = cc
 not_refused Passed rule h = cc
 not_refused Failed rule h = cc
 
--- what broke no rule of a ledger breaks none of the same ledger
-pub same_broken : (l m : Ledger) (tx : Tx) (o : Option Rule) → l ≡ m → first_broken l tx ≡ o → first_broken m tx ≡ o
-same_broken l m tx o e h = ap (λ (x : Ledger). first_broken x tx) (sym e) ∙ h
-
 -- what an accepted one and a refused one leave, and their replies
 pub state_accepted : (w : World) (tx : Tx) → first_broken w.ledger tx ≡ None → on_ledger (λ (l : Ledger). ledger_after_tx l tx) w ≡ on_ledger (λ (l : Ledger). (tx_step l tx).0) w
 state_accepted w tx none = sym (ap (λ (o : Option Rule). record w { ledger = (tx_step_by o w.ledger tx).0 }) none)

@@ -2,12 +2,11 @@
 #![tactic(auto)]
 
 ghost use Rattle.std.specs.Prelude.{◌≡◌, None, true, IfOk, OnOk};
-ghost use Rattle.ledger_model.specs.Broken.{body_checks, first_broken, is_allowed};
+ghost use Rattle.ledger_model.specs.Broken.{body_checks, first_broken};
 ghost use Rattle.ledger_model.specs.Checks.{first_among};
 ghost use Rattle.ledger_model.specs.Draft.{last_draft};
 ghost use Rattle.ledger_model.specs.Transaction.{accepted_as, ledger_after_tx, tx_step};
 ghost use Rattle.ledger_model.specs.UtxoRules.{unless_failed, utxo_checks};
-ghost use Rattle.draft_changes.specs.Changed.{laid_over};
 ghost use Rattle.live_ledger.specs.Drafts.{draft_at, draft_of};
 ghost use Rattle.rule_checks.specs.Answered.{IsAnswered};
 ghost use Rattle.run_model.specs.World.{on_ledger};
@@ -37,7 +36,7 @@ pub fn apply_tx(alloc: Global, s: LedgerState, tx: &Tx) -> Result<(LedgerState, 
     ensures reply { IfOk result (λ r. r.1 ≡ (tx_step s.ledger tx.now).1) }
     ensures kept { (rule : Rule) → IfOk result (λ r. r.1 ≡ Reply.Refused rule → r.0 ≡ s) }
 {
-    match changes_of(alloc, s.live(), tx) {
+    match judged(alloc, &s, tx) {
         Ok(changes) => accepted(s, changes, tx),
         Err(TxFault::Refused(rule)) => Ok((s, Reply::Refused(rule))),
         Err(TxFault::NoMemory) => {
@@ -52,8 +51,29 @@ pub fn judge(alloc: Global, s: &LedgerState, tx: &Tx) -> Result<(), TxFault>
     requires within { is_within_limits tx.now ≡ true }
     ensures rule { IsAnswered (first_broken s.now.ledger tx.now) result }
 {
-    drop(changes_of(alloc, s.live(), tx)?);
+    drop(judged(alloc, s, tx)?);
     Ok(())
+}
+
+/// Judges a transaction: what it changes, or the first rule that it breaks. (LEDGER; the call is own)
+pub fn judged(alloc: Global, s: &LedgerState, tx: &Tx) -> Result<Changes, TxFault>
+    requires within { is_within_limits tx.now ≡ true }
+    ensures { IsJudged result s.now.ledger tx.now }
+{
+    changes_of(alloc, s.live(), tx)
+}
+
+/// Applies the changes that `judged` gave of this state; without memory there is no state. (LEDGER)
+pub fn accepted(s: LedgerState, changes: Changes, tx: &Tx) -> Result<(LedgerState, Reply), NoMemory>
+    requires within { is_within_limits tx.now ≡ true }
+    requires judged { IsJudged (Ok changes) s.ledger tx.now }
+    ensures ledger { IfOk result (λ r. r.0 ≡ on_ledger (λ l. ledger_after_tx l tx.now) s) }
+    ensures reply { IfOk result (λ r. r.1 ≡ accepted_as tx.now.scripts) }
+{
+    match s.commit(changes, tx) {
+        Ok(after) => Ok((after, accepted_as(tx.scripts))),
+        Err(error) => Err(error),
+    }
 }
 
 /// What a transaction that breaks no rule changes, or the first rule that it breaks.
@@ -115,20 +135,6 @@ fn judge_passed(alloc: Global, draft: &mut Draft, tx: &Tx, spent: Spent) -> Resu
     refresh(draft, tx)?;
     certify(draft, tx)?;
     check_drafted(alloc, draft, tx, spent)
-}
-
-/// The state after a transaction that breaks no rule, whose changes these are, and the reply to it.
-fn accepted(s: LedgerState, changes: Changes, tx: &Tx) -> Result<(LedgerState, Reply), NoMemory>
-    requires within { is_within_limits tx.now ≡ true }
-    requires allowed { is_allowed s.ledger tx.now ≡ true }
-    requires drafted { laid_over changes s.ledger ≡ draft_of s.ledger tx.now }
-    ensures ledger { IfOk result (λ r. r.0 ≡ on_ledger (λ l. ledger_after_tx l tx.now) s) }
-    ensures reply { IfOk result (λ r. r.1 ≡ accepted_as tx.now.scripts) }
-{
-    match s.commit(changes, tx) {
-        Ok(after) => Ok((after, accepted_as(tx.scripts))),
-        Err(error) => Err(error),
-    }
 }
 
 /// The reply to a transaction that breaks no rule.

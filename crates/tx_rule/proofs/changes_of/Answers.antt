@@ -6,7 +6,7 @@ use Rattle.ledger_model.specs.Checks.{first_among}
 use Rattle.ledger_model.specs.UtxoRules.{unless_failed, utxo_checks}
 use Rattle.rule_checks.proofs.Faults.{faulted}
 use Rattle.tx_rule.specs.Judged.{IsJudged}
-use Rattle.tx_rule.proofs.Judged.{two_groups}
+use Rattle.tx_rule.proofs.Grouped.{two_groups}
 use Rattle.tx_rule.proofs.changes_of.Goals as goal
 
 pub returns-in_err-spent : goal.returns-in_err-spent

@@ -7,7 +7,7 @@ use Rattle.draft_changes.specs.Changed.{laid_over}
 use Rattle.live_ledger.specs.Drafts.{Drafted, draft_of}
 use Rattle.rule_checks.specs.Answered.{IsAnswered}
 use Rattle.rule_checks.proofs.Faults.{answered_later}
-use Rattle.tx_rule.proofs.Judged.{two_groups}
+use Rattle.tx_rule.proofs.Grouped.{two_groups}
 use Rattle.utxo_rules.specs.Spent.{IsSpent}
 use Rattle.tx_rule.proofs.changes_of_spent.Goals as goal
 

@@ -11,7 +11,7 @@ use Rattle.rule_checks.specs.Answered.{IsAnswered}
 use Rattle.tx_rule.specs.Drafted.{drafted_checks}
 use Rattle.rule_checks.proofs.Faults.{answered_later, faulted}
 use Rattle.tx_rule.proofs.Certified.{checks_from}
-use Rattle.tx_rule.proofs.Judged.{body_groups}
+use Rattle.tx_rule.proofs.Grouped.{body_groups}
 use Rattle.tx_rule.proofs.judge_passed.Goals as goal
 
 pub returns-in_err-withdraw-clause-rule : goal.returns-in_err-withdraw-clause-rule

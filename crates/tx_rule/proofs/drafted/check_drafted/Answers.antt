@@ -11,7 +11,7 @@ use Rattle.ledger_model.specs.ProposalRules.{proposal_checks, vote_checks}
 use Rattle.rule_checks.proofs.Faults.{answered_later, faulted, told}
 use Rattle.rule_checks.specs.Answered.{IsAnswered}
 use Rattle.tx_rule.specs.Drafted.{drafted_checks}
-use Rattle.tx_rule.proofs.Judged.{drafted_groups}
+use Rattle.tx_rule.proofs.Grouped.{drafted_groups}
 use Rattle.tx_rule.proofs.drafted.check_drafted.Goals as goal
 
 abbrev on_proposals : Ledger → Tx → List Check
@@ -55,4 +55,4 @@ returns c =
     answered_later (first_among (on_proposals l tx)) rest (first_among (drafted_checks l tx)) c.balance_of_spent.result (drafted_groups l tx)
     (told (on_proposals l tx) c.check.result (Ok tt) proposals c.in_ok-as_fault.ensures)
     (answered_later (first_among (on_votes l tx)) (first_among (balance_checks l tx)) rest c.balance_of_spent.result refl
-    (told (on_votes l tx) c.check-2.result (Ok tt) votes c.in_ok-as_fault-2.ensures) c.balance_of_spent.ensures)
+    (told (on_votes l tx) c.check-2.result (Ok tt) votes c.in_ok-as_fault-2.ensures) c.balance_of_spent.ensures.rule)

@@ -9,5 +9,5 @@ use Rattle.ratify.proofs.pass.Pass.over.Given as goal
 abbrev pub invariant-loop-a : goal.invariant-loop-a
 invariant-loop-a l = record {
   passed : LooksAt l.f l.cells l.fn.self (of_priority l.priority (take (length l.yielded) l.f.proposals)) l.pass;
-  members : IsMap credential_cmp (members_of l.pass.state.committee);
+  members : IsMap credential_cmp (members_of l.pass.passing.state.committee);
 }

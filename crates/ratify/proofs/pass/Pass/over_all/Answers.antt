@@ -11,9 +11,9 @@ loop-priority-preserved c =
     let ps = c.args.f.now.proposals in
     record {
       passed = λ s of counted.
-          c.in_ok-pass-2.ensures.passed s of counted (of_first n ps) (c.loop-priority.invariant.passed s of counted)
+          c.in_ok-pass.ensures.passed s of counted (of_first n ps) (c.loop-priority.invariant.passed s of counted)
           ∙ ap (pass_after s) (sym (of_first-suc n ps c.loop-priority-test.true) ∙ ap (λ (m : ℕ). of_first m ps) (sym (add-one n)));
-      members = c.in_ok-pass-2.ensures.members;
+      members = c.in_ok-pass.ensures.members;
     }
 
 pub returns-clause-passed : goal.returns-clause-passed

@@ -10,5 +10,5 @@ use Rattle.ratify.proofs.pass.Pass.over_all.Given as goal
 abbrev pub invariant-loop-priority : goal.invariant-loop-priority
 invariant-loop-priority l = record {
   passed : ForTallied l.f l.cells (λ s. l.pass ≡ pass_after s (of_first l.priority l.f.proposals));
-  members : IsMap credential_cmp (members_of l.pass.state.committee);
+  members : IsMap credential_cmp (members_of l.pass.passing.state.committee);
 }
