@@ -1,6 +1,6 @@
 -- Lists of which one item passes a test, or none does.
-use Rattle.std.proofs.Common.{◌≡◌, ℕ, ◌+◌, ◌<◌, Bool, true, false, not, ◌||◌, cond, List, [], ◌∷◌, ◌++◌, Some, find, flat_map, length, take, get_or, map, option_map, is_some, append-nil, refl, sym, ap, ◌∙◌}
-use Rattle.std.specs.List.{enumerate_from, list_any}
+use Rattle.std.proofs.Common.{◌≡◌, ℕ, ◌+◌, ◌<◌, Bool, true, false, not, ◌||◌, cond, List, [], ◌∷◌, ◌++◌, Some, find, flat_map, length, take, get_or, map, option_map, is_some, append-nil, refl, sym, ap, ◌∙◌, subst}
+use Rattle.std.specs.List.{AllByRecursion, enumerate_from, list_any}
 use Rattle.std.proofs.lemmas.Bool.{or_parts}
 use Rattle.std.proofs.lemmas.List.{take_more}
 use Rattle.std.proofs.lemmas.Grind.{flat_map-append}
@@ -46,3 +46,11 @@ module _ {X A : Type 0} (f : X → List A) where
       ap (λ l. flat_map f (take i xs) ++ l) (sym (append-nil (f (get_or xs i d))))
       ∙ sym (flat_map-append f (take i xs) (get_or xs i d ∷ []))
       ∙ ap (flat_map f) (sym (take_more xs i d h))
+
+-- what holds of the items so far, and of the next
+pub all_more : {X : Type 0} (P : X → Type 0) (xs : List X) (i : ℕ) (d : X) → i < length xs → AllByRecursion P (take i xs) → P (get_or xs i d) → AllByRecursion P (take (i + 1) xs)
+all_more {X} P xs i d h all next = subst (λ (l : List X). AllByRecursion P l) (sym (take_more xs i d h)) (joined P (take i xs) (get_or xs i d) all next)
+  where
+    joined : {X : Type 0} (P : X → Type 0) (xs : List X) (x : X) → AllByRecursion P xs → P x → AllByRecursion P (xs ++ x ∷ [])
+    joined P [] x h p = (p, tt)
+    joined P (y ∷ xs) x h p = (h.0, joined P xs x h.1 p)

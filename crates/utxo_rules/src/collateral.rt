@@ -1,15 +1,13 @@
-ghost use Rattle.std.specs.Prelude.{◌≡◌, ◌&&◌, true, IfOk, not};
-ghost use Rattle.std.specs.List.{list_any};
+ghost use Rattle.std.specs.Prelude.{◌≡◌, true, false, IfOk, OnErr};
 ghost use Rattle.ledger_model.specs.Checks.{answer_of, first_among, per_place};
 ghost use Rattle.ledger_model.specs.UtxoRules.{collateral_assets_checks, collateral_checks, collateral_list_checks};
 ghost use Rattle.ledger_model.specs.UtxoRules.{collateral_sum_checks, has_scripts, is_collateral_uneven, returned_assets};
 ghost use Rattle.maps.specs.Words.{is_empty};
 ghost use Rattle.rule_checks.specs.Answered.{IsAnswered};
 ghost use Rattle.tx_records.specs.TxLimits.{is_within_limits};
-ghost use Rattle.utxo_rules.specs.Spent.{has_assets_at};
 
 use crate::amounts::spent_by;
-use crate::asset_sums::taken_by;
+use crate::asset_sums::{lowest_taken, taken_by};
 use coin_frac::NoMemory;
 use gov_ids::{AssetId, CredKind, OutRef};
 use live_ledger::LiveLedger;
@@ -80,7 +78,8 @@ pub fn check_collateral(s: &LiveLedger, tx: &Tx) -> Result<(), Rule>
     check_each(&Collateral { s, tx, repeated }, tx.collateral.as_slice())
 }
 
-/// The rule on what the collateral holds. The return is taken off, and the rest must cover its part of the fee.
+/// The rule on what the collateral holds. The return is taken off, and the rest must cover its
+/// part of the fee.
 pub fn check_collateral_sum(s: &LiveLedger, tx: &Tx) -> Result<(), Rule>
     requires { is_within_limits tx.now ≡ true }
     ensures { result ≡ answer_of (collateral_sum_checks s.now.ledger tx.now) }
@@ -100,7 +99,8 @@ pub fn check_collateral_sum(s: &LiveLedger, tx: &Tx) -> Result<(), Rule>
 
 /// The rule on the assets of the collateral, all of which come back with its return.
 pub fn check_collateral_assets(alloc: Global, s: &LiveLedger, tx: &Tx) -> Result<(), TxFault>
-    ensures { IsAnswered (first_among (collateral_assets_checks s.now.ledger tx.now)) result }
+    ensures rule { IsAnswered (first_among (collateral_assets_checks s.now.ledger tx.now)) result }
+    ensures memory { result ≡ Err TxFault.NoMemory → is_empty (returned_assets tx.now) ≡ false }
 {
     if !has_scripts(tx) {
         return Ok(());
@@ -111,16 +111,18 @@ pub fn check_collateral_assets(alloc: Global, s: &LiveLedger, tx: &Tx) -> Result
     Ok(())
 }
 
-/// Whether the collateral holds more or less of an asset than its return gives back. It takes no memory where neither has assets.
+/// Whether the collateral holds more or less of an asset than its return gives back. It takes
+/// memory where the return has assets.
 fn is_collateral_uneven(alloc: Global, s: &LiveLedger, tx: &Tx) -> Result<bool, NoMemory>
-    ensures { IfOk result (λ uneven. uneven ≡ is_collateral_uneven s.now.ledger tx.now) }
+    ensures uneven { IfOk result (λ uneven. uneven ≡ is_collateral_uneven s.now.ledger tx.now) }
+    ensures memory { OnErr result (is_empty (returned_assets tx.now) ≡ false) }
 {
     let refs = tx.collateral.as_slice();
     let returned = returned_assets(tx);
-    if have_no_assets(s, refs, returned) {
-        return Ok(false);
+    if returned.is_empty() {
+        return Ok(lowest_taken(s, refs).is_some());
     }
-    let mut balance = taken_by(alloc, s, refs)?;
+    let mut balance = taken_by(alloc, s, refs, returned.len())?;
     balance.give(returned)?;
     Ok(balance.first_uneven().is_some())
 }
@@ -133,11 +135,4 @@ fn returned_assets(tx: &Tx) -> &[(AssetId, u64)]
         Some(output) => output.assets.as_slice(),
         None => &[],
     }
-}
-
-/// Whether neither the unspent outputs at these references nor a return have assets.
-fn have_no_assets(s: &LiveLedger, refs: &[OutRef], returned: &[(AssetId, u64)]) -> bool
-    ensures { result ≡ (is_empty returned.now && not (list_any (has_assets_at s.now.ledger) refs.now)) }
-{
-    returned.is_empty() && !spent_by(s, refs).has_assets
 }

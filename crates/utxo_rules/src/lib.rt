@@ -1,14 +1,15 @@
 //! The rules on what a transaction spends and makes, and the rule on its balance.
 #![tactic(auto)]
 
-ghost use Rattle.std.specs.Prelude.{◌≡◌, ◌≤◌, ◌*◌, true, IfOk, length, sum_by};
+ghost use Rattle.std.specs.Prelude.{◌≡◌, ◌≤◌, ◌*◌, true, false, IfOk, length, sum_by};
 ghost use Rattle.ledger_model.specs.Checks.{answer_of, first_among};
-ghost use Rattle.ledger_model.specs.UtxoRules.{lovelace_at, utxo_checks};
+ghost use Rattle.ledger_model.specs.UtxoRules.{lovelace_at, returned_assets, utxo_checks};
 ghost use Rattle.ledger_model.specs.Broken.{balance_checks};
 ghost use Rattle.ledger_model.specs.Flows.{flows_of_certs, hand, sink, source, sum_at};
+ghost use Rattle.maps.specs.Words.{is_empty};
 ghost use Rattle.rule_checks.specs.Answered.{IsAnswered};
 ghost use Rattle.tx_records.specs.TxLimits.{is_within_limits};
-ghost use Rattle.utxo_rules.specs.Plain.{lovelace_checks, plain_checks};
+ghost use Rattle.utxo_rules.specs.Plain.{lovelace_checks, names_assets, plain_checks};
 ghost use Rattle.utxo_rules.specs.Spent.{IsSpent, without_value};
 
 mod amounts;
@@ -34,20 +35,25 @@ use std::alloc::Global;
 use tx_records::rules::NOT_BALANCED;
 use tx_records::{Rule, Tx, TxFault};
 
-/// The first of the rules on id, inputs, size, time, fee, outputs, collateral with its assets, and treasury value that the transaction breaks, if there is one. It takes memory where collateral or its return has assets. (UTXO and UTXOW of the formal specification)
+/// The first of the rules on id, inputs, size, time, fee, outputs, collateral with its assets,
+/// and treasury value that the transaction breaks, if there is one. It takes memory where the
+/// collateral return has assets. (UTXO and UTXOW of the formal specification)
 pub fn check(alloc: Global, s: &LiveLedger, tx: &Tx) -> Result<(), TxFault>
     requires { is_within_limits tx.now ≡ true }
-    ensures { IsAnswered (first_among (utxo_checks s.now.ledger tx.now)) result }
+    ensures rule { IsAnswered (first_among (utxo_checks s.now.ledger tx.now)) result }
+    ensures memory { result ≡ Err TxFault.NoMemory → is_empty (returned_assets tx.now) ≡ false }
 {
     check_spent(alloc, s, tx)?;
     Ok(())
 }
 
-/// What the inputs of a transaction hold, or the first of the rules of `check` that it breaks: `balance_of_spent` asks for it. Each input is looked up once. (Own)
+/// What the inputs of a transaction hold, or the first of the rules of `check` that it breaks:
+/// `balance_of_spent` asks for it. Each input is looked up once. (Own)
 pub fn check_spent(alloc: Global, s: &LiveLedger, tx: &Tx) -> Result<Spent, TxFault>
     requires { is_within_limits tx.now ≡ true }
     ensures rule { IsAnswered (first_among (utxo_checks s.now.ledger tx.now)) (without_value result) }
     ensures spent { IfOk result (IsSpent s.now.ledger tx.now.inputs) }
+    ensures memory { result ≡ Err TxFault.NoMemory → is_empty (returned_assets tx.now) ≡ false }
 {
     match check_plain(s, tx) {
         Ok(spent) => {
@@ -75,24 +81,32 @@ fn check_plain(s: &LiveLedger, tx: &Tx) -> Result<Spent, Rule>
     Ok(spent)
 }
 
-/// Whether what a transaction takes is what it gives, in lovelace, with what its certificates gave back and paid in the draft, and then of each asset; else NotBalanced or AssetNotBalanced with both sums. It takes memory where inputs, outputs or mint have assets. A transaction whose scripts failed need not keep it. (UTXO of the formal specification, the preservation of value)
+/// Whether what a transaction takes is what it gives, in lovelace, with what its certificates
+/// gave back and paid in the draft, and then of each asset; else NotBalanced or
+/// AssetNotBalanced with both sums. It takes memory where outputs or mint have assets. A
+/// transaction whose scripts failed need not keep it. (UTXO of the formal specification, the
+/// preservation of value)
 pub fn balance(alloc: Global, d: &Draft, tx: &Tx) -> Result<(), TxFault>
     requires within { is_within_limits tx.now ≡ true }
     requires refunds { d.now.refunds ≡ sum_at sink hand (flows_of_certs d.now.start tx.now) }
     requires deposits { d.now.deposits ≡ sum_at source hand (flows_of_certs d.now.start tx.now) }
-    ensures { IsAnswered (first_among (balance_checks d.now.start tx.now)) result }
+    ensures rule { IsAnswered (first_among (balance_checks d.now.start tx.now)) result }
+    ensures memory { result ≡ Err TxFault.NoMemory → names_assets tx.now ≡ true }
 {
     let spent = spent_by(d.start(), tx.inputs.as_slice());
     balance_of_spent(alloc, d, tx, spent)
 }
 
-/// The same, by what the inputs of the transaction hold, as `check_spent` told it. It looks up no input, but where there are assets. (UTXO of the formal specification, the preservation of value)
+/// The same, by what the inputs of the transaction hold, as `check_spent` told it. It looks up
+/// no input, but where there are assets. (UTXO of the formal specification, the preservation of
+/// value)
 pub fn balance_of_spent(alloc: Global, d: &Draft, tx: &Tx, spent: Spent) -> Result<(), TxFault>
     requires within { is_within_limits tx.now ≡ true }
     requires refunds { d.now.refunds ≡ sum_at sink hand (flows_of_certs d.now.start tx.now) }
     requires deposits { d.now.deposits ≡ sum_at source hand (flows_of_certs d.now.start tx.now) }
     requires spent { IsSpent d.now.start tx.now.inputs spent }
-    ensures { IsAnswered (first_among (balance_checks d.now.start tx.now)) result }
+    ensures rule { IsAnswered (first_among (balance_checks d.now.start tx.now)) result }
+    ensures memory { result ≡ Err TxFault.NoMemory → names_assets tx.now ≡ true }
 {
     as_fault(balance_of_lovelace(d, tx, spent.lovelace))?;
     if moves_assets(tx, spent) {

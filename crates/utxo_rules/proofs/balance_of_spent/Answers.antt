@@ -7,8 +7,8 @@ use Rattle.utxo_rules.proofs.Assets.{none_asked}
 use Rattle.utxo_rules.proofs.Groups.{balance_groups}
 use Rattle.utxo_rules.proofs.balance_of_spent.Goals as goal
 
-pub returns-else-moves_assets : goal.returns-else-moves_assets
-returns-else-moves_assets c =
+pub returns-else-moves_assets-clause-rule : goal.returns-else-moves_assets-clause-rule
+returns-else-moves_assets-clause-rule c =
     let l = c.args.d.now.start in
     let tx = c.args.tx.now in
     let none : asset_checks l tx ≡ [] = none_asked l tx (ap (λ b. b || names_assets tx) (sym c.requires.spent.assets) ∙ sym c.moves_assets.ensures ∙ c.if-moves_assets.false) in

@@ -17,13 +17,13 @@ returns-in_err-check_collateral_assets-in-Ok-clause-rule c =
     let tx = c.args.tx.now in
     let is : c.from_residual.result ≡ Err c.in_err-check_collateral_assets-in-Ok.field-0.0 = search rules in
     subst (λ (r : Result Spent TxFault). IsAnswered (first_among (utxo_checks l tx)) (without_value r)) (sym is)
-    (answered_later (first_among (plain_checks l tx)) (first_among (collateral_assets_checks l tx)) (first_among (utxo_checks l tx)) (Err c.in_err-check_collateral_assets-in-Ok.field-0.0) (all_groups l tx) (told (plain_checks l tx) (Ok tt) (Ok tt) c.in-Ok.ensures.rule refl) c.in_err-check_collateral_assets-in-Ok.ensures)
+    (answered_later (first_among (plain_checks l tx)) (first_among (collateral_assets_checks l tx)) (first_among (utxo_checks l tx)) (Err c.in_err-check_collateral_assets-in-Ok.field-0.0) (all_groups l tx) (told (plain_checks l tx) (Ok tt) (Ok tt) c.in-Ok.ensures.rule refl) c.in_err-check_collateral_assets-in-Ok.ensures.rule)
 
 pub returns-in_ok-check_collateral_assets-in-Ok-clause-rule : goal.returns-in_ok-check_collateral_assets-in-Ok-clause-rule
 returns-in_ok-check_collateral_assets-in-Ok-clause-rule c =
     let l = c.args.s.now.ledger in
     let tx = c.args.tx.now in
-    answered_later (first_among (plain_checks l tx)) (first_among (collateral_assets_checks l tx)) (first_among (utxo_checks l tx)) (Ok tt) (all_groups l tx) (told (plain_checks l tx) (Ok tt) (Ok tt) c.in-Ok.ensures.rule refl) c.in_ok-check_collateral_assets-in-Ok.ensures
+    answered_later (first_among (plain_checks l tx)) (first_among (collateral_assets_checks l tx)) (first_among (utxo_checks l tx)) (Ok tt) (all_groups l tx) (told (plain_checks l tx) (Ok tt) (Ok tt) c.in-Ok.ensures.rule refl) c.in_ok-check_collateral_assets-in-Ok.ensures.rule
 
 pub returns-in-Err-clause-rule : goal.returns-in-Err-clause-rule
 returns-in-Err-clause-rule c =

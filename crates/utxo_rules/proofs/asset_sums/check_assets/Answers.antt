@@ -1,30 +1,20 @@
-use Rattle.std.proofs.Common.{List, [], Some, None, flat_map, sym, ap, ◌∙◌}
+use Rattle.std.proofs.Common.{Some, None, refl, sym, ap, ◌∙◌}
 use Rattle.assets.specs.Balances.{balance_of}
-use Rattle.gov_ids.specs.declared.OutRef.{OutRef}
 use Rattle.tx_records.specs.Rules.{placed}
 use Rattle.tx_records.specs.declared.reply.Rule.{Rule}
-use Rattle.tx_records.specs.declared.tx.TxOutput.{TxOutput}
-use Rattle.ledger_model.specs.UtxoRules.{assets_at}
+use Rattle.ledger_model.specs.Broken.{assets_consumed, assets_produced}
 use Rattle.utxo_rules.proofs.Assets.{first_refused}
 use Rattle.utxo_rules.proofs.asset_sums.check_assets.Goals as goal
 
-pub returns-in-Some : goal.returns-in-Some
-returns-in-Some c =
+pub returns-in-Some-clause-rule : goal.returns-in-Some-clause-rule
+returns-in-Some-clause-rule c =
     let l = c.args.s.now.ledger in
     let tx = c.args.tx.now in
-    let taken = c.in_ok-balance.ensures ∙ ap (λ (refs : List OutRef). balance_of (flat_map (assets_at l) refs) []) c.as_slice.ensures in
-    let given = c.in_ok-give.ensures (flat_map (assets_at l) tx.inputs) taken
-    ∙ ap (λ (outputs : List TxOutput). balance_of (flat_map (assets_at l) tx.inputs) (flat_map (λ (o : TxOutput). o.assets) outputs)) c.as_slice-2.ensures in
-    let all = c.in_ok-mint.ensures (flat_map (assets_at l) tx.inputs) (flat_map (λ (o : TxOutput). o.assets) tx.outputs) given in
-    first_refused l tx _ (Some (c.in-Some.place, c.in-Some.taken, c.in-Some.given)) c.in-Some.ensures all
+    first_refused l tx (balance_of (assets_consumed l tx) (assets_produced tx)) (Some (c.in-Some.place, c.in-Some.taken, c.in-Some.given)) (sym c.in-Some.is ∙ c.in_ok-place.ensures.first) refl
     ∙ ap (λ (r : Rule). Some r) (sym (c.at.ensures ∙ (λ j. placed (c.told_place.ensures j) (c.keeping_two-rule.ensures j))))
 
-pub returns : goal.returns
-returns c =
+pub returns-in-None-clause-rule : goal.returns-in-None-clause-rule
+returns-in-None-clause-rule c =
     let l = c.args.s.now.ledger in
     let tx = c.args.tx.now in
-    let taken = c.in_ok-balance.ensures ∙ ap (λ (refs : List OutRef). balance_of (flat_map (assets_at l) refs) []) c.as_slice.ensures in
-    let given = c.in_ok-give.ensures (flat_map (assets_at l) tx.inputs) taken
-    ∙ ap (λ (outputs : List TxOutput). balance_of (flat_map (assets_at l) tx.inputs) (flat_map (λ (o : TxOutput). o.assets) outputs)) c.as_slice-2.ensures in
-    let all = c.in_ok-mint.ensures (flat_map (assets_at l) tx.inputs) (flat_map (λ (o : TxOutput). o.assets) tx.outputs) given in
-    first_refused l tx _ None c.in-None.ensures all
+    first_refused l tx (balance_of (assets_consumed l tx) (assets_produced tx)) None (sym c.in-None.is ∙ c.in_ok-place.ensures.first) refl
