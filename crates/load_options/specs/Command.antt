@@ -20,16 +20,16 @@ abbrev pub value_of : List ℕ → ℕ → ℕ → List (List ℕ × List ℕ) �
 value_of name low high options = option_and_then (number_in low high) (the_one (numbers_after name options))
 
 -- of four values, where each is there
-abbrev pub command_of : Option ℕ → Option ℕ → Option ℕ → Option ℕ → Option LoadCommand
-command_of (Some seed) (Some accounts) (Some epochs) (Some workers) =
+abbrev pub load_by : Option ℕ → Option ℕ → Option ℕ → Option ℕ → Option LoadCommand
+load_by (Some seed) (Some accounts) (Some epochs) (Some workers) =
     Some (record { seed = seed; accounts = accounts; epochs = epochs; workers = workers })
-command_of _ _ _ _ = None
+load_by _ _ _ _ = None
 
 -- what options ask for: no other name stands among them
 abbrev pub command_of_options : List (List ℕ × List ℕ) → Option LoadCommand
 command_of_options options =
     if list_all (λ option. is_option_name option.0) options
-    then command_of (value_of (codes "--seed") 0 (2 ^ 64 - 1) options)
+    then load_by (value_of (codes "--seed") 0 (2 ^ 64 - 1) options)
     (value_of (codes "--accounts") 1 MOST_ACCOUNTS options)
     (value_of (codes "--epochs") 1 MOST_EPOCHS options)
     (workers_of options)

@@ -4,7 +4,9 @@
 mod command;
 mod number;
 mod options;
+mod table;
 mod workers;
 
 pub use command::{LoadCommand, MOST_ACCOUNTS, MOST_EPOCHS, load_command};
+pub use table::{Command, command_of};
 pub use workers::{MOST_WORKERS, replay_workers};

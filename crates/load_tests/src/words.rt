@@ -1,6 +1,6 @@
 //! The words of the command, good ones and wrong ones.
 use coin_frac::NoMemory;
-use load_options::{LoadCommand, load_command, replay_workers};
+use load_options::{Command, LoadCommand, command_of, load_command, replay_workers};
 use std::alloc::Global;
 use std::test::Fail;
 
@@ -143,6 +143,49 @@ const WRONG: [&str; 40] = [
     "load --Seed 7 --accounts 4 --epochs 2",
     "load seed 7 accounts 4 epochs 2",
 ];
+
+/// Words of each command, and words of none.
+const COMMANDS: [(&str, Option<Command>); 24] = [
+    ("replay", Some(Command::Replay { workers: 1 })),
+    ("replay --workers 2", Some(Command::Replay { workers: 2 })),
+    ("checkpoint", Some(Command::Checkpoint { workers: 1 })),
+    (
+        "checkpoint --workers=64",
+        Some(Command::Checkpoint { workers: 64 }),
+    ),
+    ("resume", Some(Command::Resume { workers: 1 })),
+    ("resume --workers 3", Some(Command::Resume { workers: 3 })),
+    ("certify", Some(Command::Certify { workers: 1 })),
+    ("certify --workers 4", Some(Command::Certify { workers: 4 })),
+    ("check", Some(Command::Check)),
+    ("shortfall", Some(Command::Shortfall { workers: 1 })),
+    (
+        "shortfall --workers=05",
+        Some(Command::Shortfall { workers: 5 }),
+    ),
+    ("follow", Some(Command::Follow { workers: 1 })),
+    ("follow --workers 6", Some(Command::Follow { workers: 6 })),
+    ("check --workers 1", None),
+    ("check x", None),
+    ("check ", None),
+    ("checkpoint x", None),
+    ("resume --workers 65", None),
+    ("certify --workers 2 --workers 2", None),
+    ("shortfall --workers", None),
+    ("follow --seed 7", None),
+    ("load", None),
+    ("Check", None),
+    ("", None),
+];
+
+#[test]
+fn commands(rt: HostRuntime) -> Result<(), Fail> {
+    for (text, command) in COMMANDS {
+        let words = words_of(rt.alloc(), text)?;
+        assert_eq!(rt; command_of(words.as_slice()), command, "{text}");
+    }
+    Ok(())
+}
 
 #[test]
 fn good_words(rt: HostRuntime) -> Result<(), Fail> {

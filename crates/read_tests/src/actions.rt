@@ -6,7 +6,7 @@ use json_tree::{Scratch, read_value};
 use std::test::Fail;
 
 /// Each parameter with a value of its own.
-const PARAMS: &str =
+pub const PARAMS: &str =
     r#"{"maxBlockBodySize":1,"maxTxSize":2,"maxBlockHeaderSize":3,"maxValueSize":4,"maxTxExUnits":[5,6],"maxBlockExUnits":[7,8],"maxCollateralInputs":9,"minFeeA":10,"minFeeB":11,"keyDeposit":12,"poolDeposit":13,"rho":[14,15],"tau":[1,5],"minPoolCost":16,"coinsPerUTxOByte":17,"prices":[[577,10000],[721,10]],"minFeeRefScriptCostPerByte":[15,1],"a0":[3,10],"eMax":18,"nOpt":500,"costModels":"1818181818181818181818181818181818181818181818181818181818181818","collateralPercentage":150,"poolVotingThresholds":[[0,1],[1,2],[2,3],[3,4],[1,1]],"drepVotingThresholds":[[1,1],[1,2],[1,3],[1,4],[1,5],[1,6],[1,7],[1,8],[1,9],[1,10]],"govActionLifetime":19,"govActionDeposit":20,"drepDeposit":21,"drepActivity":22,"committeeMinSize":23,"committeeMaxTermLength":24}"#;
 
 /// The same, as they print.
@@ -42,10 +42,10 @@ fn reads_updates(rt: HostRuntime) -> Result<(), Fail> {
     Ok(())
 }
 
-const COMMITTEE: &str =
+pub const COMMITTEE: &str =
     r#"{"type":"UpdateCommittee","previous":"000000000000000000000000000000000000000000000000000000000000001f#3","remove":["k0000000000000000000000000000000000000000000000000000001f"],"add":[["s0000000000000000000000000000000000000000000000000000001f",9]],"threshold":[2,3]}"#;
 
-const WITHDRAWALS: &str =
+pub const WITHDRAWALS: &str =
     r#"{"type":"TreasuryWithdrawals","targets":[["1k0000000000000000000000000000000000000000000000000000001f",5]],"policy":"0000000000000000000000000000000000000000000000000000001f"}"#;
 
 /// Both as they print: 1f is 31.

@@ -7,6 +7,10 @@ mod actions;
 #[cfg(test)]
 mod fields;
 #[cfg(test)]
+mod follow;
+#[cfg(test)]
 mod outputs;
+#[cfg(test)]
+mod printed;
 #[cfg(test)]
 mod records;

@@ -15,3 +15,4 @@ pub use fault::RecordFault;
 pub use json_tree::Scratch;
 pub use laws::lines_read_within_limits;
 pub use lines::{read_record, read_record_with};
+pub use records::record;

@@ -493,7 +493,7 @@ fn kind_of<'a>(object: &Members<'_, 'a>) -> Result<&'a str, FieldFault>
     read_text(object.field(FieldName::Kind)?)
 }
 
-/// A record of any kind.
+/// The record of a JSON value, or the first thing of it that is wrong. `NoMemory` may come at any time. (Own)
 pub fn record(alloc: Global, object: &Value<'_>) -> Result<Record, RecordFault>
     ensures { ReadsRecord result (record_in (view object.now)) }
 {
