@@ -4,8 +4,6 @@ pub mod Resumed
 pub mod Parts
 pub mod Verdicts
 pub mod Reached
-pub mod Fronts
-pub mod Fewest
 pub mod Sound
 pub mod Fronted
 pub mod Kept

@@ -1,7 +1,6 @@
 ghost use Rattle.certificate_model.specs.Laws.{PartsAreTheCounts, ReachedIsCertified, VerdictsAreOfOneList};
 ghost use Rattle.checkpoint_model.specs.Laws.{ReachedEntriesCount, ReachedIsResumable, ReachedIsTimed, ReachedWereProposed, ReplayIsResumed, ResumableIsSound, ShortByForm};
 ghost use Rattle.follow_model.specs.Laws.{CountNeverFalls, FollowIsReplay, FollowedIsSound, KeptAreAccepted, RollbackStaysInEpoch};
-ghost use Rattle.shortfall_model.specs.Laws.{LeastIsLeast};
 
 /// The run of one stream and then another is the run of the first, followed by what a resume of its ledger writes of the second: in mid-pulse too. (Own)
 pub fn replay_is_resumed()
@@ -51,11 +50,6 @@ pub fn verdicts_are_of_one_list()
 /// A checker answers yes to the certificate of what every ledger that records reach has frozen, where that has the form of the formats and no line is too long. (Own)
 pub fn reached_is_certified()
     ensures { ReachedIsCertified }
-{}
-
-/// What is said of a proposal's shortfall is so: no vote helps exactly where the need is never reached; else no silent DReps suffice, or those that are named do, and no fewer. (Own; the stakes, counts and needs are those of CIP-1694, Ratification)
-pub fn least_is_least()
-    ensures { LeastIsLeast }
 {}
 
 /// A followed stream without rollbacks is a replay: the same replies, and the same ledger with its count. (Own)

@@ -31,7 +31,7 @@ use Rattle.maps.proofs.Sets.{IsSet-in_order, all-with_key, has_member-in_order}
 use Rattle.maps.proofs.Ties.{same_key}
 use Rattle.shortfall_model.specs.Laws.{AreFewest, AreSilent, IsRight, LeastIsLeast, NoneSuffice, threshold_of}
 use Rattle.shortfall_model.specs.Silent.{by_stake, drep_count, is_silent, least_front, need_of_dreps, short_by, short_for, silent_dreps, stake_cmp, stakes_of, suffice}
-use Rattle.further_laws.proofs.Fronts.{Falls, IsAtMostFront, IsFirstFront, at_most_front, first_front, no_front}
+use Rattle.shortfall_laws.proofs.Fronts.{Falls, IsAtMostFront, IsFirstFront, at_most_front, first_front, no_front}
 
 -- ---- the order of stakes
 
