@@ -88,3 +88,22 @@ fn seats_the_hot_keys_of_members(rt: HostRuntime) -> Result<(), Fail> {
     }
     Ok(())
 }
+
+/// One member, and two keys to come that took its hot key, which are more than the members.
+#[test]
+fn seats_among_fewer_members(rt: HostRuntime) -> Result<(), Fail> {
+    let members = Vec::from_slice(rt.alloc(), [(key(2), 9)].as_slice())?;
+    let committee = Committee {
+        members: MemberList::from_vec(members),
+        threshold: Unit::new(2, 3)?,
+    };
+    let changed = book(rt.alloc(), [(2, 13)].as_slice())?;
+    let book = book(
+        rt.alloc(),
+        [(1, 11), (2, 11), (3, 11), (4, 12), (5, 12)].as_slice(),
+    )?;
+    assert!(rt; book.seats(&key(11), Some(&committee), None));
+    assert!(rt; !book.seats(&key(11), Some(&committee), Some(&changed)));
+    assert!(rt; !book.seats(&key(12), Some(&committee), None));
+    Ok(())
+}

@@ -18,3 +18,5 @@ mod registrations;
 mod representatives;
 #[cfg(test)]
 mod stakes;
+#[cfg(test)]
+mod views;

@@ -1,7 +1,9 @@
 //! A store of proposals that are voted on, and from which some are taken. (Its own words serve the tests of chains.)
 ghost use Rattle.std.specs.Prelude.{◌≡◌, []};
 
-use gov_actions::{Action, Proposal, Vote};
+use coin_frac::Unit;
+use credential_list::CredentialList;
+use gov_actions::{Action, Proposal, Purpose, Vote};
 use gov_ids::{Account, ActionId, CredKind, Credential, TxId, Voter};
 use listed::Listed;
 use proposal_store::ProposalStore;
@@ -92,5 +94,84 @@ fn keeps_votes_and_what_is_listed(rt: HostRuntime) -> Result<(), Fail> {
     };
     let first = first.copied(rt.alloc())?;
     assert!(rt; first.id == id(1) && first.votes.len() == 2);
+    Ok(())
+}
+
+/// An update of the committee that adds the cold keys of these bytes.
+fn adding(alloc: Global, bytes: &[u8]) -> Result<Action, Fail> {
+    let mut add = Listed::new(alloc);
+    for byte in bytes {
+        add.push((key(*byte), 9))?;
+    }
+    Ok(Action::UpdateCommittee {
+        previous: None,
+        remove: CredentialList::new(alloc),
+        add,
+        threshold: Unit::new(1, 2)?,
+    })
+}
+
+/// Five proposals, of which the second and the fourth add a cold key twice each, with two votes of a DRep.
+fn with_members(rt: &impl Abort, alloc: Global) -> Result<ProposalStore, Fail> {
+    let mut store = voted_on(rt, alloc)?;
+    let members = adding(alloc, [4, 4, 6].as_slice())?;
+    add(rt, &mut store, alloc, 4, members)?;
+    let members = adding(alloc, [4].as_slice())?;
+    add(rt, &mut store, alloc, 5, members)?;
+    store.vote(&id(5), Voter::Drep(key(7)), Vote::Yes)?;
+    Ok(store)
+}
+
+/// The first proposals stay, with their votes, their children and the keys that they add.
+#[test]
+fn keeps_the_first(rt: HostRuntime) -> Result<(), Fail> {
+    for (n, len, voted, children, adds) in [
+        (9, 5, 3, 3, (true, true)),
+        (5, 5, 3, 3, (true, true)),
+        (4, 4, 2, 3, (true, true)),
+        (3, 3, 2, 3, (false, false)),
+        (2, 2, 2, 2, (false, false)),
+        (1, 1, 1, 1, (false, false)),
+        (0, 0, 0, 0, (false, false)),
+    ] {
+        let mut store = with_members(&rt, rt.alloc())?;
+        store.keep_first(n);
+        assert!(rt; store.len() == len && store.deposits() == 10 * len);
+        assert!(rt; store.voted_on(&key(7)).len() == voted);
+        assert!(rt; store.children(Purpose::HardFork, Some(id(2))).len() == children);
+        assert!(rt; (store.adds(&key(4)), store.adds(&key(6))) == adds);
+    }
+    Ok(())
+}
+
+/// What was kept is cut again, and grows again.
+#[test]
+fn keeps_the_first_of_what_is_listed(rt: HostRuntime) -> Result<(), Fail> {
+    let mut store = with_members(&rt, rt.alloc())?;
+    drop(store.retain_listed([id(5), id(2), id(4)].as_slice())?);
+    store.keep_first(2);
+    assert!(rt; store.get(&id(4)).is_some() && store.get(&id(5)).is_none());
+    assert!(rt; store.voted_on(&key(7)) == [id(2)].as_slice());
+    add(&rt, &mut store, rt.alloc(), 5, fork_after(2))?;
+    store.vote(&id(5), Voter::Drep(key(7)), Vote::No)?;
+    assert!(rt; store.voted_on(&key(7)) == [id(2), id(5)].as_slice());
+    Ok(())
+}
+
+/// A DRep that votes and takes its vote back has one note at most.
+#[test]
+fn votes_and_unvotes_in_turn(rt: HostRuntime) -> Result<(), Fail> {
+    let mut store = voted_on(&rt, rt.alloc())?;
+    let voter = Voter::Drep(key(7));
+    for _ in 0..1000 {
+        store.vote(&id(3), voter, Vote::Yes)?;
+        assert!(rt; store.voted_on(&key(7)) == [id(1), id(2), id(3)].as_slice());
+        store.unvote(&id(3), &voter);
+        assert!(rt; store.voted_on(&key(7)) == [id(1), id(2)].as_slice());
+    }
+    store.unvote(&id(9), &voter);
+    store.unvote(&id(1), &voter);
+    store.unvote(&id(2), &voter);
+    assert!(rt; store.voted_on(&key(7)).is_empty() && store.voted_on(&key(5)).len() == 1);
     Ok(())
 }

@@ -3,9 +3,7 @@ use accounts::AccountBook;
 use book_records::Entry;
 use coin_frac::NoMemory;
 use gov_ids::{CredKind, Credential};
-use listed::Boxed;
 use std::alloc::Global;
-use std::collections::BTreeMap;
 use std::test::Fail;
 
 fn key(byte: u8) -> Credential {
@@ -50,11 +48,5 @@ fn keeps_the_frozen_entries(rt: HostRuntime) -> Result<(), Fail> {
     assert!(rt; next == Some((key(2), staked(20))));
     let first = book.iter().next().map(|(c, e)| (*c, *e));
     assert!(rt; first == Some((key(0), staked(5))));
-    // all that a book holds: the live entries, and what was saved of the keys that changed
-    let (live, saved): (
-        BTreeMap<Credential, Entry>,
-        BTreeMap<Credential, Option<Boxed<Entry>>>,
-    ) = book.into_view().into_maps();
-    assert!(rt; (live.len(), saved.len()) == (2, 3));
     Ok(())
 }

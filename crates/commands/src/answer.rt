@@ -48,7 +48,8 @@ fn begun(alloc: Global, ledger: LedgerState) -> Judged
     Ok((held, Outcome::Pots(PotsWord::Genesis, pots)))
 }
 
-/// The ledger of a genesis and its pots, where it breaks no rule; so many workers count its first epoch.
+/// The ledger of a genesis and its pots, where it breaks no rule; so many workers count its first
+/// epoch.
 fn begin(alloc: Global, genesis: &Genesis, workers: u32) -> Answered<Boxed<LedgerState>>
     requires within { genesis_limits.is_within_limits genesis.now ≡ true }
     requires some { 1 ≤ workers }

@@ -1,4 +1,5 @@
-//! The commands of the program, for any source and any sink: the answers of the ledger to records, over the loop that `replay_loop`
+//! The commands of the program, for any source and any sink: the answers of the ledger to records,
+//! over the loop that `replay_loop`
 //! has for any state. The program `conway` hands it standard input and output.
 #![tactic(auto)]
 
@@ -8,7 +9,6 @@ mod crew;
 mod dispatch;
 mod exit;
 mod held;
-mod shown;
 
 pub use dispatch::run;
 pub use exit::run_to_exit;

@@ -7,3 +7,4 @@ mod reader;
 mod reading;
 
 pub use reader::RecordReader;
+pub use reading::read_line;

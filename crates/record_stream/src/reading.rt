@@ -29,8 +29,8 @@ fn malformed(what: FieldName, place: Option<u32>) -> Option<Reading>
     Some(Reading::Malformed { what, place })
 }
 
-/// What a line of bytes says; nothing where it is blank. The scratch is what reading a line needs, kept from line to line.
-pub(crate) fn read_line(
+/// What a line of bytes says; nothing where it is blank. The scratch is what reading a line needs, kept from line to line. (Own)
+pub fn read_line(
     alloc: Global,
     scratch: &mut Scratch,
     line: &[u8],

@@ -2,8 +2,8 @@
 use Rattle.std.proofs.Common.{◌≡◌, ℕ, ◌+◌, ◌<◌, ◌≤◌, ◌⊎◌, true, List, Option, Some, None, Result, Ok, Err, length, refl, sym, ap, ◌∙◌, arith, inl, inr}
 use Rattle.std.specs.Prelude.{String, ⊤}
 use Rattle.std.proofs.lemmas.List.{length-append}
-use Rattle.replay_loop.specs.declared.fault.ReplayFault.{ReplayFault}
-use Rattle.replay_loop.specs.declared.fault.ReplayFault.TheVariants as faults
+use Rattle.replay_loop.specs.Statuses.{ReplayFault}
+use Rattle.line_runs.specs.declared.fault.RunFault.TheVariants as faults
 use Rattle.replay_loop.specs.declared.status.Status.TheVariants as statuses
 use Rattle.replay_loop.specs.Endings.{IsReplayed}
 use Rattle.record_stream.specs.Records.{records_of}
@@ -20,7 +20,7 @@ pub done_or_memory : (fault : ReplayFault) (bytes : List ℕ) (left had has : Op
     → start_fault (records_of bytes) ≡ None → length bytes ≤ STREAM_LIMIT → (fault ≡ faults.ReadFault → ⊥) → (fault ≡ faults.WriteFault → ⊥)
     → (status_of_fault fault ≡ statuses.Done) ⊎ (status_of_fault fault ≡ statuses.NoMemory)
 done_or_memory faults.NoMemory bytes left had has replayed good short read write = inr refl
-done_or_memory (faults.BadGenesis cause) bytes left had has replayed good short read write = let is : Some cause ≡ None = sym replayed.ending.fault ∙ good in cc
+done_or_memory (faults.Stop cause) bytes left had has replayed good short read write = let is : Some cause ≡ None = sym replayed.ending.fault ∙ good in cc
 done_or_memory faults.ReadFault bytes left had has replayed good short read write = absurd (read refl)
 done_or_memory faults.WriteFault bytes left had has replayed good short read write = absurd (write refl)
 done_or_memory faults.TooMuch bytes left had has replayed good short read write =

@@ -4,7 +4,10 @@ pub mod Lines
 pub mod Counts
 pub mod Complete
 pub mod LawsHold
-pub mod Turns
+pub mod Played
+pub mod Gathering
+pub mod Answered
 pub mod Texts
 pub mod Loads
+pub mod Shortfalls
 pub mod Workers

@@ -1,4 +1,5 @@
--- What answering a record gives: the World that the record leaves, and what the record comes to, by the definitions of the
+-- What answering a record gives: the World that the record leaves, and what the record comes to, by
+-- the definitions of the
 -- whole ledger. (Own)
 use Rattle.std.specs.Prelude.{◌≡◌, ◌≤◌, ℕ, Option, Some, None, Result, Ok, Err, ⊤, option_map, true}
 use Rattle.coin_frac.specs.declared.NoMemory.{NoMemory}
@@ -49,7 +50,8 @@ abbrev pub AnswersAs : {State : Type 0} → (State → World) → Option World �
 AnswersAs world before r (Ok (after, outcome)) = Answers before r (Ok (world after, outcome))
 AnswersAs world before r (Err fault) = Answers before r (Err fault)
 
--- what may be asked of a function that answers, and what it gives: of whatever is within its limits, for 1 to 64 workers, states
+-- what may be asked of a function that answers, and what it gives: of whatever is within its
+-- limits, for 1 to 64 workers, states
 -- with the Worlds that are asked for, whatever the number of workers
 pub record AnswersEach {State : Type 0} (world : State → World) (pre : ℕ → Option State → Reading → Type 0) (post : ℕ → Option State → Reading → Result (State × Outcome) AnswerFault → Type 0) : Type 0 where
   pub asked : (workers : ℕ) (before : Option State) (r : Reading) → 1 ≤ workers → workers ≤ 64 → is_within r ≡ true

@@ -1,10 +1,14 @@
--- What a record that came to this adds to the counts of a summary. (Own)
-use Rattle.std.specs.Prelude.{◌≡◌, ℕ}
-use Rattle.load_summary.specs.Counting.{block_counted, crossing_counted, other_counted, reply_counted}
+-- What a record that came to this adds to the counts of a summary, and what a measured run tells.
+-- (Own)
+use Rattle.std.specs.Prelude.{[]}
+use Rattle.ledger_model.specs.Supply.{pots_of}
+use Rattle.load_options.specs.declared.command.LoadCommand.{LoadCommand}
+use Rattle.load_summary.specs.Counting.{block_counted, crossing_counted, other_counted, reply_counted, summary_with}
 use Rattle.load_summary.specs.declared.counts.LoadCounts.{LoadCounts}
-use Rattle.run_model.specs.World.{World}
 use Rattle.replay_loop.specs.declared.outcome.Outcome.{Outcome}
 use Rattle.replay_loop.specs.declared.outcome.Outcome.TheVariants.{Answered, Pots, Block, Crossed, State, Assets}
+use Rattle.replay_loop.specs.Loads.{summary_text}
+use Rattle.replay_loop.specs.Plays.{Telling}
 
 -- the counts with it
 abbrev pub outcome_counted : LoadCounts → Outcome → LoadCounts
@@ -15,10 +19,15 @@ outcome_counted c (Crossed report pots) = crossing_counted c report.tallies
 outcome_counted c State = other_counted c
 outcome_counted c Assets = other_counted c
 
--- the same of who hears the answers of a run, whatever the line and the World after the record
-abbrev pub with_count : LoadCounts → ℕ → World → Outcome → LoadCounts
-with_count c n w outcome = outcome_counted c outcome
+-- the command, and what was counted so far
+pub record Counted : Type 0 where
+  pub command : LoadCommand
+  pub counts : LoadCounts
 
--- or the counts are as they were
-abbrev pub AreAsBefore : LoadCounts → ℕ → World → Outcome → LoadCounts → Type 0
-AreAsBefore c n w outcome after = after ≡ c
+-- nothing is told of a record, and the summary at the end
+abbrev pub counts_told : Telling Counted
+counts_told = record {
+  keeps = λ k n w o. record k { counts = outcome_counted k.counts o };
+  tells = λ k n w o. [];
+  closes = λ k w n. summary_text (summary_with k.command.seed k.command.accounts k.command.epochs k.counts (pots_of w.ledger));
+}

@@ -29,7 +29,8 @@ abbrev pub IsPartOfText : List ℕ → List ℕ → Text → Type 0
 IsPartOfText came rest written =
     IsFront written (text_or_nothing (whole_of came)) ⊎ ((rest ≡ []) × IsFront written (text_or_nothing came))
 
--- what came decides that there is no genesis to begin with, for this cause: a first line that is whole or, where no byte is
+-- what came decides that there is no genesis to begin with, for this cause: a first line that is
+-- whole or, where no byte is
 -- left, all that came
 abbrev pub IsDecided : GenesisCause → List ℕ → List ℕ → Type 0
 IsDecided cause came rest =
@@ -41,7 +42,8 @@ pub record Finished (bytes rest : List ℕ) (written : Text) : Type 0 where
   pub read : rest ≡ []
   pub text : text_of_run bytes ≡ Some written
 
--- the first record is no genesis to begin with, for this cause, and what came decides it; nothing was written
+-- the first record is no genesis to begin with, for this cause, and what came decides it; nothing
+-- was written
 pub record NotBegun (cause : GenesisCause) (bytes came rest : List ℕ) (written : Text) : Type 0 where
   pub fault : start_fault (records_of bytes) ≡ Some cause
   pub decided : IsDecided cause came rest
@@ -52,7 +54,8 @@ pub record BrokenOff (came : List ℕ) (written : Text) : Type 0 where
   pub text : written ≡ text_or_nothing (whole_of came)
   pub start : IsMissingOnly (start_fault (records_of (whole_of came)))
 
--- a front of the text was written, that of a last record in part, and nothing came beyond its line; the first record is a
+-- a front of the text was written, that of a last record in part, and nothing came beyond its line;
+-- the first record is a
 -- genesis to begin with
 pub record CutShort (bytes came rest : List ℕ) (written : Text) : Type 0 where
   pub part : IsPartOfText came rest written
@@ -63,7 +66,8 @@ pub record CutShort (bytes came rest : List ℕ) (written : Text) : Type 0 where
   pub before : IsFront written (text_so_far (answered ++ last ∷ []))
   pub start : start_fault (records_of bytes) ≡ None
 
--- what each status says: the source held `bytes`, of which `came` came and `rest` is left, and the run wrote `written`
+-- what each status says: the source held `bytes`, of which `came` came and `rest` is left, and the
+-- run wrote `written`
 abbrev pub Ends : Status → List ℕ → List ℕ → List ℕ → Text → Type 0
 Ends statuses.Done bytes came rest written = Finished bytes rest written
 Ends (statuses.BadGenesis cause) bytes came rest written = NotBegun cause bytes came rest written

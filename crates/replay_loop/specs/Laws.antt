@@ -1,4 +1,5 @@
--- Laws of runs: whatever bytes are read, the ledger is one that records reach by the rules of the whole ledger. (Own)
+-- Laws of runs: whatever bytes are read, the ledger is one that records reach by the rules of the
+-- whole ledger. (Own)
 use Rattle.std.specs.Prelude.{◌≡◌, ℕ, Bool, true, List, None, fold}
 use Rattle.std.specs.List.{list_all}
 use Rattle.ledger_model.specs.Supply.{supply_of}
@@ -32,7 +33,8 @@ are_within rs = list_all (λ (r : ℕ × Reading). is_within r.1) rs
 abbrev pub LinesAreWithin : Type 0
 LinesAreWithin = (bytes : List ℕ) → are_within (records_of bytes) ≡ true
 
--- whatever is read, the World is one that records reach from the genesis; so each law of runs holds of it
+-- whatever is read, the World is one that records reach from the genesis; so each law of runs holds
+-- of it
 abbrev pub LinesReach : Type 0
 LinesReach = (g : Genesis) (rs : List (ℕ × Reading))
     → genesis_limits.is_within_limits g ≡ true → genesis_fault g ≡ None → are_within rs ≡ true
@@ -48,7 +50,8 @@ SupplyStays = (g : Genesis) (rs : List (ℕ × Reading))
 abbrev pub RefusedChangesNothing : Type 0
 RefusedChangesNothing = (w : World) (r : Record) (rule : Rule) → (step w r).1 ≡ Refused rule → world_after_reading w (Read r) ≡ w
 
--- replays of the same bytes that were read to their end wrote the same text, whatever the number of workers was
+-- replays of the same bytes that were read to their end wrote the same text, whatever the number of
+-- workers was
 abbrev pub TextsAreOne : Type 0
 TextsAreOne = (bytes rest other : List ℕ) (written again : Text) → Finished bytes rest written → Finished bytes other again → written ≡ again
 

@@ -5,9 +5,11 @@ pub mod Statuses
 pub mod Endings
 pub mod Outcomes
 pub mod Answers
-pub mod Told
+pub mod Plays
+pub mod Through
 pub mod Texts
 pub mod Turns
 pub mod Counts
 pub mod Loads
 pub mod Inputs
+pub mod Shortfalls

@@ -48,7 +48,8 @@ EndsLoad statuses.ReadFault text written = ⊥
 EndsLoad statuses.TooMuch text written = ⊥
 EndsLoad statuses.Usage text written = ⊥
 
--- what a run of `load` came to: the stream has a summary, and the sink took what was written of its text
+-- what a run of `load` came to: the stream has a summary, and the sink took what was written of its
+-- text
 pub record IsLoaded (status : Status) (c : LoadCommand) (had has : Option (List ℕ)) : Type 0 where
   pub summary : LoadSummary
   pub is : summary_of_load c ≡ Some summary

@@ -1,13 +1,10 @@
 -- The endings of a run. (Own)
 use Rattle.std.specs.Prelude.{ℕ, Result, Ok, Err}
-use Rattle.byte_lines.specs.declared.lines.LineFault.{LineFault}
-use Rattle.byte_lines.specs.declared.lines.LineFault.TheVariants as line_faults
-use Rattle.byte_lines.specs.declared.sink.SinkFault.{SinkFault}
-use Rattle.byte_lines.specs.declared.sink.SinkFault.TheVariants as sink_faults
+use Rattle.line_runs.specs.declared.fault.RunFault.{RunFault}
+use Rattle.line_runs.specs.declared.fault.RunFault.TheVariants as faults
 use Rattle.replay_loop.specs.declared.fault.AnswerFault.{AnswerFault}
 use Rattle.replay_loop.specs.declared.fault.AnswerFault.TheVariants as answer_faults
-use Rattle.replay_loop.specs.declared.fault.ReplayFault.{ReplayFault}
-use Rattle.replay_loop.specs.declared.fault.ReplayFault.TheVariants as faults
+use Rattle.replay_loop.specs.declared.status.GenesisCause.{GenesisCause}
 use Rattle.replay_loop.specs.declared.status.Status.{Status}
 use Rattle.replay_loop.specs.declared.status.Status.TheVariants as statuses
 
@@ -21,25 +18,18 @@ status_number statuses.WriteFault = 5
 status_number statuses.NoMemory = 6
 status_number statuses.TooMuch = 7
 
--- why a replay ends where there is no next line
-abbrev pub fault_of_line : LineFault → ReplayFault
-fault_of_line line_faults.ReadFault = faults.ReadFault
-fault_of_line line_faults.TooMuch = faults.TooMuch
-fault_of_line line_faults.NoMemory = faults.NoMemory
-
--- where a text is not taken
-abbrev pub fault_of_sink : SinkFault → ReplayFault
-fault_of_sink sink_faults.WriteFault = faults.WriteFault
-fault_of_sink sink_faults.NoMemory = faults.NoMemory
+-- why a run over the ledger does not come to its end
+abbrev pub ReplayFault : Type 0
+ReplayFault = RunFault GenesisCause
 
 -- where there is no answer
 abbrev pub fault_of_answer : AnswerFault → ReplayFault
-fault_of_answer (answer_faults.BadGenesis cause) = faults.BadGenesis cause
+fault_of_answer (answer_faults.BadGenesis cause) = faults.Stop cause
 fault_of_answer answer_faults.NoMemory = faults.NoMemory
 
 -- how a run ends for such a fault
 abbrev pub status_of_fault : ReplayFault → Status
-status_of_fault (faults.BadGenesis cause) = statuses.BadGenesis cause
+status_of_fault (faults.Stop cause) = statuses.BadGenesis cause
 status_of_fault faults.ReadFault = statuses.ReadFault
 status_of_fault faults.WriteFault = statuses.WriteFault
 status_of_fault faults.NoMemory = statuses.NoMemory

@@ -1,14 +1,8 @@
--- What a sink is told of an answer: its text. (Own)
-use Rattle.std.specs.Prelude.{◌≡◌, ℕ, List, Option, take}
-use Rattle.std.specs.Io.KnownBytes.{append_known}
-use Rattle.run_model.specs.World.{World}
-use Rattle.replay_loop.specs.declared.outcome.Outcome.{Outcome}
+-- What a replay tells: the text of each record. (Own)
+use Rattle.std.specs.Prelude.{[]}
 use Rattle.replay_loop.specs.Outcomes.{outcome_text}
+use Rattle.replay_loop.specs.Plays.{Telling}
 
--- all of it
-abbrev pub with_text : Option (List ℕ) → ℕ → World → Outcome → Option (List ℕ)
-with_text taken n w outcome = append_known taken (outcome_text n w outcome)
-
--- a front of it
-abbrev pub IsTextPart : Option (List ℕ) → ℕ → World → Outcome → Option (List ℕ) → Type 0
-IsTextPart taken n w outcome taken' = (k : ℕ) × (taken' ≡ append_known taken (take k (outcome_text n w outcome)))
+-- and nothing at the end
+abbrev pub texts_told : Telling (Unit {0})
+texts_told = record { keeps = λ k n w o. tt; tells = λ k n w o. outcome_text n w o; closes = λ k w n. [] }

@@ -1,5 +1,6 @@
 ghost use Rattle.run_model.specs.Laws.{AssetsChangeByMint};
 ghost use Rattle.replay_loop.specs.Laws.{LinesAreWithin, LinesReach, RefusedChangesNothing, SummariesAreOne, SupplyStays, TextsAreOne};
+ghost use Rattle.replay_loop.specs.Shortfalls.{DoneIsWhole};
 
 use record_read::lines_read_within_limits;
 use run_laws::{assets_change_by_mint, supply_stays};
@@ -13,6 +14,7 @@ pub fn laws()
     ensures refused { RefusedChangesNothing }
     ensures one_text { TextsAreOne }
     ensures one_summary { SummariesAreOne }
+    ensures whole_shortfall { DoneIsWhole }
 {
     lines_read_within_limits();
     supply_stays();

@@ -1,7 +1,7 @@
 use crate::outcome::Outcome;
 use crate::status::{GenesisCause, Status};
-use byte_lines::{LineFault, SinkFault};
 use coin_frac::NoMemory;
+use line_runs::RunFault;
 use std::alloc::AllocError;
 
 /// Why what was read has no answer. (Own)
@@ -38,88 +38,33 @@ impl From<AllocError> for AnswerFault {
     }
 }
 
-/// Why a replay did not come to its end.
-#[derive(Clone, Copy)]
-pub enum ReplayFault {
-    /// The first line that is not blank is no genesis to begin with.
-    BadGenesis(GenesisCause),
-    /// A read failed.
-    ReadFault,
-    /// A write failed.
-    WriteFault,
-    /// Memory ran out.
-    NoMemory,
-    /// The stream is longer than its limit.
-    TooMuch,
-}
-
-impl From<LineFault> for ReplayFault {
-    ghost use Rattle.std.specs.Prelude.{◌≡◌};
-    ghost use Rattle.replay_loop.specs.Statuses.{fault_of_line};
-
-    ghost from_gives = { λ fault f. f ≡ fault_of_line fault };
-
-    fn from(fault: LineFault) -> ReplayFault {
-        match fault {
-            LineFault::ReadFault => ReplayFault::ReadFault,
-            LineFault::TooMuch => ReplayFault::TooMuch,
-            LineFault::NoMemory => ReplayFault::NoMemory,
-        }
-    }
-}
-
-impl From<SinkFault> for ReplayFault {
-    ghost use Rattle.std.specs.Prelude.{◌≡◌};
-    ghost use Rattle.replay_loop.specs.Statuses.{fault_of_sink};
-
-    ghost from_gives = { λ fault f. f ≡ fault_of_sink fault };
-
-    fn from(fault: SinkFault) -> ReplayFault {
-        match fault {
-            SinkFault::WriteFault => ReplayFault::WriteFault,
-            SinkFault::NoMemory => ReplayFault::NoMemory,
-        }
-    }
-}
-
-impl From<AnswerFault> for ReplayFault {
+impl From<AnswerFault> for RunFault<GenesisCause> {
     ghost use Rattle.std.specs.Prelude.{◌≡◌};
     ghost use Rattle.replay_loop.specs.Statuses.{fault_of_answer};
 
     ghost from_gives = { λ fault f. f ≡ fault_of_answer fault };
 
-    fn from(fault: AnswerFault) -> ReplayFault {
+    fn from(fault: AnswerFault) -> RunFault<GenesisCause> {
         match fault {
-            AnswerFault::BadGenesis(cause) => ReplayFault::BadGenesis(cause),
-            AnswerFault::NoMemory => ReplayFault::NoMemory,
+            AnswerFault::BadGenesis(cause) => RunFault::Stop(cause),
+            AnswerFault::NoMemory => RunFault::NoMemory,
         }
     }
 }
 
-impl From<NoMemory> for ReplayFault {
-    ghost use Rattle.std.specs.Prelude.{◌≡◌};
-    ghost use Rattle.replay_loop.specs.declared.fault.ReplayFault.TheVariants as faults;
-
-    ghost from_gives = { λ _ f. f ≡ faults.NoMemory };
-
-    fn from(_error: NoMemory) -> ReplayFault {
-        ReplayFault::NoMemory
-    }
-}
-
-impl From<ReplayFault> for Status {
+impl From<RunFault<GenesisCause>> for Status {
     ghost use Rattle.std.specs.Prelude.{◌≡◌};
     ghost use Rattle.replay_loop.specs.Statuses.{status_of_fault};
 
     ghost from_gives = { λ fault status. status ≡ status_of_fault fault };
 
-    fn from(fault: ReplayFault) -> Status {
+    fn from(fault: RunFault<GenesisCause>) -> Status {
         match fault {
-            ReplayFault::BadGenesis(cause) => Status::BadGenesis(cause),
-            ReplayFault::ReadFault => Status::ReadFault,
-            ReplayFault::WriteFault => Status::WriteFault,
-            ReplayFault::NoMemory => Status::NoMemory,
-            ReplayFault::TooMuch => Status::TooMuch,
+            RunFault::Stop(cause) => Status::BadGenesis(cause),
+            RunFault::ReadFault => Status::ReadFault,
+            RunFault::WriteFault => Status::WriteFault,
+            RunFault::NoMemory => Status::NoMemory,
+            RunFault::TooMuch => Status::TooMuch,
         }
     }
 }

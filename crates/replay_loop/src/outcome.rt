@@ -1,14 +1,15 @@
-ghost use Rattle.std.specs.Prelude.{◌≡◌, ◌++◌, ◌∷◌, [], ℕ, OnOk, OnErr, take, Err};
-ghost use Rattle.std.specs.Io.KnownBytes.{append_known};
+ghost use Rattle.std.specs.Prelude.{◌≡◌, ◌++◌, ◌∷◌, [], OnOk, OnErr, Err};
 ghost use Rattle.byte_lines.specs.Faults.{CountsFaults};
 ghost use Rattle.replay_loop.specs.Counts.{outcome_counted};
 ghost use Rattle.replay_loop.specs.Outcomes.{outcome_lines, outcome_text};
+ghost use Rattle.line_runs.specs.Batches.{TellsAll, TellsPart};
 ghost use Rattle.load_summary.specs.Counting.{IsCounted};
 ghost use Rattle.report.specs.Taking.{HasPut};
 ghost use Rattle.text_model.specs.EpochLines.{epoch_lines};
 ghost use Rattle.text_model.specs.Replies.{block_words, reply_words};
 
 use crate::run_state::RunState;
+use crate::through::Through;
 use byte_lines::{Sink, SinkFault};
 use coin_frac::NoMemory;
 use load_summary::LoadCounts;
@@ -84,20 +85,43 @@ impl Outcome {
         }
     }
 
-    /// Writes its text over the state after the record, line by line, through a buffer that is used again for the next.
+    /// Gathers its lines.
+    fn put_through<R: RunState, K: Sink>(
+        &self,
+        state: &R,
+        line: u64,
+        text: &mut Vec<u8>,
+        to: &mut Through<'_, K>,
+    ) -> Result<(), SinkFault>
+        ensures ok { OnOk result (TellsAll (K.taken to.old.sink.now) (K.taken to.new.sink.now) to.old.batch.now.items to.new.batch.now.items
+            (outcome_text line (R.world state.now) self.now)) }
+        ensures err { OnErr result (TellsPart (K.taken to.old.sink.now) (K.taken to.new.sink.now) to.old.batch.now.items to.new.batch.now.items
+            (outcome_text line (R.world state.now) self.now)) }
+        ensures same_batch { to.new.batch.ghost_name ≡ to.old.batch.ghost_name }
+        ensures same_sink { to.new.sink.ghost_name ≡ to.old.sink.ghost_name }
+        ensures counts { CountsFaults (result ≡ Err SinkFault.WriteFault) (K.faults to.old.sink.now) (K.faults to.new.sink.now) }
+    {
+        self.put(state, line, text, to)
+    }
+
+    /// Tells its text over the state after the record, line by line, through a buffer that is used
+    /// again for the next.
     pub(crate) fn write<R: RunState, K: Sink>(
         self,
         state: &R,
         number: u64,
         text: &mut Vec<u8>,
+        batch: &mut Vec<u8>,
         sink: &mut K,
     ) -> Result<(), SinkFault>
-        ensures ok { OnOk result (K.taken sink.new ≡ append_known (K.taken sink.old) (outcome_text number (R.world state.now) self)) }
-        ensures err { OnErr result ((k : ℕ) ×
-            (K.taken sink.new ≡ append_known (K.taken sink.old) (take k (outcome_text number (R.world state.now) self)))) }
+        ensures ok { OnOk result (TellsAll (K.taken sink.old) (K.taken sink.new) batch.old.items batch.new.items
+            (outcome_text number (R.world state.now) self)) }
+        ensures err { OnErr result (TellsPart (K.taken sink.old) (K.taken sink.new) batch.old.items batch.new.items
+            (outcome_text number (R.world state.now) self)) }
         ensures counts { CountsFaults (result ≡ Err SinkFault.WriteFault) (K.faults sink.old) (K.faults sink.new) }
     {
-        self.put(state, number, text, sink)
+        let mut to = Through { batch, sink };
+        self.put_through(state, number, text, &mut to)
     }
 
     /// Counts it into those of a summary.

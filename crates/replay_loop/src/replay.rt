@@ -1,118 +1,85 @@
-ghost use Rattle.std.specs.Prelude.{◌≡◌, ◌≢◌, ◌≤◌, ℕ, List, Err, Some, option_map, true};
+ghost use Rattle.std.specs.Prelude.{◌≡◌, ◌≤◌, ℕ, List, Err, Some};
 ghost use Rattle.byte_lines.specs.Faults.{CountsFaults};
-ghost use Rattle.record_stream.specs.Records.{is_within};
+ghost use Rattle.line_runs.specs.Runs.{IsRunOf};
 ghost use Rattle.replay_loop.specs.Answers.{AnswersEach};
 ghost use Rattle.replay_loop.specs.Endings.{IsReplayed};
+ghost use Rattle.replay_loop.specs.Plays.{run_of};
 ghost use Rattle.replay_loop.specs.Statuses.{status_by};
-ghost use Rattle.replay_loop.specs.Told.{IsHeard};
-ghost use Rattle.replay_loop.specs.Turns.{IsTold};
 
-use crate::fault::{Answered, ReplayFault};
-use crate::hearer::Hearer;
+use crate::fault::Answered;
+use crate::records::Records;
 use crate::run_state::RunState;
 use crate::status::GenesisCause;
-use byte_lines::{Sink, Source};
-use record_stream::RecordReader;
+use crate::teller::Teller;
+use crate::told_texts::Texts;
+use byte_lines::{Lines, Sink, Source, whole_lines};
+use line_runs::{RunFault, run_lines};
+use record_read::Scratch;
 use std::alloc::Global;
-use std::thread::Threads;
 use tx_records::Reading;
+use tx_records::limits::{LINE_LIMIT, STREAM_LIMIT};
 
-/// How many workers read lines ahead: to make threads for a part of 64 KiB takes longer than to read it by one.
-const READERS: u32 = 1;
-
-/// The state after what was read of the line of this number, which is told.
-fn turn<R: RunState + Drop, H: Hearer<R>, F: Fn(u32, Option<R>, Reading) -> Answered<R>>(
-    answer: &F,
-    workers: u32,
-    before: Option<R>,
-    reading: Reading,
-    number: u64,
-    text: &mut Vec<u8>,
-    hearer: &mut H,
-) -> Result<R, ReplayFault>
-    requires within { is_within reading ≡ true }
-    requires some { 1 ≤ workers }
-    requires few { workers ≤ 64 }
-    requires answers { AnswersEach R.world (F.pre answer.now) (F.post answer.now) }
-    ensures told { IsTold R.world H.with_outcome H.IsPart (option_map R.world before) reading number
-        (H.told hearer.old) (H.told hearer.new) result }
-    ensures reads { result ≢ Err ReplayFault.ReadFault }
-    ensures writes { CountsFaults (result ≡ Err ReplayFault.WriteFault) (H.faults hearer.old) (H.faults hearer.new) }
-{
-    let (after, outcome) = answer(workers, before, reading)?;
-    hearer.hear(&after, outcome, number, text)?;
-    Ok(after)
-}
-
-/// Reads a stream from its genesis to its end, and tells what each record comes to before it asks for a further line.
-pub(crate) fn replay_over<
-    T: Threads + Sync,
+/// Reads a stream from its genesis to its end, and tells of each record what the teller says.
+pub(crate) fn tell_records<
     R: RunState + Drop,
+    H: Teller<R> + Drop,
     S: Source,
-    H: Hearer<R>,
+    K: Sink,
     F: Fn(u32, Option<R>, Reading) -> Answered<R>,
 >(
     alloc: Global,
-    rt: &T,
     answer: &F,
     workers: u32,
+    teller: H,
     source: &mut S,
-    hearer: &mut H,
-) -> Result<R, ReplayFault>
+    sink: &mut K,
+) -> Result<(), RunFault<GenesisCause>>
     requires some { 1 ≤ workers }
     requires few { workers ≤ 64 }
     requires answers { AnswersEach R.world (F.pre answer.now) (F.post answer.now) }
-    ensures hears { (bytes : List ℕ) → S.left source.old ≡ Some bytes →
-        IsHeard R.world H.with_outcome H.IsPart bytes (S.left source.new) (H.told hearer.old) (H.told hearer.new) result }
-    ensures reads { CountsFaults (result ≡ Err ReplayFault.ReadFault) (S.faults source.old) (S.faults source.new) }
-    ensures writes { CountsFaults (result ≡ Err ReplayFault.WriteFault) (H.faults hearer.old) (H.faults hearer.new) }
+    ensures runs { (bytes : List ℕ) → S.left source.old ≡ Some bytes →
+        IsRunOf (run_of H.telling (H.kept teller)) bytes (S.left source.new) (K.taken sink.old) (K.taken sink.new) result }
+    ensures reads { CountsFaults (result ≡ Err RunFault.ReadFault) (S.faults source.old) (S.faults source.new) }
+    ensures writes { CountsFaults (result ≡ Err RunFault.WriteFault) (K.faults sink.old) (K.faults sink.new) }
 {
-    let mut reader = RecordReader::new(alloc);
-    let mut text = Vec::new(alloc);
-    let mut state = None;
-    while let Some(reading) = reader.next(rt, READERS, source)? {
-        let after = turn(
-            answer,
-            workers,
-            state,
-            reading,
-            reader.number(),
-            &mut text,
-            hearer,
-        )?;
-        state = Some(after);
-    }
-    state.ok_or(ReplayFault::BadGenesis(GenesisCause::Missing))
+    let mut lines = Lines::new(alloc, LINE_LIMIT, STREAM_LIMIT);
+    let mut command = Records {
+        alloc,
+        answer,
+        workers,
+        state: None,
+        teller,
+        scratch: Scratch::new(alloc),
+    };
+    run_lines(alloc, &mut lines, &mut command, source, sink)
 }
 
-/// Reads a stream from its genesis to its end, and writes the text of each record before it asks for a further line.
+/// Reads a stream from its genesis to its end, and writes the text of each record before it asks
+/// the source for more.
 pub(crate) fn replay<
-    T: Threads + Sync,
     R: RunState + Drop,
     S: Source,
     K: Sink,
     F: Fn(u32, Option<R>, Reading) -> Answered<R>,
 >(
     alloc: Global,
-    rt: &T,
     answer: &F,
     workers: u32,
     source: &mut S,
     sink: &mut K,
-) -> Result<(), ReplayFault>
+) -> Result<(), RunFault<GenesisCause>>
     requires some { 1 ≤ workers }
     requires few { workers ≤ 64 }
     requires answers { AnswersEach R.world (F.pre answer.now) (F.post answer.now) }
     ensures replays { (bytes : List ℕ) → S.left source.old ≡ Some bytes →
         IsReplayed (status_by result) bytes (S.left source.new) (K.taken sink.old) (K.taken sink.new) }
-    ensures reads { CountsFaults (result ≡ Err ReplayFault.ReadFault) (S.faults source.old) (S.faults source.new) }
-    ensures writes { CountsFaults (result ≡ Err ReplayFault.WriteFault) (K.faults sink.old) (K.faults sink.new) }
+    ensures reads { CountsFaults (result ≡ Err RunFault.ReadFault) (S.faults source.old) (S.faults source.new) }
+    ensures writes { CountsFaults (result ≡ Err RunFault.WriteFault) (K.faults sink.old) (K.faults sink.new) }
 {
-    match replay_over(alloc, rt, answer, workers, source, sink) {
-        Ok(last) => {
-            drop(last);
-            Ok(())
-        }
-        Err(fault) => Err(fault),
-    }
+    // (laws: how bytes are cut into lines)
+    whole_lines();
+    let teller = Texts {
+        text: Vec::new(alloc),
+    };
+    tell_records(alloc, answer, workers, teller, source, sink)
 }

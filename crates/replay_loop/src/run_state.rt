@@ -1,8 +1,10 @@
 use byte_lines::SinkFault;
 use report::LineTaker;
+use std::alloc::Global;
 use tx_records::Pots;
 
-/// What a run holds between two records. The loop is written over any, so that its proof opens no part of the ledger. (Own)
+/// What a run holds between two records. The loop is written over any, so that its proof opens no
+/// part of the ledger. (Own)
 pub trait RunState: Sized {
     ghost use Rattle.std.specs.Prelude.{◌≡◌, [], ◌∷◌};
     ghost use Rattle.ledger_model.specs.Supply.{pots_of};
@@ -46,5 +48,24 @@ pub trait RunState: Sized {
         line: u64,
     ) -> Result<(), SinkFault>
         ensures { HasPut T.with_line T.IsPart line (T.taken to.old) (asset_lines (world self.now)) (T.taken to.new)
+            (T.faults to.old) (T.faults to.new) result };
+}
+
+/// What a run holds, where it can say at the end what its frozen proposals lack. (Own)
+pub trait ShortState: RunState {
+    ghost use Rattle.bare_lines.specs.Bare.{bare, bare_part};
+    ghost use Rattle.report.specs.Taking.{HasPut};
+    ghost use Rattle.shortfall_model.specs.ShortLines.{shortfall_lines};
+
+    /// Hands over the lines of what each frozen proposal lacks, in order of priority, without
+    /// numbers.
+    /// It consumes the state. (Own)
+    fn put_short<T: LineTaker>(
+        self,
+        alloc: Global,
+        to: &mut T,
+        text: &mut Vec<u8>,
+    ) -> Result<(), SinkFault>
+        ensures { HasPut (bare T.with_line) (bare_part T.IsPart) 0 (T.taken to.old) (shortfall_lines (Self.world self).frozen) (T.taken to.new)
             (T.faults to.old) (T.faults to.new) result };
 }

@@ -29,7 +29,8 @@ pub enum GenesisCause {
     Missing,
     /// The line is longer than a line may be.
     TooLong,
-    /// It is no record: what of it is wrong, and the place in that list, from 0, where one entry is.
+    /// It is no record: what of it is wrong, and the place in that list, from 0, where one entry
+    /// is.
     Malformed { what: FieldName, place: Option<u32> },
     /// It is a record of another kind.
     NoGenesis,

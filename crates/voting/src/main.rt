@@ -1,6 +1,6 @@
 //! What a voting tool asks of the library: who voted on each live proposal, what each role counts and needs, and what the next
 //! boundary makes of it. It reads a stream from standard input, and tells it of the ledger after the last record, in lines that
-//! begin with the number of that record's line. The page docs/voting.md tells of it.
+//! begin with the number of that record's line. The page docs/use/library.md tells of it.
 #![tactic(auto)]
 
 mod after;

@@ -1,6 +1,6 @@
 //! What a wallet asks of the library: will this be accepted, and if not, why? It reads a genesis from standard input, and
 //! asks about a transfer with a fee that is too small and with the least one, and about a transaction of governance before
-//! and after the hard fork that it votes on is proposed. The page docs/library.md tells of it.
+//! and after the hard fork that it votes on is proposed. The page docs/use/library.md tells of it.
 #![tactic(auto)]
 
 mod ask;

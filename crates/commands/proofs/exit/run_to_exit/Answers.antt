@@ -2,7 +2,7 @@ use Rattle.std.proofs.Common.{◌≡◌, List, Some, ap, drop, subst, sym, ◌�
 use Rattle.std.specs.Prelude.{String}
 use Rattle.std.specs.declared.alloc.Global.{Global}
 use Rattle.load_options.specs.Command.{load_command_of}
-use Rattle.replay_loop.specs.Commands.{IsReplayCommand, is_command}
+use Rattle.replay_loop.specs.Commands.{IsReplayCommand, IsShortfallCommand, is_command}
 use Rattle.replay_loop.specs.Statuses.{status_number}
 use Rattle.replay_loop.proofs.Numbers.{counts_as, is_read_fault, is_usage, is_write_fault}
 use Rattle.commands.proofs.exit.run_to_exit.Goals as goal
@@ -18,6 +18,11 @@ pub returns-clause-replays : goal.returns-clause-replays
 returns-clause-replays g c = λ bytes command told.
     let named : IsReplayCommand c.after_name.result.now = subst (λ (words : List (String Global)). IsReplayCommand words) (sym c.after_name.ensures) command in
     (c.run-status.result, c.from.ensures ∙ c.number.ensures, c.run-status.ensures.replays bytes named told)
+
+pub returns-clause-shortfalls : goal.returns-clause-shortfalls
+returns-clause-shortfalls g c = λ bytes command told.
+    let named : IsShortfallCommand c.after_name.result.now = subst (λ (words : List (String Global)). IsShortfallCommand words) (sym c.after_name.ensures) command in
+    (c.run-status.result, c.from.ensures ∙ c.number.ensures, c.run-status.ensures.shortfalls bytes named told)
 
 pub returns-clause-loads : goal.returns-clause-loads
 returns-clause-loads g c = λ command asked.

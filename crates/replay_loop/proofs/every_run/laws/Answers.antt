@@ -1,4 +1,5 @@
 use Rattle.replay_loop.proofs.LawsHold.{reached, refused, supply, within}
+use Rattle.replay_loop.proofs.Shortfalls.{done_is_whole}
 use Rattle.replay_loop.proofs.Workers.{summaries_are_one, texts_are_one}
 use Rattle.replay_loop.proofs.every_run.laws.Goals as goal
 
@@ -22,3 +23,6 @@ returns-clause-one_summary c = summaries_are_one
 
 pub returns-clause-assets : goal.returns-clause-assets
 returns-clause-assets c = c.assets_change_by_mint.ensures
+
+pub returns-clause-whole_shortfall : goal.returns-clause-whole_shortfall
+returns-clause-whole_shortfall c = done_is_whole

@@ -1,0 +1,42 @@
+use crate::outcome::Outcome;
+use crate::run_state::RunState;
+use crate::teller::Teller;
+use crate::through::Through;
+use byte_lines::{Sink, SinkFault};
+
+/// Tells the text of each record, line by line, through a buffer that is used again for the next.
+#[derive(Drop)]
+pub(crate) struct Texts {
+    pub(crate) text: Vec<u8>,
+}
+
+impl<R: RunState + Drop> Teller<R> for Texts {
+    ghost use Rattle.replay_loop.specs.Texts.{texts_told};
+
+    ghost Kept = { Unit {0} };
+
+    ghost kept = { λ _. tt };
+
+    ghost telling = { texts_told };
+
+    fn tell<K: Sink>(
+        &mut self,
+        state: &R,
+        outcome: Outcome,
+        number: u64,
+        batch: &mut Vec<u8>,
+        sink: &mut K,
+    ) -> Result<(), SinkFault> {
+        outcome.write(state, number, &mut self.text, batch, sink)
+    }
+
+    fn close<K: Sink>(
+        &mut self,
+        _state: R,
+        _number: u64,
+        _batch: &mut Vec<u8>,
+        _sink: &mut K,
+    ) -> Result<(), SinkFault> {
+        Ok(())
+    }
+}
