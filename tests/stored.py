@@ -1,9 +1,12 @@
 """The streams with stored texts: which there are, and what the built program must give on them.
 
-They are those of examples/, tests/streams/ and tests/streams/worked/ (NAME.in, with NAME.out, NAME.status, 0 if absent, and
-NAME.args, one word a line, `replay` if absent), those of tests/streams/whole, and the one that the program itself keeps."""
+They are those of examples/, tests/streams/ and tests/streams/worked/ (NAME.in, with NAME.out,
+NAME.status, 0 if absent, and NAME.args, one word a line, `replay` if absent), those of
+tests/streams/whole, those of the further commands that are built (tests/streams/commands, and
+tests/streams/further by the command of their part), and the one that the program itself keeps."""
 
 import os
+import re
 from pathlib import Path
 
 from cases import Case
@@ -11,6 +14,8 @@ from cases import Case
 TOP = Path(__file__).resolve().parent.parent
 # where `rt ci` and `rt run` leave the program
 PROGRAM = TOP / "crates/conway/out/conway"
+# the further commands that the program has
+BUILT = ("shortfall",)
 
 
 def is_missing(program, script):
@@ -39,11 +44,23 @@ def files_in(folder):
     return map(case_in, sorted((TOP / folder).glob("*.in")))
 
 
+def further():
+    """The streams of tests/streams/further whose command is built."""
+    folder = TOP / "tests/streams/further"
+    index = (folder / "README.md").read_text(encoding="utf-8")
+    for command, table in re.findall(r"^## .*: \w+ \((\w+)\)$([^#]*)", index, re.M):
+        if command in BUILT:
+            for name in re.findall(r"^\| `(\w+)` \|", table, re.M):
+                yield case_in(folder / f"{name}.in")._replace(words=(command,))
+
+
 def stored():
     """Each of them."""
     yield from files_in("examples")
     yield from files_in("tests/streams")
     yield from files_in("tests/streams/worked")
     yield from files_in("tests/streams/whole")
+    yield from files_in("tests/streams/commands")
+    yield from further()
     own = TOP / "crates/conway"
     yield Case("the stored run", (own / "stdin").read_bytes(), wanted=(own / "stdout").read_text(), words=tuple((own / "args").read_text().split()))

@@ -1,8 +1,9 @@
 """Wrong definitions, and the copies in which they are tried: one of rows, one of laws.
 
-The rows are tried in a copy in which the crates of the definitions and ledger_rows are one crate. It holds a batch of wrong
-definitions at a time, each in modules of its own: the one that is changed and those that stand on it. So the others need not
-be checked again, and what is refused is told by the names of the modules."""
+The rows are tried in a copy in which the crates of the definitions and ledger_rows are one crate.
+It holds a batch of wrong definitions at a time, each in modules of its own: the one that is changed
+and those that stand on it. So the others need not be checked again, and what is refused is told by
+the names of the modules."""
 
 import re
 import shutil
