@@ -1,6 +1,7 @@
 """What a case is, and the words of the answers. The cases stand in tests/tables.
 
-The wanted texts follow from docs/rules.md and docs/formats.md, never from what the program wrote."""
+The wanted texts follow from docs/use/rules.md and docs/use/formats.md, never from what the program
+wrote."""
 
 from typing import NamedTuple
 

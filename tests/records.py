@@ -1,4 +1,5 @@
-"""The lines of streams: what the tables, tests/run/replay and tests/run/bench make their records from."""
+"""The lines of streams: what the tables, tests/run/replay and tests/run/bench make their records
+from."""
 
 import json
 

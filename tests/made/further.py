@@ -1,8 +1,8 @@
-"""Streams of the further commands as rows of further_rows: what each command writes for a stream, and what a checkpoint or a
-certificate is of.
+"""Streams of the further commands as rows of further_rows: what each command writes for a stream,
+and what a checkpoint or a certificate is of.
 
-The terms of records are those of written.py. A World is written as the checkpoint that shows it, and a snapshot as the
-certificate that does: its parts in the order of its lines."""
+The terms of records are those of written.py. A World is written as the checkpoint that shows it,
+and a snapshot as the certificate that does: its parts in the order of its lines."""
 
 import json
 import re

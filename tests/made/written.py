@@ -1,7 +1,9 @@
-"""Streams of records as rows of ledger_rows: how each record is written as a term of the definitions, and a claim on its text.
+"""Streams of records as rows of ledger_rows: how each record is written as a term of the
+definitions, and a claim on its text.
 
-The terms use the words of crates/ledger_rows/proofs/Base.antt. A hash that is one byte after zeros is written as that byte.
-A field or an entry that is not known here is an error, so that no row leaves out what its stream has."""
+The terms use the words of crates/ledger_rows/proofs/Base.antt. A hash that is one byte after zeros
+is written as that byte. A field or an entry that is not known here is an error, so that no row
+leaves out what its stream has."""
 
 import json
 import re

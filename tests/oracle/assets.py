@@ -1,8 +1,8 @@
-"""A plain program of native assets: lists of them, their sums, their texts, and what is malformed of them, written from
-docs/rules.md and docs/formats.md alone.
+"""A plain program of native assets: lists of them, their sums, their texts, and what is malformed
+of them, written from docs/use/rules.md and docs/use/formats.md alone.
 
-An asset is the pair of its policy and its name, both as hex digits in lower case, so that pairs are in the order of their bytes.
-What is held, minted or burned is a map of assets to quantities."""
+An asset is the pair of its policy and its name, both as hex digits in lower case, so that pairs are
+in the order of their bytes. What is held, minted or burned is a map of assets to quantities."""
 
 import re
 

@@ -1,9 +1,11 @@
-"""A plain program of what is counted and ratified: stakes, counts, needs and the pass, written from docs/rules.md alone.
+"""A plain program of what is counted and ratified: stakes, counts, needs and the pass, written from
+docs/use/rules.md alone.
 
-All of it goes by what was frozen when an epoch began, a map `frozen` with the ledger's parts of then: `epoch`, `params`, `version`,
-`committee`, `document`, `script`, `enacted`, `treasury`, `hot`, `dreps`, `proposals`, and beside them `entries` (each credential
-that was registered or had output stake, in order, with its `stake`, and its `account` or None), `mark` (pools with their stakes)
-and `reward_accounts` (of each pool of mark that was registered still)."""
+All of it goes by what was frozen when an epoch began, a map `frozen` with the ledger's parts of
+then: `epoch`, `params`, `version`, `committee`, `document`, `script`, `enacted`, `treasury`, `hot`,
+`dreps`, `proposals`, and beside them `entries` (each credential that was registered or had output
+stake, in order, with its `stake`, and its `account` or None), `mark` (pools with their stakes) and
+`reward_accounts` (of each pool of mark that was registered still)."""
 
 from fractions import Fraction
 

@@ -1,8 +1,10 @@
-"""A plain program of blocks, reward updates and boundaries: with transactions.py and counts.py all of docs/rules.md.
+"""A plain program of blocks, reward updates and boundaries: with transactions.py and counts.py all
+of docs/use/rules.md.
 
-As there, it is written from docs/rules.md and docs/formats.md alone, and looks everything up anew. The ledger has some parts more:
-`length` (slots an epoch), `pending` (a reward update or None), `mark`, `set` and `go` (pools with their stakes), `noted` (the fee
-pot beside them), `frozen` (see counts.py) and `counted`."""
+As there, it is written from docs/use/rules.md and docs/use/formats.md alone, and looks everything
+up anew. The ledger has some parts more: `length` (slots an epoch), `pending` (a reward update or
+None), `mark`, `set` and `go` (pools with their stakes), `noted` (the fee pot beside them), `frozen`
+(see counts.py) and `counted`."""
 
 from copy import deepcopy
 

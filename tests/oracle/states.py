@@ -1,4 +1,4 @@
-"""A plain program of the text of a state, written from docs/formats.md alone."""
+"""A plain program of the text of a state, written from docs/use/formats.md alone."""
 
 from oracle.assets import asset_lines
 from oracle.counts import GROUPS, in_order

@@ -1,8 +1,10 @@
-"""Streams at random, each of a genesis and of records that know the ledger before them: transactions, blocks, reward updates and prints.
+"""Streams at random, each of a genesis and of records that know the ledger before them:
+transactions, blocks, reward updates and prints.
 
-A transaction is made of items at random out of few names, of which those are kept that the plain program takes; then its inputs
-and outputs are made to balance, in lovelace and in each asset. After that none, one or two of the rules are broken: of the rules
-on one item an item is looked for that breaks it, and for the others something is changed. Now and then a list of assets is malformed."""
+A transaction is made of items at random out of few names, of which those are kept that the plain
+program takes; then its inputs and outputs are made to balance, in lovelace and in each asset. After
+that none, one or two of the rules are broken: of the rules on one item an item is looked for that
+breaks it, and for the others something is changed. Now and then a list of assets is malformed."""
 
 from typing import NamedTuple
 
@@ -47,8 +49,9 @@ VERSIONS = [[10, 0], [10, 9], [11, 0], [11, 1], [12, 0]]
 PAYERS = [credential(1), credential(2), credential(10), credential(3, "s")]
 SCRIPTS = [None, hash28(98), hash28(99)]
 CERTS = ["account-reg", "account-unreg", "delegate", "pool-reg", "pool-retire", "drep-reg", "drep-unreg", "drep-update", "hot-auth", "hot-resign"]
-# parameters and pools more often than others, since each of 30 parameters is for pools to vote on or not; withdrawals, since few are
-# ratified; updates of the committee, since members to come have hot keys
+# parameters and pools more often than others, since each of 30 parameters is for pools to vote on
+# or not; withdrawals, since few are ratified; updates of the committee, since members to come have
+# hot keys
 ACTIONS = [*PURPOSES, *["ParameterChange"] * 3, *["TreasuryWithdrawals"] * 3, *["UpdateCommittee"] * 2, "Info"]
 ROLES = ["committee", "drep", "pool", "pool"]
 SIZES = (0, 29, 57, 65)

@@ -1,10 +1,12 @@
-"""A plain program of the rules of a transaction: ledgers of lists and maps, written from docs/rules.md and docs/formats.md alone.
-The rest of the rules stands in assets.py, counts.py, epochs.py and states.py.
+"""A plain program of the rules of a transaction: ledgers of lists and maps, written from
+docs/use/rules.md and docs/use/formats.md alone. The rest of the rules stands in assets.py,
+counts.py, epochs.py and states.py.
 
-It knows nothing of the definitions and of the crates, and looks everything up anew. A ledger is a map; of its parts `outputs`,
-`accounts`, `pools`, `dreps` and `hot` are maps by name, `proposals` is a list in order of submission. Records are as
-`json.loads` gives them, with ids in lower case, but for those of assets; a transaction has been through `filled`. It reads no
-lines: that a record can be read, and that a genesis breaks no rule of one, is asked of the caller."""
+It knows nothing of the definitions and of the crates, and looks everything up anew. A ledger is a
+map; of its parts `outputs`, `accounts`, `pools`, `dreps` and `hot` are maps by name, `proposals` is
+a list in order of submission. Records are as `json.loads` gives them, with ids in lower case, but
+for those of assets; a transaction has been through `filled`. It reads no lines: that a record can
+be read, and that a genesis breaks no rule of one, is asked of the caller."""
 
 from copy import deepcopy
 from typing import NamedTuple, Optional

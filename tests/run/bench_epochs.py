@@ -1,4 +1,5 @@
-"""The streams of epochs that tests/run/bench times by parts: boundaries, pulses, and prints of the state."""
+"""The streams of epochs that tests/run/bench times by parts: boundaries, pulses, and prints of the
+state."""
 
 import random
 from typing import Callable, NamedTuple

@@ -1,4 +1,5 @@
-"""The plain program of tests/run/plain, compiled, beside which tests/run/bench and tests/run/bench_load measure the built one."""
+"""The plain program of tests/run/plain, compiled, beside which tests/run/bench and
+tests/run/bench_load measure the built one."""
 
 import shutil
 import subprocess

@@ -1,5 +1,5 @@
-"""What the scripts share that time blocks: a stream that lies in a file, the program that is handed its lines one after another, and
-what the last of them take."""
+"""What the scripts share that time blocks: a stream that lies in a file, the program that is handed
+its lines one after another, and what the last of them take."""
 
 import re
 import subprocess

@@ -1,4 +1,5 @@
-"""The streams of transactions that tests/run/bench times: long ones, and the worst records that the formats allow."""
+"""The streams of transactions that tests/run/bench times: long ones, and the worst records that the
+formats allow."""
 
 import hashlib
 import random
@@ -22,7 +23,8 @@ ACTIONS = 100
 MANY = 16_384
 # the fields of one object that a line has room for
 NAMES = 1_200_000
-# the keys that it has room for in both lists of an UpdateCommittee, of 60 bytes where one is removed and of 64 where one is added
+# the keys that it has room for in both lists of an UpdateCommittee, of 60 bytes where one is
+# removed and of 64 where one is added
 MEMBERS = (LINE_LIMIT - 1000) // (60 + 64)
 # the assets that it has room for, where it mints them and gives them
 ASSETS = 100_000
@@ -179,8 +181,9 @@ def following(previous):
     return {"type": "NewConstitution", "document": tx_id(0), "previous": previous}
 
 
-# Of what action each proposal is, by its transaction, of which the first is 2, and its place in it. No proposal follows one of
-# its own transaction. So chains grow side by side, one for each place, and one chain alone takes a transaction for each proposal.
+# Of what action each proposal is, by its transaction, of which the first is 2, and its place in it.
+# No proposal follows one of its own transaction. So chains grow side by side, one for each place,
+# and one chain alone takes a transaction for each proposal.
 SHAPES = {
     "info proposals": (PROPOSED, lambda n, place: INFO),
     "root proposals": (PROPOSED, lambda n, place: following(None)),
@@ -391,7 +394,8 @@ def certificates():
     keyed = [{**it, "key": hashed(n)} for n, it in enumerate(enter[:KEYED])]
     first = over(of_one(3), 5 * KEYED + 1, version=[11, 0])
     yield Shape("certificates pool-reg with keys", KEYED, first, one_line(certs=keyed, fee=1), "accepted")
-    # all pools share a key; each but one takes another, and then that one wants the shared one again
+    # all pools share a key; each but one takes another, and then that one wants the shared one
+    # again
     sharing = over(of_one(3), version=[11, 0], pools=[[*it, tx_id(7)] for it in pools[:KEYED]])
     again = [*keyed[1:], {**keyed[0], "key": tx_id(7)}]
     yield Shape("certificates pool-reg of a shared key", KEYED, sharing, one_line(certs=again, fee=1), f"refused 73 PoolKeyInUse at {KEYED - 1}")
@@ -427,7 +431,8 @@ def governance():
     of_hot = [{"voter": f"committee:{credential(n, 's')}", "action": ref(2, 0), "vote": "yes"} for n in each]
     yield Shape("votes of hot keys", ENTRY_LIMIT, live, lambda: iter([transfer(3, votes=of_hot, fee=DEPOSIT + 1)]), "accepted")
     eleven = b"\n".join([over(of_one(4), DEPOSIT + 1, accounts=OWNER, committee=committee, version=[11, 0]), transfer(2, proposals=proposals[:1], fee=1)])
-    # (each vote asks whether a member has its key; as many as these fit into a line with what names their keys)
+    # (each vote asks whether a member has its key; as many as these fit into a line with what names
+    # their keys)
     naming = lambda: iter([transfer(3, certs=authorize[:MANY], votes=of_hot[:MANY], fee=DEPOSIT + 1)])
     yield Shape("votes of hot keys that are named with them", MANY, eleven, naming, "accepted")
     first = over(of_one(4), DEPOSIT * ENTRY_LIMIT + 1, accounts=OWNER, dreps=dreps)

@@ -1,4 +1,5 @@
-"""The streams that tests/run/replay runs, each with the words, and the text and the status that it must give."""
+"""The streams that tests/run/replay runs, each with the words, and the text and the status that it
+must give."""
 
 from tables import (
     accounts,

@@ -1,4 +1,5 @@
-"""Accounts: withdrawals, registrations and delegations. Each refusal alone, at the second place, and beside every rule that is asked later."""
+"""Accounts: withdrawals, registrations and delegations. Each refusal alone, at the second place,
+and beside every rule that is asked later."""
 
 from cases import ACCEPTED, FAILED_SCRIPTS, answered, missing, over_small, pots, printed, unbalanced
 from records import credential, hash28, key, ref, script, small, transfer
@@ -6,7 +7,8 @@ from records import credential, hash28, key, ref, script, small, transfer
 PRINT = b'{"kind":"print","what":"pots"}'
 KEY, SCRIPT, POOR, NEW = credential(10), credential(11, "s"), credential(12), credential(13)
 
-# a key that abstains, a script and a key that delegate to nobody; a deposit of 2 each, and 67, 33 and 0 lovelace of rewards
+# a key that abstains, a script and a key that delegate to nobody; a deposit of 2 each, and 67, 33
+# and 0 lovelace of rewards
 ACCOUNTS = [[KEY, 2, 67, None, "abstain"], [SCRIPT, 2, 33, None, None], [POOR, 2, 0, None, None]]
 FIELDS = {"accounts": ACCOUNTS, "reserves": 594}
 START = pots(200, 100, 594, 1000, deposits=6, rewards=100)

@@ -1,5 +1,5 @@
-"""Native assets: what is balanced, what collateral must give back, which lists are read, and the totals; each rule on both sides of its
-bound. The forms of single entries stand in fields.py."""
+"""Native assets: what is balanced, what collateral must give back, which lists are read, and the
+totals; each rule on both sides of its bound. The forms of single entries stand in fields.py."""
 
 import json
 
@@ -246,7 +246,8 @@ def collaterals():
     )
 
 
-# what is wrong beside collateral of 7 of one asset, or of 7 and 2 of it, or of 7 of it and 1 of another one
+# what is wrong beside collateral of 7 of one asset, or of 7 and 2 of it, or of 7 of it and 1 of
+# another one
 WRONG_RETURNS = [
     ([ref(2, 0)], [], "a return without assets"),
     ([ref(2, 0)], [of(6)], "1 less"),

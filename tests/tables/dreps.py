@@ -1,4 +1,5 @@
-"""DReps and hot keys: certificates, delegations, and the DReps of a genesis. Each refusal alone, at the second place, and beside every rule that is asked later."""
+"""DReps and hot keys: certificates, delegations, and the DReps of a genesis. Each refusal alone, at
+the second place, and beside every rule that is asked later."""
 
 from cases import ACCEPTED, FAILED_SCRIPTS, answered, begins, missing, no_genesis, pots, printed, unbalanced
 from records import GREATEST, credential, genesis, key, ref, small, transfer
@@ -10,8 +11,9 @@ from tables.votes import vote
 DREP, SECOND, NEW_DREP = credential(30), credential(31), credential(32)
 COLD, RESIGNED, STRANGER, HOT = credential(70), credential(72), credential(60), credential(71)
 
-# a key that delegates to DREP, one that delegates to SECOND, and one that delegates to nobody; of DREP another deposit is stored
-# than a new one; of the two members one has a hot key, and the other resigns in transaction 2
+# a key that delegates to DREP, one that delegates to SECOND, and one that delegates to nobody; of
+# DREP another deposit is stored than a new one; of the two members one has a hot key, and the other
+# resigns in transaction 2
 OTHER = credential(14)
 ACCOUNTS = [[KEY, 2, 67, None, DREP], [OTHER, 2, 33, None, SECOND], [POOR, 2, 0, None, None]]
 DREPS = [[DREP, 7, 20], [SECOND, 5, 20]]

@@ -1,5 +1,5 @@
-"""Blocks and reward updates: each of their rules alone and first of two, before a boundary and after it, and what is answered where
-none is broken; and votes after the last epoch of a proposal.
+"""Blocks and reward updates: each of their rules alone and first of two, before a boundary and
+after it, and what is answered where none is broken; and votes after the last epoch of a proposal.
 
 What an epoch's end does beside that stands in tests/streams/whole and tests/streams/worked."""
 

@@ -1,4 +1,5 @@
-"""The fields of the five kinds of records: which values read, and which field and place are named where one does not."""
+"""The fields of the five kinds of records: which values read, and which field and place are named
+where one does not."""
 
 import json
 from os.path import commonprefix
@@ -67,8 +68,8 @@ OPTIONAL = {"genesis": {"script", "committee"}, "tx": {*RECORDS["tx"]} - {"id", 
 
 # a value that no field takes
 BAD = "{}"
-# the last slot that there can be, and its epoch: where the genesis stands there, each block and each reward update that reads is
-# refused by the first rule on it
+# the last slot that there can be, and its epoch: where the genesis stands there, each block and
+# each reward update that reads is refused by the first rule on it
 LAST_SLOT = 2**62 - 1
 LAST_EPOCH = LAST_SLOT // 10
 

@@ -76,8 +76,8 @@ def outputs():
     )
 
 
-# The first rule that a genesis breaks is its cause, which the program does not write: here each rule is broken alone.
-# That they are tried in order is a clause of the library.
+# The first rule that a genesis breaks is its cause, which the program does not write: here each
+# rule is broken alone. That they are tried in order is a clause of the library.
 def rules():
     most = SUPPLY_LIMIT
     yield begins("the greatest supply", genesis(**{**NOTHING, "supply": most, "reserves": most}), pots(0, 0, most, most))

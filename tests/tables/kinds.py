@@ -1,6 +1,8 @@
-"""The kinds of JSON values: for each, texts of values that are of the kind and of values that are not.
+"""The kinds of JSON values: for each, texts of values that are of the kind and of values that are
+not.
 
-A kind that is made of others has each good and each bad value of theirs in turn, all else being as its first good one is."""
+A kind that is made of others has each good and each bad value of theirs in turn, all else being as
+its first good one is."""
 
 import json
 from typing import NamedTuple

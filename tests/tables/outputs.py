@@ -1,4 +1,5 @@
-"""The rules on outputs and on the collateral return: their least lovelace, their network, their places."""
+"""The rules on outputs and on the collateral return: their least lovelace, their network, their
+places."""
 
 from cases import ACCEPTED, FAILED_SCRIPTS, answered, over_outputs, over_small, pots, unbalanced
 from records import GREATEST, genesis, key, ref, script, transfer

@@ -1,4 +1,5 @@
-"""Withdrawals, certificates, proposals and votes of a transaction: what reads, names that stand twice, and when their rules are asked."""
+"""Withdrawals, certificates, proposals and votes of a transaction: what reads, names that stand
+twice, and when their rules are asked."""
 
 from cases import ACCEPTED, FAILED_SCRIPTS, NOT_WITNESSED, USED, answered, malformed, missing, unbalanced
 from records import credential, hash28, key, ref, script, text, transfer, tx_id
@@ -12,8 +13,9 @@ PARTS = {"certs": CERTS, "proposals": PROPOSALS, "votes": VOTES}
 LISTS = ["withdrawals", *PARTS]
 UNKNOWN_DREP, UNKNOWN_RETURN, UNKNOWN_ACTION = "66 DrepUnknown", "82 ReturnAccountUnknown", "100 ActionUnknown"
 
-# one of each certificate of a DRep or a cold key, of each action, and of each vote, as a writer of records would have it; with
-# what a ledger with no account, no DRep and no proposal answers. Its member 70 has a hot key
+# one of each certificate of a DRep or a cold key, of each action, and of each vote, as a writer of
+# records would have it; with what a ledger with no account, no DRep and no proposal answers. Its
+# member 70 has a hot key
 EACH_CERT = [
     ({"cert": "drep-reg", "cred": credential(30), "deposit": None}, unbalanced(20, 24)),
     ({"cert": "drep-unreg", "cred": credential(30, "s"), "refund": 5}, refused(UNKNOWN_DREP)),

@@ -1,5 +1,6 @@
-"""Keys of pools, which from version 11.0 on one pool alone may take: the rule alone, at the second place, and beside every rule of
-its certificate and of what is asked later; and when a key is in use."""
+"""Keys of pools, which from version 11.0 on one pool alone may take: the rule alone, at the second
+place, and beside every rule of its certificate and of what is asked later; and when a key is in
+use."""
 
 from cases import ACCEPTED, FAILED_SCRIPTS, begins, missing, pots, printed, unbalanced
 from records import genesis, hash28, key, ref, transfer, tx_id

@@ -1,4 +1,5 @@
-"""Pools: registrations and retirements, and the pools of a genesis. Each refusal alone, at the second place, and beside every rule that is asked later."""
+"""Pools: registrations and retirements, and the pools of a genesis. Each refusal alone, at the
+second place, and beside every rule that is asked later."""
 
 from cases import ACCEPTED, FAILED_SCRIPTS, answered, begins, missing, no_genesis, pots, printed, unbalanced
 from records import GREATEST, credential, genesis, hash28, key, ref, script, small, transfer, tx_id
@@ -7,7 +8,8 @@ from tables.accounts import BAD_WITHDRAWALS, KEY, NEW, POOR, PRINT, delegate, re
 
 POOL, OTHER = hash28(50), hash28(51)
 
-# a key that abstains and delegates to the pool, and a key that delegates to nobody; the pool pays to the account of the second
+# a key that abstains and delegates to the pool, and a key that delegates to nobody; the pool pays
+# to the account of the second
 ACCOUNTS = [[KEY, 2, 67, POOL, "abstain"], [POOR, 2, 0, None, None]]
 GENESIS_POOL = [POOL, 5, 0, 0, [0, 1], key(12)]
 FIELDS = {"accounts": ACCOUNTS, "pools": [GENESIS_POOL], "minPoolCost": 3, "reserves": 624}

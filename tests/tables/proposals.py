@@ -1,4 +1,5 @@
-"""Proposals: each rule alone, at the second place, and beside every rule that is asked later; what an action may follow."""
+"""Proposals: each rule alone, at the second place, and beside every rule that is asked later; what
+an action may follow."""
 
 from cases import ACCEPTED, FAILED_SCRIPTS, answered, missing, pots, printed, unbalanced
 from records import credential, hash28, key, ref, small, transfer, tx_id

@@ -1,4 +1,5 @@
-"""The rules on id, witnesses, inputs, size, time, fee, the treasury value and the balance, each on both sides of its bound; their order."""
+"""The rules on id, witnesses, inputs, size, time, fee, the treasury value and the balance, each on
+both sides of its bound; their order."""
 
 from cases import (
     ACCEPTED,

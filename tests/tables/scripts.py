@@ -1,4 +1,5 @@
-"""Scripts and collateral: the rules on it, each on both sides of its bound, and what is left where the scripts failed."""
+"""Scripts and collateral: the rules on it, each on both sides of its bound, and what is left where
+the scripts failed."""
 
 from cases import ACCEPTED, FAILED_SCRIPTS, NO_COLLATERAL, USED, answered, missing, over_outputs, over_small, unbalanced
 from records import GREATEST, OUTPUT_LIMIT, credential, key, ref, script, transfer

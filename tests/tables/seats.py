@@ -1,5 +1,6 @@
-"""Seats: from version 11.0 on a committee voter must be the hot key of a member. The rule alone, at the second place, and beside
-every rule of its vote and of what is asked later; and who has a seat."""
+"""Seats: from version 11.0 on a committee voter must be the hot key of a member. The rule alone, at
+the second place, and beside every rule of its vote and of what is asked later; and who has a
+seat."""
 
 from cases import ACCEPTED, FAILED_SCRIPTS, answered, missing, pots, printed, unbalanced
 from records import credential, key, ref, small, transfer
@@ -9,7 +10,8 @@ from tables.epochs import block
 from tables.proposals import BAD_PROPOSALS, INFO, action_id, committee, constitution, hard_fork, no_confidence, proposal, proposing
 from tables.votes import BY_COMMITTEE, BY_DREP, BY_POOL, FIELDS, HOT, STRANGER, vote
 
-# of these cold keys 70 is the member, with the hot key 71, and 60 is added by the proposal of transaction 3, and has the hot key 61
+# of these cold keys 70 is the member, with the hot key 71, and 60 is added by the proposal of
+# transaction 3, and has the hot key 61
 COLD, TO_COME, HOT_TO_COME, OTHER_HOT = credential(70), credential(60), credential(61), credential(74)
 LIVE, UPDATE = action_id(2), action_id(3)
 ADDING = proposal(committee([], [[TO_COME, 50]]))

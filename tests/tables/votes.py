@@ -6,7 +6,8 @@ from tables.accounts import KEY, POOR, PRINT, refused, register
 from tables.proposals import BAD_PROPOSALS, INFO, action_id, change, committee, constitution, hard_fork, no_confidence, proposal, proposing, withdraw
 
 POOL, OTHER, DREP, STRANGER, HOT = hash28(50), hash28(51), credential(30), credential(32), credential(71)
-# a key that abstains and a key to which deposits go back, a pool, a DRep, and a member whose hot key is 71
+# a key that abstains and a key to which deposits go back, a pool, a DRep, and a member whose hot
+# key is 71
 FIELDS = {
     "accounts": [[KEY, 2, 67, None, "abstain"], [POOR, 2, 0, None, None]],
     "pools": [[POOL, 5, 0, 0, [0, 1], key(12)]],

@@ -28,7 +28,8 @@ from tables.votes import vote
 
 PRINT = b'{"kind":"print","what":"pots"}'
 
-# a ledger with a bit of all: two accounts that delegate to a DRep each and one that delegates to nobody, a pool, and a member
+# a ledger with a bit of all: two accounts that delegate to a DRep each and one that delegates to
+# nobody, a pool, and a member
 DREPS = [credential(30), credential(31)]
 ALL = {
     "accounts": [[credential(10), 2, 67, None, DREPS[0]], [credential(11), 2, 33, None, DREPS[1]], [credential(12), 2, 0, None, None]],

@@ -1,4 +1,4 @@
-//! The ledger, and what transactions and blocks change of it, by the rules of docs/rules.md. Amounts are in lovelace.
+//! The ledger, and what transactions and blocks change of it, by the rules of docs/use/rules.md. Amounts are in lovelace.
 //!
 //! Outputs, ids and accounts are looked up by name, and no line tells them in order: so they stand in hash maps.
 

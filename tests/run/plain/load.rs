@@ -1,4 +1,4 @@
-//! The lines of a measured run that register accounts and count their stakes: of the stream that docs/formats.md
+//! The lines of the benchmark stream that register accounts and count their stakes: of what docs/contribute/load.md
 //! describes, the genesis, the registrations and the blocks, without proposals, votes and rewards.
 
 use std::fmt::Write;
