@@ -1,0 +1,4 @@
+mod OldMaps
+pub mod Undoing
+mod Naming
+mod Stepping
