@@ -40,6 +40,7 @@ TEXTS = {
     "checkpoint": "checkpoint_of_readings {lines} {input}",
     "certify": "certificates_of_readings {input}",
     "shortfall": "shortfall_of_readings {input}",
+    "outlook": "outlook_of_readings {input}",
     "follow": "follow_of_readings {input}",
 }
 FURTHER = {
@@ -51,6 +52,7 @@ FURTHER = {
     "Rattle.certificate_model.specs.Checked": "certificates_of_readings",
     "Rattle.certificate_model.specs.Fits": "Fits",
     "Rattle.shortfall_model.specs.ShortLines": "shortfall_of_readings",
+    "Rattle.outlook_model.specs.Outlook": "outlook_of_readings",
     "Rattle.follow_model.specs.FollowLines": "follow_of_readings",
     "Rattle.follow_records.specs.declared.record.FollowReading": "FollowReading",
     "Rattle.follow_records.specs.declared.record.FollowReading.TheVariants": "as follow",

@@ -33,11 +33,14 @@ DEFINITIONS = (
     "checkpoint_model",
     "certificate_model",
     "shortfall_model",
+    "outlook_model",
     "follow_model",
+    "undo_model",
 )
 WITH_TYPES = ("book_records", "shortfall_model")
 # the crates whose laws are tried where no row refuses
-LAWS = ("gov_model", "tx_balance", "epoch_balance", "dormant_laws", "run_laws", "further_laws", "text_laws")
+LAWS = ("gov_model", "tx_balance", "epoch_balance", "dormant_laws", "run_laws", "undo_model", "further_laws", "text_laws",
+        "formed_laws", "formed_lines", "json_lengths", "action_lengths", "stream_laws")
 REFERENCE = re.compile(rf"Rattle\.({'|'.join(DEFINITIONS)})\.specs\.(?!declared\b)(\w+)|Rattle\.(?:ledger|further)_rows\.proofs\.(\w+)")
 ERROR = re.compile(r"\./(specs|proofs)/(?:t(\d+)_)?(\S+?)\.antt\S*: error: (.*)")
 

@@ -11,8 +11,13 @@ pub mod CheckedStreams
 pub mod EnactedCertificateStreams
 pub mod ThresholdCertificateStreams
 pub mod ShortfallStreams
+pub mod OutlookStreams
 pub mod FollowStreams
 pub mod TakenBackStreams
+pub mod UndoRows
+pub mod FormRows
+pub mod WidthRows
+pub mod CommandRows
 pub mod RefusedStreams
 pub mod LaterRefusedStreams
 pub mod AssetCheckpointStreams

@@ -1,2 +1,2 @@
-//! Worked rows of the further commands: what the definitions of checkpoints, certificates, shortfalls and followed streams give, computed by the checker.
+//! Worked rows of the further commands: the checker computes what their definitions give.
 #![tactic(auto)]

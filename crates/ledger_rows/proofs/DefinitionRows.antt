@@ -1,5 +1,5 @@
 -- Worked rows on definitions that no text shows: what flows between pots, what was counted, every rule that is broken, what expires, what goes back to what.
-use Rattle.std.specs.Prelude.{ℕ, ◌≡◌, ◌^◌, List, [], ◌∷◌, Option, Some, None, false, filter, map, refl}
+use Rattle.std.specs.Prelude.{ℕ, ◌≡◌, ◌^◌, List, [], ◌∷◌, Option, Some, None, true, false, filter, map, refl}
 use Rattle.gov_ids.specs.declared.Drep.TheVariants as drep
 use Rattle.gov_ids.specs.declared.Voter.TheVariants as voter
 use Rattle.gov_actions.specs.declared.action.Action.{Action}
@@ -7,18 +7,22 @@ use Rattle.gov_actions.specs.declared.action.Action.TheVariants as actions
 use Rattle.gov_actions.specs.declared.action.Proposal.{Proposal}
 use Rattle.gov_actions.specs.declared.action.Vote.TheVariants as vote
 use Rattle.gov_actions.specs.declared.state.LastIds.{LastIds}
+use Rattle.gov_ids.specs.declared.ActionId.{ActionId}
 use Rattle.gov_model.specs.Kept.{kept_of}
+use Rattle.gov_model.specs.Lineage.{follows_version}
 use Rattle.gov_model.specs.Ratified.{expired_of, ids_of, ratified_of}
 use Rattle.gov_model.specs.Snapshot.{Snapshot}
 use Rattle.gov_model.specs.Stake.{drep_stake}
 use Rattle.ledger_model.specs.Broken.{broken_rules}
+use Rattle.ledger_model.specs.Changes.{fresh_expiry}
 use Rattle.ledger_model.specs.Flows.{Pot, outputs, deposits, rewards, fees, donations, treasury, reserves, hand, same_pot, Flow, flow, source, sink, sum_at, flows_of_tx}
 use Rattle.ledger_model.specs.Moves.{held_in}
 use Rattle.run_model.specs.BoundaryFlows.{flows_of, flows_of_targets}
 use Rattle.run_model.specs.Runs.{counted_of}
 use Rattle.run_model.specs.World.{World}
 use Rattle.tx_records.specs.declared.record.Record.TheVariants as records
-use Rattle.tx_records.specs.declared.limits.TheConstants.{LINE_LIMIT, STREAM_LIMIT, SUPPLY_LIMIT, SLOT_LIMIT, NETWORK_LIMIT, LEAST_MAJOR, OUTPUT_LIMIT, TX_LIST_LIMIT, LIST_LIMIT}
+use Rattle.coin_frac.specs.declared.TheConstants.{SUPPLY_LIMIT}
+use Rattle.tx_records.specs.declared.limits.TheConstants.{LINE_LIMIT, STREAM_LIMIT, SLOT_LIMIT, NETWORK_LIMIT, LEAST_MAJOR, OUTPUT_LIMIT, TX_LIST_LIMIT, LIST_LIMIT}
 use Rattle.tx_records.specs.declared.tx.Scripts.TheVariants as scripts
 use Rattle.ledger_model.specs.Ledger.{Ledger}
 use Rattle.ledger_model.specs.Transaction.{tx_step}
@@ -114,7 +118,7 @@ counted_in_blocks = refl
 abbrev broken_by : Tx → List (ℕ × Option ℕ × ℕ × ℕ)
 broken_by tx = map (λ (r : Rule). (r.number, r.place, r.first, r.second)) (broken_rules start tx)
 
--- every rule is told: no witnesses, no inputs, 1 byte too large, and 20 given of nothing
+-- every rule is reported: no witnesses, no inputs, 1 byte too large, and 20 given of nothing
 pub every_broken_rule : broken_by (record (spend 2 20) { inputs = []; witnessed = false; size = 16385 }) ≡
     (31, None, 0, 0) ∷ (32, None, 0, 0) ∷ (35, None, 16384, 0) ∷ (110, None, 0, 20) ∷ []
 every_broken_rule = refl
@@ -169,3 +173,26 @@ pub back_to_its_own_purpose : ids_of (kept_of (
     proposed 5 (actions.HardForkInitiation (Some (action 2 0)) (10, 1)) ∷
     []) [] [] none_enacted) ≡ action 2 0 ∷ action 3 0 ∷ action 4 0 ∷ []
 back_to_its_own_purpose = refl
+
+-- a fork whose previous action is not live and not enacted breaks the rule on the previous action, and none on versions
+pub a_fork_of_an_unknown_version : broken_by (record (spend 2 10) {
+  proposals = proposing 10 (account_on 1 (key 0x12)) (actions.HardForkInitiation (Some (action 9 0)) (12, 5)) ∷ [];
+}) ≡ (90, Some 0, 0, 0) ∷ []
+a_fork_of_an_unknown_version = refl
+
+-- any version follows what is unknown, or no fork; a known version has two next ones, that of a live fork as that of now
+pub forks_by_what_they_follow : map (λ (f : Option ActionId × ℕ × ℕ). follows_version (
+    proposed 3 (actions.NewConstitution None (h32 2) None) ∷ proposed 4 (actions.HardForkInitiation None (10, 1)) ∷ []) none_enacted (10, 0) (actions.HardForkInitiation f.0 (f.1, f.2))) (
+    (Some (action 9 0), 12, 5) ∷ (Some (action 3 0), 12, 5) ∷
+    (Some (action 4 0), 12, 5) ∷ (Some (action 4 0), 10, 1) ∷ (Some (action 4 0), 10, 2) ∷ (Some (action 4 0), 11, 0) ∷
+    (None, 12, 5) ∷ (None, 10, 2) ∷ (None, 10, 1) ∷ (None, 11, 0) ∷ []) ≡
+    true ∷ true ∷ false ∷ false ∷ true ∷ true ∷ false ∷ false ∷ true ∷ true ∷ []
+forks_by_what_they_follow = refl
+
+-- in epoch 9, with an activity of 3 epochs: a fresh expiry is earlier than the epoch where more are dormant, and reaches just as far once they are added
+pub fresh_among_many_dormant_epochs : map (λ n. fresh_expiry (record start {
+  epoch = 9;
+  dormant = n;
+  state = record start.state { params = record start.state.params { drep_activity = 3 } };
+})) (0 ∷ 3 ∷ 4 ∷ 9 ∷ []) ≡ 12 ∷ 9 ∷ 8 ∷ 3 ∷ []
+fresh_among_many_dormant_epochs = refl

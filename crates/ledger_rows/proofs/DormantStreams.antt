@@ -4,6 +4,7 @@ use Rattle.std.specs.Fmt.{digits}
 use Rattle.hex.specs.Hex.{encode_with}
 use Rattle.gov_actions.specs.declared.action.Action.TheVariants as actions
 use Rattle.gov_actions.specs.declared.action.Vote.TheVariants as vote
+use Rattle.gov_ids.specs.declared.Drep.TheVariants as drep
 use Rattle.gov_ids.specs.declared.Voter.TheVariants as voter
 use Rattle.tx_records.specs.declared.record.Record.TheVariants as records
 use Rattle.tx_records.specs.declared.record.What.TheVariants as what
@@ -448,3 +449,63 @@ pub expiries_after_many_dormant_epochs : says_all expiries_after_many_dormant_ep
     []) ≡ true
 unfolding digits encode_with
 expiries_after_many_dormant_epochs = refl
+
+abbrev dormant_epochs_beyond_the_activity_input : List (ℕ × Reading)
+dormant_epochs_beyond_the_activity_input =
+    (1, Read (records.Genesis (record { network = 1; slot = 0; epoch_length = 10; version = (10, 0); supply = 1000; reserves = 579; treasury = 100; params = (record base_params { gov_action_lifetime = 6; drep_activity = 2 }); document = (h32 0x01); script = None; committee = (Some (record { threshold = (share 0 1); members = (((key 0x70), 100, (Some (key 0x71))) ∷ []) })); outputs = (((ref 0x01 0), (address_with 1 (key 0x01) None), 20, []) ∷ ((ref 0x01 1), (address_with 1 (key 0x01) None), 20, []) ∷ ((ref 0x01 2), (address_with 1 (key 0x01) None), 20, []) ∷ ((ref 0x01 3), (address_with 1 (key 0x01) None), 20, []) ∷ ((ref 0x01 4), (address_with 1 (key 0x01) None), 20, []) ∷ ((ref 0x01 5), (address_with 1 (key 0x01) None), 20, []) ∷ ((ref 0x01 6), (address_with 1 (key 0x01) None), 20, []) ∷ ((ref 0x01 7), (address_with 1 (key 0x01) None), 20, []) ∷ ((ref 0x01 8), (address_with 1 (key 0x01) None), 20, []) ∷ ((ref 0x01 9), (address_with 1 (key 0x01) None), 20, []) ∷ []); accounts = (((key 0x10), 2, 67, None, (Some (drep.Registered (key 0x30)))) ∷ ((key 0x11), 2, 33, None, (Some (drep.Registered (key 0x31)))) ∷ ((key 0x12), 2, 0, None, None) ∷ []); pools = ((record { pool = (pool 0x50); deposit = 5; cost = 0; pledge = 0; margin = (share 0 1); account = (account_on 1 (key 0x12)); key = None }) ∷ []); dreps = (((key 0x30), 5, 20) ∷ ((key 0x31), 5, 20) ∷ []) }))) ∷
+    (2, Read (records.Block 10 3)) ∷
+    (3, Read (records.Block 20 3)) ∷
+    (4, Read (records.Block 30 3)) ∷
+    (5, Read (records.Tx (record (spend 0x02 15) { certs = ((certs.DrepReg (key 0x32) None) ∷ (certs.Delegate (key 0x10) None (Some (drep.Registered (key 0x32)))) ∷ []) }))) ∷
+    (6, Read (records.Tx (record (spend 0x03 10) { proposals = ((proposing 10 (account_on 1 (key 0x12)) (actions.NewConstitution None (h32 0x02) None)) ∷ []) }))) ∷
+    (7, Read (records.Block 40 3)) ∷
+    (8, Read (records.Block 50 3)) ∷
+    (9, Read (records.Block 60 3)) ∷
+    (10, Read (records.Block 70 3)) ∷
+    []
+
+pub dormant_epochs_beyond_the_activity : says_all dormant_epochs_beyond_the_activity_input (
+    codes "1 genesis outputs 200 deposits 21 rewards 100 fees 0 donations 0 treasury 100 reserves 579 supply 1000" ∷
+    codes "2 epoch 1 frozen 3 dormant 1" ∷
+    codes "2 stake k00000000000000000000000000000000000000000000000000000030 67" ∷
+    codes "2 stake k00000000000000000000000000000000000000000000000000000031 33" ∷
+    codes "2 pots outputs 200 deposits 21 rewards 100 fees 0 donations 0 treasury 100 reserves 579 supply 1000" ∷
+    codes "2 block slot 10 epoch 1 counted 3 of 3" ∷
+    codes "3 epoch 2 frozen 3 dormant 2" ∷
+    codes "3 stake k00000000000000000000000000000000000000000000000000000030 67" ∷
+    codes "3 stake k00000000000000000000000000000000000000000000000000000031 33" ∷
+    codes "3 pots outputs 200 deposits 21 rewards 100 fees 0 donations 0 treasury 100 reserves 579 supply 1000" ∷
+    codes "3 block slot 20 epoch 2 counted 3 of 3" ∷
+    codes "4 epoch 3 frozen 3 dormant 3" ∷
+    codes "4 stake k00000000000000000000000000000000000000000000000000000030 67" ∷
+    codes "4 stake k00000000000000000000000000000000000000000000000000000031 33" ∷
+    codes "4 pots outputs 200 deposits 21 rewards 100 fees 0 donations 0 treasury 100 reserves 579 supply 1000" ∷
+    codes "4 block slot 30 epoch 3 counted 3 of 3" ∷
+    codes "5 accepted" ∷
+    codes "6 accepted" ∷
+    codes "7 epoch 4 frozen 3 dormant 0" ∷
+    codes "7 stake k00000000000000000000000000000000000000000000000000000030 67" ∷
+    codes "7 stake k00000000000000000000000000000000000000000000000000000031 33" ∷
+    codes "7 pots outputs 160 deposits 36 rewards 100 fees 25 donations 0 treasury 100 reserves 579 supply 1000" ∷
+    codes "7 block slot 40 epoch 4 counted 3 of 3" ∷
+    codes "8 epoch 5 frozen 3 dormant 0" ∷
+    codes "8 stake k00000000000000000000000000000000000000000000000000000031 33" ∷
+    codes "8 stake k00000000000000000000000000000000000000000000000000000032 67" ∷
+    codes "8 tally 0000000000000000000000000000000000000000000000000000000000000003#0 NewConstitution committee 0/1 need 0/1 drep 0/100 need 67/100 pool 0/0 need none waiting" ∷
+    codes "8 pots outputs 160 deposits 36 rewards 100 fees 25 donations 0 treasury 100 reserves 579 supply 1000" ∷
+    codes "8 block slot 50 epoch 5 counted 3 of 3" ∷
+    codes "9 epoch 6 frozen 3 dormant 0" ∷
+    codes "9 stake k00000000000000000000000000000000000000000000000000000031 33" ∷
+    codes "9 stake k00000000000000000000000000000000000000000000000000000032 67" ∷
+    codes "9 tally 0000000000000000000000000000000000000000000000000000000000000003#0 NewConstitution committee 0/1 need 0/1 drep 0/100 need 67/100 pool 0/0 need none waiting" ∷
+    codes "9 pots outputs 160 deposits 36 rewards 100 fees 25 donations 0 treasury 100 reserves 579 supply 1000" ∷
+    codes "9 block slot 60 epoch 6 counted 3 of 3" ∷
+    codes "10 epoch 7 frozen 3 dormant 0" ∷
+    codes "10 stake k00000000000000000000000000000000000000000000000000000031 33" ∷
+    codes "10 stake k00000000000000000000000000000000000000000000000000000032 67" ∷
+    codes "10 tally 0000000000000000000000000000000000000000000000000000000000000003#0 NewConstitution committee 0/1 need 0/1 drep 0/33 need 67/100 pool 0/0 need none waiting" ∷
+    codes "10 pots outputs 160 deposits 36 rewards 100 fees 25 donations 0 treasury 100 reserves 579 supply 1000" ∷
+    codes "10 block slot 70 epoch 7 counted 3 of 3" ∷
+    []) ≡ true
+unfolding digits encode_with
+dormant_epochs_beyond_the_activity = refl

@@ -1,2 +1,3 @@
-//! Worked rows: what the definitions give for streams of records, computed by the checker. A changed rule starts here.
+//! Worked rows: the definitions' results for record streams, computed by the checker.
+//! Start here to change a rule.
 #![tactic(auto)]
