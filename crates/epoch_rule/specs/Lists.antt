@@ -1,4 +1,4 @@
--- What is reported of the boundary that a World crosses, but for the epoch that begins: parts of run_model's report. (Own)
+-- Parts of run_model's report of the boundary that a World crosses, except the next epoch. (Own)
 use Rattle.gov_model.specs.Ratified.{ratified_of, tallies_of}
 use Rattle.run_model.specs.Report.{paid_of, removed_of, retired_of, stakes_of}
 use Rattle.run_model.specs.World.{World}

@@ -31,7 +31,7 @@ pub(crate) struct Lists {
     pub(crate) retired: Listed<Retired>,
 }
 
-// All steps of a boundary but the freeze, and their reports, by the counts of the frozen proposals.
+// All steps of a boundary except the freeze, with their reports, by the frozen proposals' counts.
 pub(crate) fn crossed(
     alloc: Global,
     b: Books,
@@ -57,7 +57,7 @@ pub(crate) fn crossed(
     }
 }
 
-// The same by what was decided.
+// All steps of a boundary except the freeze, with their reports, by what was decided.
 fn applied(alloc: Global, b: Books, d: Decided) -> Result<(Books, Lists), NoMemory>
     requires sound { (counted : ℕ) × (s : Snapshot) × AreDecidedBooks b counted s d }
     requires early { b.epoch < 2 ^ 62 }

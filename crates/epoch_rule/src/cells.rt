@@ -8,16 +8,17 @@ use par_count::{Gate, tally_all};
 use snapshots::Frozen;
 use std::alloc::Global;
 use std::thread::Threads;
-use tally::TallyCell;
+use tally::{TallyCell, fill_cells};
 
-/// A cell for the counts of each frozen proposal, with none counted. (Own)
+/// An empty cell for the counts of each frozen proposal.
 pub(crate) fn cells_for(alloc: Global, f: &Frozen) -> Result<Vec<TallyCell>, NoMemory>
     ensures { IfOk result (λ cells. length cells.items ≡ length f.now.proposals) }
 {
     Ok(vec![in alloc; TallyCell::default(); f.proposals.len()]?)
 }
 
-/// The counts of each frozen proposal in its cell, shared among so many workers. It takes no memory. (CIP-1694, Ratification; the workers are own)
+/// Counts each frozen proposal in its cell, with so many workers. It takes no memory.
+/// (CIP-1694, Ratification)
 pub(crate) fn tallied<R: Threads + Sync, G: Gate + Sync>(
     rt: &R,
     f: &Frozen,
@@ -34,4 +35,18 @@ pub(crate) fn tallied<R: Threads + Sync, G: Gate + Sync>(
 {
     tally_all(rt, f, c, cells.as_mut_slice(), workers, gate);
     cells
+}
+
+/// The counts of each frozen proposal in a cell, counted in this thread. (CIP-1694, Ratification)
+pub(crate) fn tallied_alone(
+    alloc: Global,
+    f: &Frozen,
+    c: &Counted,
+) -> Result<Vec<TallyCell>, NoMemory>
+    requires { CanBeCounted f.now c.now }
+    ensures { IfOk result (λ cells. AreCells f.now c.now cells.items) }
+{
+    let mut cells = cells_for(alloc, f)?;
+    fill_cells(f, c, f.proposals.as_slice(), cells.as_mut_slice());
+    Ok(cells)
 }

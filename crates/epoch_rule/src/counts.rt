@@ -13,7 +13,8 @@ use std::marker::Brand;
 use std::sync::ledger::{Blank, Ledger};
 use std::thread::Threads;
 
-/// The count with all entries visited that are left, shared among so many workers. It takes no memory. (The DRep pulser of cardano-ledger; the workers are own)
+/// Visits all entries that are left, with so many workers. It takes no memory.
+/// (The DRep pulser of cardano-ledger)
 pub(crate) fn finished<R: Threads + Sync, G: Gate + Sync>(
     rt: &R,
     pulser: Pulser,
@@ -33,7 +34,8 @@ pub(crate) fn finished<R: Threads + Sync, G: Gate + Sync>(
     }
 }
 
-/// The same in this thread. It takes no memory. (The DRep pulser of cardano-ledger)
+/// Visits all entries that are left, in this thread. It takes no memory.
+/// (The DRep pulser of cardano-ledger)
 pub(crate) fn finished_alone(pulser: Pulser, book: &AccountBook) -> Counted
     requires goes_on { GoesOnIn (frozen_of credential_cmp book.now) pulser }
     ensures { (f : Snapshot) → f.entries ≡ frozen_of credential_cmp book.now → IsPulserOf f pulser →
@@ -45,7 +47,7 @@ pub(crate) fn finished_alone(pulser: Pulser, book: &AccountBook) -> Counted
     }
 }
 
-// The same of a count that goes on; its visits are steps.
+// Visits all entries that are left of a count that goes on.
 fn visited<L: Ledger>(blank: Blank, counting: Counting, book: &AccountBook) -> Counted
     requires name { blank.name ≡ L.name }
     requires parts { blank.parts ≡ L.parts }
@@ -57,7 +59,7 @@ fn visited<L: Ledger>(blank: Blank, counting: Counting, book: &AccountBook) -> C
     counting.finish(book, &mut steps)
 }
 
-/// How many entries there are to count. (Own)
+/// The number of entries to count.
 pub(crate) fn entries_of(pulser: &Pulser) -> u64
     ensures { result ≡ total_of_pulser pulser.now }
 {

@@ -1,4 +1,4 @@
-//! The boundary from an epoch to the next: the ledger that crosses it, and its report; and what the pass of the next one comes to.
+//! The boundary to the next epoch: the ledger after it, its report, and the next pass's outcome.
 #![tactic(auto)]
 
 mod books;
@@ -8,4 +8,4 @@ mod outlook;
 mod rule;
 
 pub use outlook::next_outcome;
-pub use rule::cross;
+pub use rule::{cross, cross_alone};

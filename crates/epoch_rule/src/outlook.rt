@@ -15,7 +15,9 @@ use ledger_state::LedgerState;
 use ratify::{Outcome, ratify};
 use std::alloc::Global;
 
-/// What the pass of the next boundary comes to: what is ratified and what expires of the proposals that were frozen when the epoch began, by the votes and stakes of that day, with the state that enacting leaves and the tallies. Nothing that the epoch still brings changes it. It counts on a copy, and the state stays as it is. (CIP-1694, Ratification; RATIFY of the formal specification)
+/// What the next boundary's pass decides of the frozen proposals, with its state and tallies.
+/// Nothing that the epoch still brings changes it. It counts on a copy; the state stays as it is.
+/// (CIP-1694, Ratification; RATIFY of the formal specification)
 pub fn next_outcome(alloc: Global, s: &LedgerState) -> Result<Outcome, NoMemory>
     ensures ratified { IfOk result (λ o. o.ratified ≡ ratified_of s.now.frozen) }
     ensures expired { IfOk result (λ o. o.expired ≡ expired_of s.now.frozen (ratified_of s.now.frozen)) }
@@ -27,7 +29,7 @@ pub fn next_outcome(alloc: Global, s: &LedgerState) -> Result<Outcome, NoMemory>
     ratify(alloc, s.frozen(), &counted)
 }
 
-// The count of the frozen epoch, ended, by which its proposals can be counted.
+// The frozen epoch's count, ended, by which its proposals can be counted.
 fn counted_copy(alloc: Global, s: &LedgerState) -> Result<Counted, NoMemory>
     ensures counted { IfOk result (IsCountedOf s.now.frozen) }
     ensures fits { IfOk result (CanBeCounted (frozen_copy_of s.now.frozen)) }

@@ -9,8 +9,8 @@ ghost use Rattle.run_model.specs.BoundaryFlows.{flows_of_boundary};
 ghost use Rattle.run_model.specs.Report.{report_of};
 
 use crate::books::{Lists, crossed};
-use crate::cells::{cells_for, tallied};
-use crate::counts::{entries_of, finished};
+use crate::cells::{cells_for, tallied, tallied_alone};
+use crate::counts::{entries_of, finished, finished_alone};
 use coin_frac::NoMemory;
 use epoch_balance::{boundary_balances, payments_are_covered};
 use frozen_reads::sound_can_be_counted;
@@ -23,7 +23,9 @@ use std::thread::Threads;
 use tally::TallyCell;
 use tx_records::EpochReport;
 
-/// The state after the boundary of its epoch, and the report of the boundary: what is left of the count is counted, the pass is over the frozen epoch, the steps act in the order of the rules, and the next epoch is frozen. So many workers share the counts, and their number changes no answer. Want of memory consumes the state. (NEWEPOCH and EPOCH of the formal specification; CIP-1694, Enactment)
+/// Crosses the boundary: counts the rest, runs the pass, acts by the rules, freezes the next epoch.
+/// The number of workers changes no answer. After an out-of-memory error there is no state.
+/// (NEWEPOCH and EPOCH of the formal specification; CIP-1694, Enactment)
 pub fn cross<R: Threads + Sync, G: Gate + Sync>(
     alloc: Global,
     rt: &R,
@@ -60,6 +62,26 @@ pub fn cross<R: Threads + Sync, G: Gate + Sync>(
     }
 }
 
+/// Crosses the boundary as `cross` does, in this thread.
+/// (NEWEPOCH and EPOCH of the formal specification; CIP-1694, Enactment)
+pub fn cross_alone(alloc: Global, s: LedgerState) -> Result<(LedgerState, EpochReport), NoMemory>
+    requires early { s.ledger.epoch < 2 ^ 62 }
+    ensures world { IfOk result (λ r. r.0 ≡ world_after_boundary s) }
+    ensures report { IfOk result (λ r. r.1 ≡ report_of s) }
+{
+    boundaries_keep_sound();
+    // the state is a sound World
+    let _sound = s.live();
+    let (ended, lists) = ended_alone(alloc, s)?;
+    match LedgerState::begin_epoch(alloc, ended, 1) {
+        Ok(state) => Ok(reported(state, lists)),
+        Err(fault) => {
+            drop(lists);
+            Err(fault)
+        }
+    }
+}
+
 // The books after all steps but the freeze, and what is reported of them.
 fn ended<R: Threads + Sync, G: Gate + Sync>(
     alloc: Global,
@@ -81,6 +103,24 @@ fn ended<R: Threads + Sync, G: Gate + Sync>(
     let counted = finished(rt, pulser, books.stake.book(), workers, gate);
     let tallied = tallied(rt, &frozen, &counted, cells, workers, gate);
     crossed(alloc, books, &frozen, &counted, tallied.as_slice())
+}
+
+// The books after all steps but the freeze, and what is reported of them, counted in this thread.
+fn ended_alone(alloc: Global, s: LedgerState) -> Result<(Books, Lists), NoMemory>
+    requires early { s.ledger.epoch < 2 ^ 62 }
+    ensures begun { IfOk result (λ r. begun_of r.0 ≡ world_after_boundary s) }
+    ensures lists { IfOk result (λ r. r.1 ≡ lists_of s) }
+{
+    sound_can_be_counted();
+    let (books, frozen, pulser) = s.into_books();
+    let counted = finished_alone(pulser, books.stake.book());
+    match tallied_alone(alloc, &frozen, &counted) {
+        Ok(tallied) => crossed(alloc, books, &frozen, &counted, tallied.as_slice()),
+        Err(fault) => {
+            drop(books);
+            Err(fault)
+        }
+    }
 }
 
 // The state in which the next epoch begins, and the report of the boundary.
