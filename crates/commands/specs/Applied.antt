@@ -1,4 +1,4 @@
--- What an applied record comes to, over the World that it left, by its reply and the report of the boundary that it crossed. (Own)
+-- The outcome of an applied record, by the World after it, its reply and its report. (Own)
 use Rattle.std.specs.Prelude.{Bool, true, false, Option, Some, None}
 use Rattle.ledger_model.specs.Supply.{pots_of}
 use Rattle.replay_loop.specs.declared.outcome.Outcome.{Outcome}

@@ -12,10 +12,10 @@ ghost use Rattle.tx_records.specs.Rules.{plain_rule};
 
 use crate::crew::Crew;
 use crate::held::Held;
-use coin_frac::NoMemory;
 use ledger_state::LedgerState;
 use listed::Boxed;
 use live_ledger::GenesisFault;
+use no_memory::NoMemory;
 use par_count::Gate;
 use record_rule::apply_record;
 use replay_loop::{AnswerFault, Answered, GenesisCause, Outcome};
@@ -48,8 +48,7 @@ fn begun(alloc: Global, ledger: LedgerState) -> Judged
     Ok((held, Outcome::Pots(PotsWord::Genesis, pots)))
 }
 
-/// The ledger of a genesis and its pots, where it breaks no rule; so many workers count its first
-/// epoch.
+/// The ledger of a genesis that breaks no rule, its first epoch counted by workers, and its pots.
 fn begin(alloc: Global, genesis: &Genesis, workers: u32) -> Answered<Boxed<LedgerState>>
     requires within { genesis_limits.is_within_limits genesis.now ≡ true }
     requires some { 1 ≤ workers }
@@ -62,7 +61,7 @@ fn begin(alloc: Global, genesis: &Genesis, workers: u32) -> Answered<Boxed<Ledge
     }
 }
 
-/// The same of what was read first, or why there is no ledger to begin with.
+/// The ledger and the pots of what was read first, or why there is no ledger to begin with.
 fn begin_with(alloc: Global, reading: &Reading, workers: u32) -> Answered<Boxed<LedgerState>>
     requires within { is_within reading.now ≡ true }
     requires some { 1 ≤ workers }
@@ -101,7 +100,7 @@ fn malformed(what: FieldName, place: Option<u32>) -> Outcome
     }))
 }
 
-/// What a print comes to; it changes nothing.
+/// The outcome of a print; it changes nothing.
 fn judge_print(ledger: Boxed<LedgerState>, what: What) -> (Boxed<LedgerState>, Outcome)
     ensures { Judges ledger (Read (Record.Print what)) (Ok result) }
 {
@@ -115,7 +114,7 @@ fn judge_print(ledger: Boxed<LedgerState>, what: What) -> (Boxed<LedgerState>, O
     }
 }
 
-/// The ledger after a record that is no print, and what it comes to.
+/// The ledger after a record that is no print, and its outcome.
 fn judge_applied<T: Threads + Sync, G: Gate + Sync>(
     crew: &Crew<T, G>,
     workers: u32,
@@ -141,7 +140,7 @@ fn judge_applied<T: Threads + Sync, G: Gate + Sync>(
     Ok((held, outcome))
 }
 
-/// What a record that is no print comes to, over the ledger that it left.
+/// The outcome of a record that is no print, over the ledger that it left.
 fn outcome_over(
     after: &LedgerState,
     found: &Record,
@@ -158,7 +157,7 @@ fn outcome_over(
     }
 }
 
-/// What a block comes to, over the ledger that it left; the pots are as the boundary left them.
+/// The outcome of a block, over the ledger that it left; the pots are as the boundary left them.
 fn block_outcome(after: &LedgerState, reply: Reply, report: Option<EpochReport>) -> Outcome
     ensures { result ≡ applied_block_outcome after.now reply report }
 {
@@ -171,7 +170,7 @@ fn block_outcome(after: &LedgerState, reply: Reply, report: Option<EpochReport>)
     }
 }
 
-/// The ledger after a record, and what it comes to.
+/// The ledger after a record, and its outcome.
 fn judge_record<T: Threads + Sync, G: Gate + Sync>(
     crew: &Crew<T, G>,
     workers: u32,
@@ -191,7 +190,7 @@ fn judge_record<T: Threads + Sync, G: Gate + Sync>(
     }
 }
 
-/// The ledger after what was read of a line, and what that comes to.
+/// The ledger after what was read of a line, and its outcome.
 fn judge_reading<T: Threads + Sync, G: Gate + Sync>(
     crew: &Crew<T, G>,
     workers: u32,
@@ -210,7 +209,7 @@ fn judge_reading<T: Threads + Sync, G: Gate + Sync>(
     }
 }
 
-/// The ledger after what was read, and what that comes to; there is no ledger before the genesis.
+/// The ledger after what was read, and its outcome; there is no ledger before the genesis.
 pub(crate) fn answer<T: Threads + Sync, G: Gate + Sync>(
     crew: &Crew<T, G>,
     workers: u32,

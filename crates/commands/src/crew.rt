@@ -1,10 +1,9 @@
 use std::alloc::Global;
 
-/// Who shares the counts of a run: workers in threads that `rt` makes, each of whom enters the gate
-/// before its share.
+/// Who shares a run's counts: workers in `rt`'s threads, each of which enters the gate first.
 #[derive(Drop)]
-pub(crate) struct Crew<'a, T, G> {
-    pub(crate) alloc: Global,
-    pub(crate) rt: &'a T,
-    pub(crate) gate: &'a G,
+pub struct Crew<'a, T, G> {
+    pub alloc: Global,
+    pub rt: &'a T,
+    pub gate: &'a G,
 }

@@ -1,4 +1,6 @@
+ghost use Rattle.std.specs.Prelude.{◌≡◌};
 ghost use Rattle.bare_lines.specs.Bare.{bare, bare_part};
+ghost use Rattle.outlook_model.specs.Outlook.{outlook_lines};
 ghost use Rattle.report.specs.Taking.{HasPut};
 ghost use Rattle.shortfall_model.specs.ShortLines.{shortfall_lines};
 
@@ -6,18 +8,41 @@ use bare_lines::Bare;
 use byte_lines::SinkFault;
 use ledger_state::LedgerState;
 use listed::Boxed;
-use replay_loop::{RunState, ShortState};
+use outlook::put_outlook;
+use replay_loop::{LastState, RunState};
 use report::LineTaker;
 use shortfall::put_shortfall;
 use state_view::{put_assets, put_block, put_state};
 use std::alloc::Global;
 use tx_records::Pots;
 
-/// The ledger that a run holds between two records, in memory of its own: to move it moves a
-/// pointer.
+/// The ledger that a run holds between two records, boxed: to move it moves a pointer.
 #[derive(Drop)]
-pub(crate) struct Held {
+pub struct Held {
     pub(crate) ledger: Boxed<LedgerState>,
+}
+
+impl Held {
+    /// The ledger.
+    pub fn ledger(&self) -> &LedgerState
+        ensures { result.now ≡ self.now.ledger }
+    {
+        self.ledger.get()
+    }
+}
+
+/// Hands over the tallies of the next two boundaries of a ledger, without numbers.
+fn put_bare_outlook<T: LineTaker>(
+    alloc: Global,
+    to: &mut T,
+    text: &mut Vec<u8>,
+    ledger: LedgerState,
+) -> Result<(), SinkFault>
+    ensures { HasPut (bare T.with_line) (bare_part T.IsPart) 0 (T.taken to.old) (outlook_lines ledger) (T.taken to.new)
+        (T.faults to.old) (T.faults to.new) result }
+{
+    let mut bare = Bare { to };
+    put_outlook(alloc, &mut bare, text, 0, ledger)
 }
 
 /// Hands over the lines of what each frozen proposal of a ledger lacks, without numbers.
@@ -71,7 +96,7 @@ impl RunState for Held {
     }
 }
 
-impl ShortState for Held {
+impl LastState for Held {
     fn put_short<T: LineTaker>(
         self,
         alloc: Global,
@@ -79,5 +104,14 @@ impl ShortState for Held {
         text: &mut Vec<u8>,
     ) -> Result<(), SinkFault> {
         put_bare_shortfall(alloc, to, text, self.ledger.into_value())
+    }
+
+    fn put_outlook<T: LineTaker>(
+        self,
+        alloc: Global,
+        to: &mut T,
+        text: &mut Vec<u8>,
+    ) -> Result<(), SinkFault> {
+        put_bare_outlook(alloc, to, text, self.ledger.into_value())
     }
 }

@@ -1,6 +1,5 @@
-//! The commands of the program, for any source and any sink: the answers of the ledger to records,
-//! over the loop that `replay_loop`
-//! has for any state. The program `conway` hands it standard input and output.
+//! The commands of the program, for any source and any sink: the ledger's answers, over the
+//! loop of `replay_loop`. The program `conway` hands it standard input and output.
 #![tactic(auto)]
 
 mod answer;
@@ -9,7 +8,11 @@ mod crew;
 mod dispatch;
 mod exit;
 mod held;
+mod telling;
 
+pub use crew::Crew;
 pub use dispatch::run;
 pub use exit::run_to_exit;
-pub use replay_loop::{GenesisCause, Status};
+pub use held::Held;
+pub use replay_loop::{GenesisCause, Status, Teller};
+pub use telling::tell;

@@ -1,4 +1,4 @@
--- How a run stands between two lines, and what it leaves when it ends. (Own)
+-- The state of a run between two lines, and what it leaves when it ends. (Own)
 use Rattle.std.specs.Prelude.{◌≡◌, ◌⊎◌, ◌↔◌, ℕ, ◌+◌, ◌<◌, ◌≤◌, ◌++◌, Bool, true, false, List, [], ◌∷◌, Option, Some, None, Result, Ok, Err, length, take, ⊤}
 use Rattle.std.specs.Io.KnownBytes.{append_known}
 use Rattle.byte_lines.specs.Progress.{HasRead}
@@ -13,23 +13,25 @@ use Rattle.line_runs.specs.Plays.{Play, records_from}
 use Rattle.line_runs.specs.Turns.{IsTurnOf, IsTurned, fault_of_sink}
 use Rattle.line_runs.specs.Runs.{Ends, IsCutShort, ReadTo, Run, played_over}
 
--- before a line that is whole in what was read nothing happens; before the source is asked all is handed over
+-- if the next line was read whole, nothing changes
+-- otherwise all is handed over before the source is asked
 abbrev pub IsCleared : Bool → Gathered → Gathered → Type 0
 IsCleared true g g' = g' ≡ g
 IsCleared false g g' = (g'.taken ≡ append_known g.taken g.batch) × (g'.batch ≡ [])
 
--- then nothing waits
+-- nothing is gathered, unless the next line was read whole
 abbrev pub IsClear : {Said : Type 0} → Bool → List (ℕ × Said) → List ℕ → Type 0
 IsClear true new batch = Unit {0}
 IsClear false new batch = (new ≡ []) × (batch ≡ [])
 
 module _ {Said Stand Cause : Type 0} (run : Run Said Stand Cause) where
-  -- nothing came beyond the line of any of these records, that follow others, but what its part has
+  -- for each of these records, after the others, nothing came beyond the part that has its line
   abbrev pub AreReadTo : List ℕ → List ℕ → List (ℕ × Said) → List (ℕ × Said) → Type 0
   AreReadTo came rest before [] = Unit {0}
   AreReadTo came rest before (r ∷ rs) = ReadTo run came rest (before ++ r ∷ []) × AreReadTo came rest (before ++ r ∷ []) rs
 
-  -- lines were read past those that were given before, the command stands there, and the text of the last ones may be gathered
+  -- lines were read after those given before, and the command is in the state s
+  -- the text of the last lines may still be gathered
   pub record Stands (bytes : List ℕ) (given : List (Option (List ℕ))) (r : Reader) (left had : Option (List ℕ)) (g : Gathered) (s : Stand)
       : Type 0 where
     pub more : List (Option (List ℕ))
@@ -40,7 +42,7 @@ module _ {Said Stand Cause : Type 0} (run : Run Said Stand Cause) where
     pub within : r.taken ≤ r.stream_max
     pub handed : List ℕ
     pub took : g.taken ≡ append_known had handed
-    -- the records whose text was handed over, and those after them
+    -- the records whose text was handed over, then those after them
     pub old : List (ℕ × Said)
     pub new : List (ℕ × Said)
     pub are : records_from run.play.says (run.passed + 1) more ≡ old ++ new
@@ -48,20 +50,20 @@ module _ {Said Stand Cause : Type 0} (run : Run Said Stand Cause) where
     pub before : IsFront (played_over run old).text handed
     pub reads : (came rest : List ℕ) → bytes ≡ came ++ rest → left ≡ Some rest → AreReadTo came rest old new
 
-  -- what an ending says where some text is gathered still: of all text but for a fault of the sink, and of what is cut short where
-  -- only a front of the rest is handed over
+  -- an ending with text still gathered: it holds for all text
+  -- if only a prefix of the gathered text is handed over, the run is cut short
   pub record Waits (came rest handed batch : List ℕ) (result : Result (Unit {0}) (RunFault Cause)) : Type 0 where
     pub all : Ends run came rest (handed ++ batch) result
     pub lost : (n : ℕ) → n < length batch → IsCutShort run came rest (handed ++ take n batch)
 
-  -- the same of each ending; after a fault of a write nothing is gathered
+  -- for each ending what may be gathered; after a failed write nothing is
   abbrev pub EndsWaiting : List ℕ → List ℕ → List ℕ → List ℕ → Result (Unit {0}) (RunFault Cause) → Type 0
   EndsWaiting came rest handed batch (Ok done) = Waits came rest handed batch (Ok done)
   EndsWaiting came rest handed batch (Err (faults.Stop cause)) = Waits came rest handed batch (Err (faults.Stop cause))
   EndsWaiting came rest handed batch (Err faults.ReadFault) = Waits came rest handed batch (Err faults.ReadFault)
   EndsWaiting came rest handed batch (Err faults.WriteFault) = IsCutShort run came rest handed
   EndsWaiting came rest handed batch (Err faults.NoMemory) = Waits came rest handed batch (Err faults.NoMemory)
-  -- the source was asked then, so that nothing waits
+  -- the source was asked before, so nothing is gathered
   EndsWaiting came rest handed batch (Err faults.TooMuch) = (batch ≡ []) × Ends run came rest (handed ++ batch) (Err faults.TooMuch)
 
   -- what the loop leaves
@@ -83,7 +85,7 @@ IsTaken p holds s r Whole g g' result = IsTurnOf p holds s r.number (p.says (Som
 IsTaken p holds s r TooLong g g' result = IsTurnOf p holds s r.number (p.says None) g g' result
 IsTaken p holds s r End g g' result = IsTurned (λ _. ⊤) (p.last s r.number) g g' result
 
--- at the end what was gathered is handed over, or a front of it
+-- the gathered text is handed over at the end, or a prefix of it
 abbrev pub IsClosed : {Cause : Type 0} → Result (Unit {0}) (RunFault Cause) → List ℕ → Option (List ℕ) → Option (List ℕ) → Result (Unit {0}) (RunFault Cause) → Type 0
 IsClosed {Cause} ended batch had has result =
     ((result ≡ ended) × (has ≡ append_known had batch))

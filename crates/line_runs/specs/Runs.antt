@@ -8,7 +8,7 @@ use Rattle.line_runs.specs.declared.fault.RunFault.TheVariants as faults
 use Rattle.line_runs.specs.Batches.{IsFront}
 use Rattle.line_runs.specs.Plays.{Play, Played, ended, played, records_from}
 
--- a run: what the command does, where it stands first, how many lines were passed before, and the limits of its reader
+-- a run: the command, its first state, how many lines were passed before, and the reader's limits
 pub record Run (Said Stand Cause : Type 0) : Type 0 where
   pub play : Play Said Stand Cause
   pub first : Stand
@@ -17,24 +17,24 @@ pub record Run (Said Stand Cause : Type 0) : Type 0 where
   pub stream_max : ℕ
 
 module _ {Said Stand Cause : Type 0} (run : Run Said Stand Cause) where
-  -- what the lines of these bytes say, past those that were passed before
+  -- what the lines of these bytes say, without those that were passed before
   abbrev pub records_in : List ℕ → List (ℕ × Said)
   records_in bytes = records_from run.play.says (run.passed + 1) (drop run.passed (lines_of run.line_max bytes))
 
-  -- the command from its first stand on
+  -- the command from its first state on
   abbrev pub played_over : List (ℕ × Said) → Played Stand Cause
   played_over records = played run.play run.first records
 
-  -- over the lines of these bytes
+  -- the command over the lines of these bytes
   abbrev pub played_in : List ℕ → Played Stand Cause
   played_in bytes = played_over (records_in bytes)
 
-  -- with the end, where these are all bytes
+  -- the command over all bytes, with its end
   abbrev pub ended_in : List ℕ → Played (Unit {0}) Cause
   ended_in bytes = ended run.play (length (lines_of run.line_max bytes)) (played_in bytes)
 
-  -- no more came than the lines that say this, up to the last one's, and less than one part beyond; that line is whole, or no
-  -- byte is left
+  -- the bytes that came are the lines that say this, and less than one part beyond them
+  -- the last of these lines is whole, or no byte is left
   pub record ReadTo (came rest : List ℕ) (records : List (ℕ × Said)) : Type 0 where
     pub upto : List ℕ
     pub ahead : List ℕ
@@ -43,7 +43,8 @@ module _ {Said Stand Cause : Type 0} (run : Run Said Stand Cause) where
     pub whole : (open_of upto ≡ []) ⊎ (rest ≡ [])
     pub all : records ≡ records_in upto
 
-  -- this stands first in what the whole lines that came say or, where no byte is left, in what all say
+  -- these come first in what the whole lines that came say
+  -- or, if no byte is left, in what all lines say
   abbrev pub StandFirst : List ℕ → List ℕ → List (ℕ × Said) → Type 0
   StandFirst came rest records =
       ((later : List (ℕ × Said)) × (records_in (whole_of came) ≡ records ++ later))
@@ -54,8 +55,8 @@ module _ {Said Stand Cause : Type 0} (run : Run Said Stand Cause) where
     pub read : rest ≡ []
     pub text : ended_in came ≡ record { text = written; stand = Ok tt }
 
-  -- the command stops for this cause at a whole line that came or, where no byte is left, at one of all or at the end; the text
-  -- before it was written
+  -- the command stops for this cause at a whole line that came
+  -- or, if no byte is left, at any line or at the end; the text before it was written
   abbrev pub IsStopped : Cause → List ℕ → List ℕ → List ℕ → Type 0
   IsStopped cause came rest written =
       (played_in (whole_of came) ≡ record { text = written; stand = Err cause })
@@ -66,7 +67,7 @@ module _ {Said Stand Cause : Type 0} (run : Run Said Stand Cause) where
     pub stand : Stand
     pub text : played_in (whole_of came) ≡ record { text = written; stand = Ok stand }
 
-  -- the text was written up to within that of a line, and nothing came beyond its part
+  -- the writing ended within a line's text, and nothing came beyond the part that has that line
   pub record BreaksAtLine (came rest written : List ℕ) : Type 0 where
     pub before : List (ℕ × Said)
     pub line : ℕ × Said
@@ -76,14 +77,15 @@ module _ {Said Stand Cause : Type 0} (run : Run Said Stand Cause) where
     pub upto : IsFront written (played_over (before ++ line ∷ [])).text
     pub goes : IsOk (played_over (before ++ line ∷ [])).stand
 
-  -- or within the text at the end
+  -- the writing ended within the text at the end
   pub record BreaksAtEnd (came rest written : List ℕ) : Type 0 where
     pub read : rest ≡ []
     pub after : IsFront (played_in came).text written
     pub upto : IsFront written (ended_in came).text
     pub goes : IsOk (ended_in came).stand
 
-  -- a front of the text of the whole lines that came or, where no byte is left, of all text was written
+  -- a prefix of the text of the whole lines that came was written
+  -- or, if no byte is left, a prefix of all text
   abbrev pub IsPart : List ℕ → List ℕ → List ℕ → Type 0
   IsPart came rest written =
       IsFront written (played_in (whole_of came)).text ⊎ ((rest ≡ []) × IsFront written (ended_in came).text)
@@ -93,7 +95,7 @@ module _ {Said Stand Cause : Type 0} (run : Run Said Stand Cause) where
     pub part : IsPart came rest written
     pub place : BreaksAtLine came rest written ⊎ BreaksAtEnd came rest written
 
-  -- what each answer says: of the source `came` came and `rest` is left, and the run wrote `written`
+  -- what each result says: of the source `came` was read, `rest` is left, `written` was written
   abbrev pub Ends : List ℕ → List ℕ → List ℕ → Result (Unit {0}) (RunFault Cause) → Type 0
   Ends came rest written (Ok done) = IsDone came rest written
   Ends came rest written (Err (faults.Stop cause)) = IsStopped cause came rest written
@@ -103,7 +105,7 @@ module _ {Said Stand Cause : Type 0} (run : Run Said Stand Cause) where
   Ends came rest written (Err faults.WriteFault) = IsCutShort came rest written
   Ends came rest written (Err faults.NoMemory) = IsPart came rest written
 
-  -- what a run came to, where its source told its bytes: the sink took what was written
+  -- how a run ended, if the bytes of its source are known: the sink took what was written
   pub record IsRunOf (bytes : List ℕ) (left had has : Option (List ℕ)) (result : Result (Unit {0}) (RunFault Cause)) : Type 0 where
     pub came : List ℕ
     pub rest : List ℕ
@@ -112,5 +114,5 @@ module _ {Said Stand Cause : Type 0} (run : Run Said Stand Cause) where
     pub written : List ℕ
     pub wrote : has ≡ append_known had written
     pub ending : Ends came rest written result
-    -- the stream went on past its limit exactly where the answer says so
+    -- the result is TooMuch if and only if the stream went on past its limit
     pub too_much : (result ≡ Err faults.TooMuch) ↔ (run.stream_max < length came)

@@ -9,18 +9,18 @@ use Rattle.line_runs.specs.declared.fault.RunFault.TheVariants as faults
 use Rattle.line_runs.specs.Batches.{Gathered, TellsAll, TellsPart}
 use Rattle.line_runs.specs.Plays.{Goes, Play, Stops, Turn}
 
--- why a run ends where there is no next line
+-- the fault of a run that has no next line
 abbrev pub fault_of_line : {Cause : Type 0} → LineFault → RunFault Cause
 fault_of_line line_faults.ReadFault = faults.ReadFault
 fault_of_line line_faults.TooMuch = faults.TooMuch
 fault_of_line line_faults.NoMemory = faults.NoMemory
 
--- where a text is not taken
+-- the fault of a run whose text is not taken
 abbrev pub fault_of_sink : {Cause : Type 0} → SinkFault → RunFault Cause
 fault_of_sink sink_faults.WriteFault = faults.WriteFault
 fault_of_sink sink_faults.NoMemory = faults.NoMemory
 
--- a turn was done, and all its text told; or it stops the command; or a part of its text was told
+-- a turn was done and all its text emitted, or the command stops, or a prefix was emitted
 abbrev pub IsTurned
     : {Stand Cause : Type 0} → (Stand → Type 0) → Turn Stand Cause → Gathered → Gathered → Result (Unit {0}) (RunFault Cause) → Type 0
 IsTurned stands (Goes s text) g g' (Ok done) = stands s × TellsAll g.taken g'.taken g.batch g'.batch text

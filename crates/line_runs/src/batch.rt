@@ -6,10 +6,10 @@ ghost use Rattle.line_runs.specs.Batches.{IsGatheredPart, with_gathered};
 
 use byte_lines::{Sink, SinkFault, put_all};
 
-/// How many bytes of text are gathered at most, but for one longer line. (Own)
+/// The most bytes of text that are gathered, except for one longer line.
 const BATCH_LIMIT: usize = 65_536;
 
-/// Hands over all text that is gathered. After an error the sink has taken a front of it, and the rest is dropped. (Own)
+/// Hands over all gathered text. After an error the sink has a prefix of it; the rest is gone.
 pub fn hand_over<K: Sink>(batch: &mut Vec<u8>, sink: &mut K) -> Result<(), SinkFault>
     ensures ok { OnOk result (K.taken sink.new ≡ append_known (K.taken sink.old) batch.old.items) }
     ensures err { OnErr result ((n : ℕ) × (n < length batch.old.items)
@@ -22,7 +22,7 @@ pub fn hand_over<K: Sink>(batch: &mut Vec<u8>, sink: &mut K) -> Result<(), SinkF
     handed
 }
 
-/// Gathers a line. Where there is no room for it, all that was gathered before it is handed over first. (Own)
+/// Gathers a line. If it does not fit, all text gathered before is handed over first.
 pub fn gather<K: Sink>(batch: &mut Vec<u8>, sink: &mut K, line: &[u8]) -> Result<(), SinkFault>
     ensures ok { OnOk result (record { taken = K.taken sink.new; batch = batch.new.items }
         ≡ with_gathered (record { taken = K.taken sink.old; batch = batch.old.items }) line.now) }

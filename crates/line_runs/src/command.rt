@@ -1,7 +1,7 @@
 use crate::fault::RunFault;
 use byte_lines::Sink;
 
-/// A command that reads lines. It is proved once that the loop reads, tells and ends as the play says. (Own)
+/// A command that reads lines. The loop over it is proved once, for every `play`.
 pub trait LineCommand {
     ghost use Rattle.std.specs.Prelude.{◌≡◌, ◌≢◌, ℕ, ⊤};
     ghost use Rattle.std.specs.Option.{option_copied};
@@ -21,10 +21,10 @@ pub trait LineCommand {
     // what its calls need of it
     ghost can: { Self → Type 0 };
 
-    // where it stands
+    // the state it is in
     ghost stands: { Self → Stand → Type 0 };
 
-    /// Takes the line of this number, none in place of one that is too long, and tells its text.
+    /// Takes the line of this number, and emits its text; `None` is a line that is too long.
     fn line<K: Sink>(
         &mut self,
         number: u64,
@@ -40,7 +40,7 @@ pub trait LineCommand {
         ensures reads { result ≢ Err RunFault.ReadFault }
         ensures counts { CountsFaults (result ≡ Err RunFault.WriteFault) (K.faults sink.old) (K.faults sink.new) };
 
-    /// Comes to the end, after so many lines, and tells the text there.
+    /// Takes the end, after `number` lines, and emits the text there.
     fn end<K: Sink>(
         &mut self,
         number: u64,

@@ -1,7 +1,7 @@
 use byte_lines::{LineFault, SinkFault};
-use coin_frac::NoMemory;
+use no_memory::NoMemory;
 
-/// Why a run did not come to its end. (Own)
+/// Why a run did not come to its end.
 #[derive(Clone, Copy, Debug, PartialEq, Eq)]
 pub enum RunFault<X> {
     /// The command stopped, for a cause of its own.

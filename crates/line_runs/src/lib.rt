@@ -1,5 +1,5 @@
-//! One loop for every command that reads lines: a command says what each line does and what is told of it, and the loop reads
-//! the lines, gathers the text, and hands it over before it asks for more.
+//! One loop for every command that reads lines. A command says what each line does and emits.
+//! The loop reads lines, gathers text, and hands it over before it asks for more.
 #![tactic(auto)]
 
 mod batch;

@@ -14,7 +14,7 @@ use byte_lines::{Line, Lines, Sink, SinkFault, Source, whole_lines};
 use memchr::memchr;
 use std::alloc::Global;
 
-/// Hands over what is gathered, unless a line stands whole in what was read: then the source is not asked for it.
+// Hands over the gathered text, unless the next line was read whole: then nothing is asked for.
 fn make_way<K: Sink>(ahead: &[u8], batch: &mut Vec<u8>, sink: &mut K) -> Result<(), SinkFault>
     ensures ok { OnOk result (IsCleared (has_feed ahead.now) (record { taken = K.taken sink.old; batch = batch.old.items })
         (record { taken = K.taken sink.new; batch = batch.new.items })) }
@@ -28,7 +28,7 @@ fn make_way<K: Sink>(ahead: &[u8], batch: &mut Vec<u8>, sink: &mut K) -> Result<
     }
 }
 
-/// Lets the command take the line that was read, or the end.
+// Lets the command take the line that was read, or the end.
 fn take_line<K: Sink, C: LineCommand>(
     line: Line,
     lines: &Lines,
@@ -51,7 +51,7 @@ fn take_line<K: Sink, C: LineCommand>(
     }
 }
 
-/// Reads all lines, and leaves the text of the last ones gathered.
+// Reads all lines, and leaves the text of the last ones gathered.
 fn read_on<S: Source, K: Sink, C: LineCommand>(
     lines: &mut Lines,
     command: &mut C,
@@ -81,7 +81,7 @@ fn read_on<S: Source, K: Sink, C: LineCommand>(
     }
 }
 
-/// Whether a write failed.
+// Whether a write failed.
 fn is_write_fault<X>(ended: &Result<(), RunFault<X>>) -> bool
     ensures { IsTrue result ↔ (ended.now ≡ Err RunFault.WriteFault) }
 {
@@ -93,7 +93,7 @@ fn is_write_fault<X>(ended: &Result<(), RunFault<X>>) -> bool
     }
 }
 
-/// Hands over what is gathered at the end, and answers how the run ended.
+// Hands over what is gathered at the end, and returns how the run ended.
 fn close<K: Sink, X: Drop>(
     ended: Result<(), RunFault<X>>,
     batch: &mut Vec<u8>,
@@ -113,8 +113,8 @@ fn close<K: Sink, X: Drop>(
     }
 }
 
-/// Reads the lines of a source to its end, lets the command take each, and hands over what it tells before the source is asked for
-/// more, and at each end. (Own)
+/// Reads the lines of a source to its end, and lets the command take each.
+/// Its text is handed over before the source is asked for more, and at each end.
 pub fn run_lines<S: Source, K: Sink, C: LineCommand>(
     alloc: Global,
     lines: &mut Lines,

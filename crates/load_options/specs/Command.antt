@@ -1,31 +1,30 @@
--- The command `load`: three options, each of them once, and at most one of how many workers, in any order. (Own)
-use Rattle.std.specs.Prelude.{◌≤◌, ℕ, ◌-◌, ◌^◌, ◌||◌, Bool, List, [], ◌∷◌, Option, Some, None, String, bytes_eq, codes, option_and_then, string_bytes, if◌then◌else◌}
+-- The command `load`: three options once each, and the workers at most once, in any order. (Own)
+use Rattle.std.specs.Prelude.{◌≤◌, ℕ, ◌-◌, ◌^◌, ◌||◌, Bool, List, Option, Some, None, bytes_eq, codes, option_and_then, if◌then◌else◌}
 use Rattle.std.specs.List.{list_all}
-use Rattle.std.specs.declared.alloc.Global.{Global}
 use Rattle.load_options.specs.Numbers.{number_in}
-use Rattle.load_options.specs.Options.{numbers_after, options_of, the_one}
+use Rattle.load_options.specs.Options.{numbers_after, the_one}
 use Rattle.load_options.specs.Workers.{workers_of}
 use Rattle.load_options.specs.declared.command.LoadCommand.{LoadCommand}
 use Rattle.load_options.specs.declared.command.TheConstants.{MOST_ACCOUNTS, MOST_EPOCHS}
 use Rattle.load_options.specs.declared.workers.TheConstants.{MOST_WORKERS}
 
--- the names
+-- the names of its options
 abbrev pub is_option_name : List ℕ → Bool
 is_option_name name =
     bytes_eq name (codes "--seed") || bytes_eq name (codes "--accounts") || bytes_eq name (codes "--epochs")
     || bytes_eq name (codes "--workers")
 
--- the number after a name, which stands once, where the number is from `low` to `high`
+-- the number after a name that occurs once, if it is from `low` to `high`
 abbrev pub value_of : List ℕ → ℕ → ℕ → List (List ℕ × List ℕ) → Option ℕ
 value_of name low high options = option_and_then (number_in low high) (the_one (numbers_after name options))
 
--- of four values, where each is there
+-- the command of four values, if each is there
 abbrev pub load_by : Option ℕ → Option ℕ → Option ℕ → Option ℕ → Option LoadCommand
 load_by (Some seed) (Some accounts) (Some epochs) (Some workers) =
     Some (record { seed = seed; accounts = accounts; epochs = epochs; workers = workers })
 load_by _ _ _ _ = None
 
--- what options ask for: no other name stands among them
+-- the command of options without other names
 abbrev pub command_of_options : List (List ℕ × List ℕ) → Option LoadCommand
 command_of_options options =
     if list_all (λ option. is_option_name option.0) options
@@ -35,12 +34,7 @@ command_of_options options =
     (workers_of options)
     else None
 
--- what words ask for, where they are the word `load` and such options
-abbrev pub load_command_of : List (String Global) → Option LoadCommand
-load_command_of [] = None
-load_command_of (word ∷ words) = if bytes_eq (string_bytes word) (codes "load") then command_of_options (options_of words) else None
-
--- a stream can be made of it, and so many workers can share its counts
+-- the limits of its numbers
 pub record IsWithin (c : LoadCommand) : Type 0 where
   pub some_accounts : 1 ≤ c.accounts
   pub accounts : c.accounts ≤ MOST_ACCOUNTS

@@ -1,4 +1,4 @@
-//! The words of the commands, and what they ask for.
+//! The words of the commands, and what they mean.
 #![tactic(auto)]
 
 mod command;
@@ -7,6 +7,6 @@ mod options;
 mod table;
 mod workers;
 
-pub use command::{LoadCommand, MOST_ACCOUNTS, MOST_EPOCHS, load_command};
+pub use command::{LoadCommand, MOST_ACCOUNTS, MOST_EPOCHS};
 pub use table::{Command, command_of};
-pub use workers::{MOST_WORKERS, replay_workers};
+pub use workers::MOST_WORKERS;

@@ -3,7 +3,7 @@ ghost use Rattle.std.specs.Char.{is_ascii_digit};
 ghost use Rattle.std.specs.List.{list_all};
 ghost use Rattle.load_options.specs.Numbers as numbers;
 
-/// How many digits a number may have.
+/// The greatest number of digits.
 const MOST_DIGITS: usize = 20;
 
 /// Whether these are decimal digits.
@@ -13,7 +13,7 @@ fn are_digits(bytes: &[u8]) -> bool
     bytes.iter().all(|byte| byte.is_ascii_digit())
 }
 
-/// A number that is from `low` to `high`.
+/// The number, if it is from `low` to `high`.
 fn within(number: u64, low: u64, high: u64) -> Option<u64>
     ensures { result ≡ numbers.within low high number }
 {
@@ -24,7 +24,7 @@ fn within(number: u64, low: u64, high: u64) -> Option<u64>
     }
 }
 
-/// The number that a text of 1 to 20 decimal digits says, where it is from `low` to `high`. (Own)
+/// The number of a text of 1 to 20 decimal digits, if it is from `low` to `high`.
 pub(crate) fn number_in(text: &str, low: u64, high: u64) -> Option<u64>
     ensures { result ≡ numbers.number_in low high text.now }
 {

@@ -1,4 +1,4 @@
-//! Options as they are written.
+//! Options as users write them.
 ghost use Rattle.std.specs.Prelude.{◌≡◌, [], MatchOption, bytes_eq, option_copied};
 ghost use Rattle.std.specs.List.{list_all, list_any};
 ghost use Rattle.load_options.specs.Command.{is_option_name};
@@ -19,14 +19,14 @@ pub(crate) fn first_option(words: &[String]) -> Option<(&str, &str, &[String])>
     }
 }
 
-/// Whether a name is that of an option of `load`.
+/// Whether a name is an option of `load`.
 fn is_known(name: &str) -> bool
     ensures { result ≡ is_option_name name.now }
 {
     name == "--seed" || name == "--accounts" || name == "--epochs" || name == "--workers"
 }
 
-/// Whether all options that the words are have such names.
+/// Whether all options have such names.
 pub(crate) fn are_known(words: &[String]) -> bool
     ensures { result ≡ list_all (λ option. is_option_name option.0) (options_of words.now) }
 {
@@ -54,7 +54,7 @@ pub(crate) fn has_option(words: &[String], name: &str) -> bool
     false
 }
 
-/// The number after a name, where the name stands once among the options that the words are.
+/// The number after a name that occurs once among the options.
 pub(crate) fn number_after<'a>(words: &'a [String], name: &str) -> Option<&'a str>
     ensures { option_copied result ≡ the_one (numbers_after name.now (options_of words.now)) }
 {

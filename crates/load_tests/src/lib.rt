@@ -1,5 +1,5 @@
-//! Tests of the measured run: its words, the bytes of its stream and its text. It has no code, so that a test is
-//! proved alone.
+//! Tests of the benchmark: its words, the bytes of its stream and its text.
+//! It has no code, so that a test is proved alone.
 #![tactic(auto)]
 
 #[cfg(test)]

@@ -1,6 +1,6 @@
 //! Streams, as tests/agree/made_load makes them from their description.
 
-/// The seed, the accounts and the epochs, and then how many bytes the stream has, and the FNV-1a of 64 bits of them.
+/// The seed, the accounts, the epochs, the bytes of the stream, and their FNV-1a of 64 bits.
 pub(crate) const MADE: [(u64, u32, u32, u64, u64); 32] = [
     (0, 1, 1, 4530, 12163518891794425658),
     (0, 1, 3, 9058, 325042029048465766),

@@ -5,7 +5,7 @@ use gen_load::GenSource;
 use std::process::Abort;
 use std::test::Fail;
 
-/// How many bytes a source has left, and the FNV-1a of 64 bits of them.
+/// The number of bytes that a source has left, and their FNV-1a of 64 bits.
 fn sum_up<S: Source>(rt: &impl Abort, source: &mut S) -> (u64, u64) {
     let mut part = [0u8; 1000];
     let mut length = 0u64;

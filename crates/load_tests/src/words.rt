@@ -1,10 +1,10 @@
 //! The words of the command, good ones and wrong ones.
-use coin_frac::NoMemory;
-use load_options::{Command, LoadCommand, command_of, load_command, replay_workers};
+use load_options::{Command, LoadCommand, command_of};
+use no_memory::NoMemory;
 use std::alloc::Global;
 use std::test::Fail;
 
-/// The words of a text: each ends at a space, so that two spaces stand around an empty one.
+/// The words of a text: each ends at a space, so an empty one is between two spaces.
 fn words_of(alloc: Global, text: &str) -> Result<Vec<String>, NoMemory> {
     let mut words = Vec::new(alloc);
     for word in text.split(' ') {
@@ -15,7 +15,10 @@ fn words_of(alloc: Global, text: &str) -> Result<Vec<String>, NoMemory> {
 
 /// What the words of a text ask for.
 fn asked(alloc: Global, text: &str) -> Result<Option<LoadCommand>, NoMemory> {
-    Ok(load_command(words_of(alloc, text)?.as_slice()))
+    match command_of(words_of(alloc, text)?.as_slice()) {
+        Some(Command::Load(command)) => Ok(Some(command)),
+        _ => Ok(None),
+    }
 }
 
 /// Words of a replay, with the number of workers, and words that are none.
@@ -205,7 +208,11 @@ fn good_words(rt: HostRuntime) -> Result<(), Fail> {
 fn replays(rt: HostRuntime) -> Result<(), Fail> {
     for (text, workers) in REPLAYS {
         let words = words_of(rt.alloc(), text)?;
-        assert_eq!(rt; replay_workers(words.as_slice()), workers, "{text}");
+        let want = match workers {
+            Some(workers) => Some(Command::Replay { workers }),
+            None => None,
+        };
+        assert_eq!(rt; command_of(words.as_slice()), want, "{text}");
     }
     Ok(())
 }

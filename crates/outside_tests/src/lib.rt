@@ -1,8 +1,7 @@
-//! Tests of the lines that are read, by one and by several workers, and of the texts that are written. It has no code, so that a test is proved alone.
+//! Tests of the lines that are read and of the texts that are written. It has no code, so that a
+//! test is proved alone.
 #![tactic(auto)]
 
-#[cfg(test)]
-mod ahead;
 #[cfg(test)]
 mod lines;
 #[cfg(test)]

@@ -1,4 +1,4 @@
-//! Lines read from sources in memory and from readers, and pieces put to sinks and writers: with faults in mid-stream.
+//! Lines read from memory and readers, pieces put to sinks and writers, with faults in mid-stream.
 use byte_lines::{
     FaultySink, FaultySource, Line, LineFault, Lines, MemorySink, MemorySource, ReaderSource, Sink,
     SinkFault, Source, WriterSink, put_all,
@@ -91,7 +91,7 @@ impl Write for Stumbling {
     }
 }
 
-/// A reader that gives one byte at each read, fails at the second, and keeps how many it was asked for.
+/// A reader that gives a byte at each read, fails at the second, and keeps how many were asked for.
 #[derive(Drop)]
 struct Failing {
     calls: u8,
@@ -153,7 +153,7 @@ fn stops_at_the_limit_alone(rt: HostRuntime) {
     reads(&rt, lines, &mut source, wants.as_slice());
 }
 
-/// A reader's error is a fault, and is read on after; it is asked for as much as fits.
+/// A reader's error is a fault, and reading goes on after it; it is asked for as much as fits.
 #[test]
 fn reads_from_readers(rt: HostRuntime) {
     let mut failing = Failing { calls: 0, asked: 0 };
@@ -184,7 +184,7 @@ fn puts_a_prefix_before_a_fault(rt: HostRuntime) {
     assert!(rt; sink.as_slice() == b"abcd".as_slice());
 }
 
-/// Each write is flushed, and after a failed flush nothing is written; a writer that takes nothing is a fault.
+/// Each write is flushed; after a failed flush nothing is written. Writing nothing is a fault.
 #[test]
 fn flushes_each_write(rt: HostRuntime) {
     let mut watched = Watched {
@@ -205,7 +205,7 @@ fn flushes_each_write(rt: HostRuntime) {
     puts(&rt, &mut stuck, [(b"ab".as_slice(), false)].as_slice());
 }
 
-/// A write that failed is a fault, and is not tried once more; the next one is.
+/// A write that failed is a fault, and is not tried again; the next one is.
 #[test]
 fn writes_each_piece_once(rt: HostRuntime) {
     let mut stumbling = Stumbling { calls: 0 };

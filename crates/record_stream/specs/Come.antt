@@ -12,8 +12,8 @@ pub record HasCome (bytes : List ℕ) (left : Option (List ℕ)) : Type 0 where
   pub cut : bytes ≡ came ++ rest
   pub told : left ≡ Some rest
 
--- no more came than the lines of these records, up to the last one's, and less than one part beyond: nothing is asked of
--- the source once a line is found; that line is whole, or no byte is left
+-- no more came than these records' lines, up to the last one's, and less than one part beyond:
+-- the source is asked nothing once a line is found; that line is whole, or no byte is left
 pub record ReadTo (came rest : List ℕ) (records : List (ℕ × Reading)) : Type 0 where
   pub upto : List ℕ
   pub ahead : List ℕ
@@ -21,3 +21,7 @@ pub record ReadTo (came rest : List ℕ) (records : List (ℕ × Reading)) : Typ
   pub less : length ahead < part_max
   pub whole : (open_of upto ≡ []) ⊎ (rest ≡ [])
   pub all : records ≡ records_of upto
+
+-- these records come first among others
+abbrev pub Begin : List (ℕ × Reading) → List (ℕ × Reading) → Type 0
+Begin records all = (more : List (ℕ × Reading)) × (all ≡ records ++ more)

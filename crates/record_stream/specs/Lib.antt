@@ -1,4 +1,2 @@
 pub mod Records
-pub mod Ahead
 pub mod Come
-pub mod Heard

@@ -1,5 +1,5 @@
 -- What was read of each line of a stream. (Own)
-use Rattle.std.specs.Prelude.{ℕ, ◌==◌, ◌||◌, Bool, true, List, Option, Some, None, Result, Ok, Err, filter_map, option_map, if◌then◌else◌}
+use Rattle.std.specs.Prelude.{◌≡◌, ℕ, ◌==◌, ◌||◌, Bool, true, List, Option, Some, None, Result, Ok, Err, IfSome, filter_map, option_map, if◌then◌else◌}
 use Rattle.std.specs.List.{list_all, enumerate_from}
 use Rattle.byte_lines.specs.Pieces.{lines_of}
 use Rattle.tx_records.specs.declared.field.FieldName.TheVariants as fields
@@ -48,3 +48,8 @@ abbrev pub is_within : Reading → Bool
 is_within (Read r) = is_within_limits r
 is_within (Malformed field place) = true
 is_within TooLong = true
+
+-- what was read of a line of these bytes
+pub record IsReadOf (line : List ℕ) (said : Option Reading) : Type 0 where
+  pub says : said ≡ reading_of_line (Some line)
+  pub within : IfSome said (λ reading. is_within reading ≡ true)

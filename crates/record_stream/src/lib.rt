@@ -1,10 +1,6 @@
-//! The records of a stream of lines, one after the other, some of them read ahead by workers.
+//! What a line of a stream says: a record, what of it is wrong, or nothing where it is blank.
 #![tactic(auto)]
 
-mod ahead;
-mod found;
-mod reader;
 mod reading;
 
-pub use reader::RecordReader;
 pub use reading::read_line;

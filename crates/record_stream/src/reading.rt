@@ -1,9 +1,8 @@
 ghost use Rattle.std.specs.Prelude.{◌≡◌, IfOk, Some};
-ghost use Rattle.record_stream.specs.Ahead.{IsReadOf};
-ghost use Rattle.record_stream.specs.Records.{is_blank, is_blank_byte};
+ghost use Rattle.record_stream.specs.Records.{IsReadOf, is_blank, is_blank_byte};
 ghost use Rattle.tx_records.specs.declared.record.Reading.{Reading};
 
-use coin_frac::NoMemory;
+use no_memory::NoMemory;
 use record_read::{RecordFault, Scratch, read_record_with};
 use std::alloc::Global;
 use tx_records::{FieldName, Reading};
@@ -29,7 +28,7 @@ fn malformed(what: FieldName, place: Option<u32>) -> Option<Reading>
     Some(Reading::Malformed { what, place })
 }
 
-/// What a line of bytes says; nothing where it is blank. The scratch is what reading a line needs, kept from line to line. (Own)
+/// What a line says; nothing if it is blank. The scratch is kept from line to line. (Own)
 pub fn read_line(
     alloc: Global,
     scratch: &mut Scratch,

@@ -1,13 +1,14 @@
 pub mod Numbers
-pub mod Words
 pub mod Lines
 pub mod Counts
 pub mod Complete
 pub mod LawsHold
 pub mod Played
-pub mod Gathering
 pub mod Answered
 pub mod Texts
 pub mod Loads
 pub mod Shortfalls
+pub mod Outlooks
+pub mod Lasts
 pub mod Workers
+pub mod Following

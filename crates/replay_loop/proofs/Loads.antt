@@ -56,7 +56,7 @@ has_summary c rs b =
 
 -- ---- what was counted
 
--- of further records nothing is told
+-- further records have no text
 counts_on : (w : World) (k : Counted) (rs : List (ℕ × Reading))
     → fold (with_record (play_of counts_told)) (record { text = []; stand = Ok (record { state = Some w; kept = k }) }) rs
     ≡ record { text = []; stand = Ok (record { state = Some (world_after_readings w (readings rs)); kept = record k { counts = counted_from k.counts w (readings rs) } }) }
@@ -68,7 +68,7 @@ counts_on w k ((n, r) ∷ rs) =
       stand = Ok (record { state = Some (world_after_readings (world_after_reading w r) (readings rs)); kept = record k { counts = counted_from c (world_after_reading w r) (readings rs) } });
     }) (counted_is k.counts w r)
 
--- nothing is told of any records
+-- no record has a text
 quiet_by : (n : ℕ) (r : Reading) (stand : Result (Stood Counted) GenesisCause) → (with_record (play_of counts_told) (record { text = []; stand = stand }) (n, r)).text ≡ []
 quiet_by n r (Err cause) = refl
 quiet_by n r (Ok s) = quiet_turn (answered s.state r) where

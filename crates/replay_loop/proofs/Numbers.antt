@@ -4,7 +4,7 @@ use Rattle.std.specs.Prelude.{IsErr, IsErrAnd}
 use Rattle.byte_lines.specs.Faults.{CountsFaults}
 use Rattle.replay_loop.specs.declared.status.Status.{Status}
 use Rattle.replay_loop.specs.declared.status.Status.TheVariants as statuses
-use Rattle.replay_loop.specs.Statuses.{status_number}
+use Rattle.replay_loop.specs.Statuses.{NumbersTell, status_number}
 
 pub is_usage : (status : Status) → status_number status ≡ 2 → status ≡ statuses.Usage
 is_usage statuses.Usage e = refl
@@ -32,6 +32,9 @@ is_write_fault (statuses.BadGenesis cause) e = cc
 is_write_fault statuses.ReadFault e = cc
 is_write_fault statuses.NoMemory e = cc
 is_write_fault statuses.TooMuch e = cc
+
+pub numbers_tell : NumbersTell
+numbers_tell = record { usage = is_usage; read_fault = is_read_fault; write_fault = is_write_fault }
 
 -- faults counted by one word are counted by another of the same meaning
 pub counts_as : (failed other : Type 0) (old new : ℕ) → (failed → other) → (other → failed) → CountsFaults failed old new → CountsFaults other old new

@@ -57,7 +57,7 @@ started [] (n, r) only = only_none (first_answered r) (reading_fault r) (read_fi
 started ((n, r) ∷ before) last only = only_none (first_answered r) (reading_fault r) (read_first r) only
 
 module _ {Kept : Type 0} (t : Telling Kept) (k : Kept) where
-  -- where the command stands, by why the records are none to begin with
+  -- where the command is, by why the records are none to begin with
   abbrev pub BegunBy : Option GenesisCause → Played (Stood Kept) GenesisCause → Type 0
   BegunBy None x = (w : World) × (kept : Kept) × (x.stand ≡ Ok (record { state = Some w; kept = kept }))
   BegunBy (Some causes.Missing) x = x ≡ record { text = []; stand = Ok (record { state = None; kept = k }) }

@@ -10,7 +10,7 @@ use Rattle.line_runs.specs.Plays.{Played, after_turn, ended, records_from, with_
 use Rattle.line_runs.specs.Runs.{BreaksAtEnd, BreaksAtLine, Run, IsPart, IsRunOf, IsStopped, StandFirst, ended_in, played_in, played_over}
 use Rattle.line_runs.specs.declared.fault.RunFault.TheVariants as faults
 use Rattle.line_runs.proofs.Fronts.{front_more, records_both, text_grows}
-use Rattle.record_stream.specs.Heard.{Begin}
+use Rattle.record_stream.specs.Come.{Begin}
 use Rattle.record_stream.specs.Records.{reading_of_line, records_of}
 use Rattle.run_model.specs.Genesis.{genesis_fault, world_of_genesis}
 use Rattle.run_model.specs.World.{World}
@@ -42,7 +42,7 @@ silent : (cause : GenesisCause) (rs : List (ℕ × Reading)) → (fold (with_rec
 silent cause [] = refl
 silent cause (r ∷ rs) = silent cause rs
 
--- nothing is told at the end
+-- no text at the end
 no_end : (n : ℕ) (text : List ℕ) (stand : Result (Stood (Unit {0})) GenesisCause) → (ended (play_of texts_told) n (record { text = text; stand = stand })).text ≡ text
 no_end n text (Err cause) = refl
 no_end n text (Ok s) = no_last text s.state where

@@ -1,8 +1,6 @@
--- What answering a record gives: the World that the record leaves, and what the record comes to, by
--- the definitions of the
--- whole ledger. (Own)
+-- The World after a record and its outcome, by the definitions of the whole ledger. (Own)
 use Rattle.std.specs.Prelude.{◌≡◌, ◌≤◌, ℕ, Option, Some, None, Result, Ok, Err, ⊤, option_map, true}
-use Rattle.coin_frac.specs.declared.NoMemory.{NoMemory}
+use Rattle.no_memory.specs.declared.NoMemory.{NoMemory}
 use Rattle.record_stream.specs.Records.{is_within}
 use Rattle.run_model.specs.Genesis.{genesis_fault, world_of_genesis}
 use Rattle.run_model.specs.World.{World}
@@ -23,17 +21,17 @@ Begins g (Ok (w, outcome)) = (genesis_fault g ≡ None) × (w ≡ world_of_genes
 Begins g (Err (faults.BadGenesis cause)) = genesis_cause g ≡ Some cause
 Begins g (Err faults.NoMemory) = ⊤
 
--- the same of what was read first
+-- the World and the pots of what was read first, or the cause for which there is none
 abbrev pub BeginsWith : Reading → Result (World × Outcome) AnswerFault → Type 0
 BeginsWith r (Ok p) = (g : Genesis) × (r ≡ Read (records.Genesis g)) × Begins g (Ok p)
 BeginsWith r (Err (faults.BadGenesis cause)) = reading_fault r ≡ Some cause
 BeginsWith r (Err faults.NoMemory) = ⊤
 
--- the World after what was read, and what that comes to
+-- the World after what was read, and its outcome
 abbrev pub IsJudged : World → Reading → World × Outcome → Type 0
 IsJudged w r (after, outcome) = (after ≡ world_after_reading w r) × (outcome ≡ outcome_of w r)
 
--- the same, but where memory ran out
+-- the World after what was read and its outcome, unless memory ran out
 abbrev pub Judges : World → Reading → Result (World × Outcome) NoMemory → Type 0
 Judges w r (Ok p) = IsJudged w r p
 Judges w r (Err e) = ⊤
@@ -45,14 +43,13 @@ Answers (Some w) r (Ok p) = IsJudged w r p
 Answers (Some w) r (Err (faults.BadGenesis cause)) = ⊥
 Answers (Some w) r (Err faults.NoMemory) = ⊤
 
--- the same for states with such Worlds
+-- the answer to what was read, for states with such Worlds
 abbrev pub AnswersAs : {State : Type 0} → (State → World) → Option World → Reading → Result (State × Outcome) AnswerFault → Type 0
 AnswersAs world before r (Ok (after, outcome)) = Answers before r (Ok (world after, outcome))
 AnswersAs world before r (Err fault) = Answers before r (Err fault)
 
--- what may be asked of a function that answers, and what it gives: of whatever is within its
--- limits, for 1 to 64 workers, states
--- with the Worlds that are asked for, whatever the number of workers
+-- what a function that answers requires and gives: for what is within its limits and 1 to 64
+-- workers, states with the wanted Worlds, whatever the number of workers
 pub record AnswersEach {State : Type 0} (world : State → World) (pre : ℕ → Option State → Reading → Type 0) (post : ℕ → Option State → Reading → Result (State × Outcome) AnswerFault → Type 0) : Type 0 where
   pub asked : (workers : ℕ) (before : Option State) (r : Reading) → 1 ≤ workers → workers ≤ 64 → is_within r ≡ true
       → pre workers before r

@@ -1,5 +1,4 @@
--- What a record that came to this adds to the counts of a summary, and what a measured run tells.
--- (Own)
+-- What a record of this outcome adds to the counts of a summary, and what `load` tells. (Own)
 use Rattle.std.specs.Prelude.{[]}
 use Rattle.ledger_model.specs.Supply.{pots_of}
 use Rattle.load_options.specs.declared.command.LoadCommand.{LoadCommand}
@@ -24,7 +23,7 @@ pub record Counted : Type 0 where
   pub command : LoadCommand
   pub counts : LoadCounts
 
--- nothing is told of a record, and the summary at the end
+-- nothing for a record, and the summary at the end
 abbrev pub counts_told : Telling Counted
 counts_told = record {
   keeps = λ k n w o. record k { counts = outcome_counted k.counts o };

@@ -1,5 +1,4 @@
--- Laws of runs: whatever bytes are read, the ledger is one that records reach by the rules of the
--- whole ledger. (Own)
+-- Laws of runs: whatever bytes are read, records reach the ledger by the rules. (Own)
 use Rattle.std.specs.Prelude.{◌≡◌, ℕ, Bool, true, List, None, fold}
 use Rattle.std.specs.List.{list_all}
 use Rattle.ledger_model.specs.Supply.{supply_of}
@@ -29,12 +28,11 @@ world_after_readings w rs = fold (λ (v : World) (r : ℕ × Reading). world_aft
 abbrev pub are_within : List (ℕ × Reading) → Bool
 are_within rs = list_all (λ (r : ℕ × Reading). is_within r.1) rs
 
--- whatever the bytes are, what is read of them is so
+-- whatever the bytes are, what is read of them is within the limits
 abbrev pub LinesAreWithin : Type 0
 LinesAreWithin = (bytes : List ℕ) → are_within (records_of bytes) ≡ true
 
--- whatever is read, the World is one that records reach from the genesis; so each law of runs holds
--- of it
+-- whatever is read, records reach the World from the genesis: each law of runs holds of it
 abbrev pub LinesReach : Type 0
 LinesReach = (g : Genesis) (rs : List (ℕ × Reading))
     → genesis_limits.is_within_limits g ≡ true → genesis_fault g ≡ None → are_within rs ≡ true
@@ -50,11 +48,10 @@ SupplyStays = (g : Genesis) (rs : List (ℕ × Reading))
 abbrev pub RefusedChangesNothing : Type 0
 RefusedChangesNothing = (w : World) (r : Record) (rule : Rule) → (step w r).1 ≡ Refused rule → world_after_reading w (Read r) ≡ w
 
--- replays of the same bytes that were read to their end wrote the same text, whatever the number of
--- workers was
+-- replays that read the same bytes to their end wrote the same text, for any number of workers
 abbrev pub TextsAreOne : Type 0
 TextsAreOne = (bytes rest other : List ℕ) (written again : Text) → Finished bytes rest written → Finished bytes other again → written ≡ again
 
--- measured runs that differ in the number of workers alone have the same summary
+-- `load` has the same summary for any number of workers
 abbrev pub SummariesAreOne : Type 0
 SummariesAreOne = (c : LoadCommand) (workers : ℕ) → summary_of_load (record c { workers = workers }) ≡ summary_of_load c

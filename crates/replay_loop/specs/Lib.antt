@@ -6,10 +6,11 @@ pub mod Endings
 pub mod Outcomes
 pub mod Answers
 pub mod Plays
-pub mod Through
 pub mod Texts
 pub mod Turns
 pub mod Counts
 pub mod Loads
 pub mod Inputs
-pub mod Shortfalls
+pub mod Lasts
+pub mod RunsAs
+pub mod Clauses

@@ -24,12 +24,12 @@ abbrev pub summary_by : LoadCommand → Genesis → Option GenesisRule → List 
 summary_by c g (Some rule) rs = None
 summary_by c g None rs = Some (summary_of c.seed c.accounts c.epochs g (map (λ (r : ℕ × Reading). r.1) rs))
 
--- that of a run of these records, where they begin with a genesis that breaks no genesis rule
+-- the summary of a run of these records, if they begin with a genesis that breaks no genesis rule
 abbrev pub summary_of_readings : LoadCommand → List (ℕ × Reading) → Option LoadSummary
 summary_of_readings c ((n, Read (records.Genesis g)) ∷ rs) = summary_by c g (genesis_fault g) rs
 summary_of_readings c _ = None
 
--- that of the run of the stream that is made for the command
+-- the summary of the run of the stream that is made for the command
 abbrev pub summary_of_load : LoadCommand → Option LoadSummary
 summary_of_load c = summary_of_readings c (records_of (bytes_of_load c.seed c.accounts c.epochs))
 
@@ -42,14 +42,13 @@ abbrev pub EndsLoad : Status → Text → Text → Type 0
 EndsLoad statuses.Done text written = written ≡ text
 EndsLoad statuses.WriteFault text written = IsFront written text
 EndsLoad statuses.NoMemory text written = IsFront written text
--- these never come of `load`
+-- `load` never ends so
 EndsLoad (statuses.BadGenesis cause) text written = ⊥
 EndsLoad statuses.ReadFault text written = ⊥
 EndsLoad statuses.TooMuch text written = ⊥
 EndsLoad statuses.Usage text written = ⊥
 
--- what a run of `load` came to: the stream has a summary, and the sink took what was written of its
--- text
+-- how a run of `load` ended: the stream has a summary, and the sink took what was written of it
 pub record IsLoaded (status : Status) (c : LoadCommand) (had has : Option (List ℕ)) : Type 0 where
   pub summary : LoadSummary
   pub is : summary_of_load c ≡ Some summary

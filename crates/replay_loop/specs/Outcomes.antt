@@ -1,4 +1,4 @@
--- What a record comes to, and the lines that the program writes for it. (Own)
+-- The outcome of a record, and the lines that the program writes for it. (Own)
 use Rattle.std.specs.Prelude.{ℕ, Bool, true, false, List, [], ◌∷◌, ◌++◌, Some, None}
 use Rattle.ledger_model.specs.Supply.{pots_of}
 use Rattle.report.specs.PotsWords.{pots_word_text}

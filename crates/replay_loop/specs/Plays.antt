@@ -1,10 +1,11 @@
--- What a command does with the records of a ledger, by what is told of each. (Own)
-use Rattle.std.specs.Prelude.{ℕ, Option, Some, None, Result, Ok, Err}
+-- What a command does with the records of a ledger, by what it tells of each. (Own)
+use Rattle.std.specs.Prelude.{ℕ, List, [], Option, Some, None, Result, Ok, Err}
 use Rattle.line_runs.specs.Plays.{Goes, Play, Stops, Turn}
 use Rattle.line_runs.specs.Runs.{Run}
 use Rattle.record_stream.specs.Records.{reading_of_line}
 use Rattle.run_model.specs.Genesis.{genesis_fault, world_of_genesis}
 use Rattle.run_model.specs.World.{World}
+use Rattle.text_forms.specs.Lines.{text_of_bare}
 use Rattle.text_model.specs.Runs.{world_after_reading}
 use Rattle.text_model.specs.Words.{Text}
 use Rattle.tx_records.specs.declared.genesis.Genesis.{Genesis}
@@ -37,18 +38,22 @@ abbrev pub answered : Option World → Reading → Result (World × Outcome) Gen
 answered None r = first_answered r
 answered (Some w) r = Ok (world_after_reading w r, outcome_of w r)
 
--- ---- what is told of it
+-- ---- what it tells
 
 -- a command tells texts, and keeps something from record to record
 pub record Telling (Kept : Type 0) : Type 0 where
-  -- what it keeps after a record of this line, by the World after it and what it came to
+  -- what it keeps after a record of this line, by the World after it and its outcome
   pub keeps : Kept → ℕ → World → Outcome → Kept
   -- the text of that record
   pub tells : Kept → ℕ → World → Outcome → Text
   -- the text at the end, by the last World and the number of lines
   pub closes : Kept → World → ℕ → Text
 
--- where it stands: the World, if there is one, and what it keeps
+-- lines at the end alone, over the last World, without numbers
+abbrev pub last_told : (World → List (List Text)) → Telling (Unit {0})
+last_told lines = record { keeps = λ k n w o. tt; tells = λ k n w o. []; closes = λ k w n. text_of_bare (lines w) }
+
+-- the present World, if there is one, and what the command keeps
 pub record Stood (Kept : Type 0) : Type 0 where
   pub state : Option World
   pub kept : Kept

@@ -27,7 +27,7 @@ reading_fault (Read (records.Rewards u)) = Some causes.NoGenesis
 reading_fault (Read (records.Tx tx)) = Some causes.NoGenesis
 reading_fault (Read (records.Print _)) = Some causes.NoGenesis
 
--- the same of a stream's records
+-- why a stream's first record is no genesis to begin with, where it is not
 abbrev pub start_fault : List (ℕ × Reading) → Option GenesisCause
 start_fault [] = Some causes.Missing
 start_fault ((n, r) ∷ rs) = reading_fault r
@@ -42,6 +42,6 @@ text_so_far rs = unwrap_or (text_of_readings rs) []
 abbrev pub text_of_run : List ℕ → Option Text
 text_of_run bytes = text_of_readings (records_of bytes)
 
--- the same, nothing where there is none
+-- the text of a run over these bytes, nothing where there is none
 abbrev pub text_or_nothing : List ℕ → Text
 text_or_nothing bytes = text_so_far (records_of bytes)

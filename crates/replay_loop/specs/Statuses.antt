@@ -1,5 +1,5 @@
 -- The endings of a run. (Own)
-use Rattle.std.specs.Prelude.{ℕ, Result, Ok, Err}
+use Rattle.std.specs.Prelude.{◌≡◌, ℕ, Result, Ok, Err}
 use Rattle.line_runs.specs.declared.fault.RunFault.{RunFault}
 use Rattle.line_runs.specs.declared.fault.RunFault.TheVariants as faults
 use Rattle.replay_loop.specs.declared.fault.AnswerFault.{AnswerFault}
@@ -17,6 +17,12 @@ status_number statuses.ReadFault = 4
 status_number statuses.WriteFault = 5
 status_number statuses.NoMemory = 6
 status_number statuses.TooMuch = 7
+
+-- 2, 4 and 5 say which status it is
+pub record NumbersTell : Type 0 where
+  pub usage : (status : Status) → status_number status ≡ 2 → status ≡ statuses.Usage
+  pub read_fault : (status : Status) → status_number status ≡ 4 → status ≡ statuses.ReadFault
+  pub write_fault : (status : Status) → status_number status ≡ 5 → status ≡ statuses.WriteFault
 
 -- why a run over the ledger does not come to its end
 abbrev pub ReplayFault : Type 0

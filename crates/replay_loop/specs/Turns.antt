@@ -8,8 +8,8 @@ use Rattle.replay_loop.specs.Plays.{Stood}
 use Rattle.replay_loop.specs.Statuses.{ReplayFault}
 use Rattle.replay_loop.specs.declared.status.GenesisCause.{GenesisCause}
 
--- for states with such Worlds: where it ends well, the command stands at the World of the new
--- state, and keeps what is kept now
+-- for states with such Worlds: if it ends well, the command is at the World of the new state, and
+-- keeps what is kept now
 abbrev pub IsTurnedTo
     : {State Kept : Type 0} → (State → World) → Kept → Turn (Stood Kept) GenesisCause → Gathered → Gathered → Result State ReplayFault → Type 0
 IsTurnedTo world kept turn g g' (Ok after) = IsTurned (λ s. s ≡ record { state = Some (world after); kept = kept }) turn g g' (Ok tt)

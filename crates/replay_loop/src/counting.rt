@@ -7,7 +7,7 @@ use load_options::LoadCommand;
 use load_summary::{LoadCounts, write_load};
 use std::alloc::Global;
 
-/// Counts what the records of a measured run come to, and tells its summary at the end.
+/// Counts the outcomes of the records of `load`, and tells its summary at the end.
 #[derive(Drop)]
 pub(crate) struct Counting {
     pub(crate) alloc: Global,

@@ -1,6 +1,6 @@
 ghost use Rattle.run_model.specs.Laws.{AssetsChangeByMint};
 ghost use Rattle.replay_loop.specs.Laws.{LinesAreWithin, LinesReach, RefusedChangesNothing, SummariesAreOne, SupplyStays, TextsAreOne};
-ghost use Rattle.replay_loop.specs.Shortfalls.{DoneIsWhole};
+ghost use Rattle.replay_loop.specs.Lasts.{DoneOutlookIsWhole, DoneShortfallIsWhole};
 
 use record_read::lines_read_within_limits;
 use run_laws::{assets_change_by_mint, supply_stays};
@@ -14,7 +14,8 @@ pub fn laws()
     ensures refused { RefusedChangesNothing }
     ensures one_text { TextsAreOne }
     ensures one_summary { SummariesAreOne }
-    ensures whole_shortfall { DoneIsWhole }
+    ensures whole_shortfall { DoneShortfallIsWhole }
+    ensures whole_outlook { DoneOutlookIsWhole }
 {
     lines_read_within_limits();
     supply_stays();

@@ -1,10 +1,10 @@
 use crate::outcome::Outcome;
 use crate::status::{GenesisCause, Status};
-use coin_frac::NoMemory;
 use line_runs::RunFault;
+use no_memory::NoMemory;
 use std::alloc::AllocError;
 
-/// Why what was read has no answer. (Own)
+/// Why what was read has no answer.
 #[derive(Clone, Copy)]
 pub enum AnswerFault {
     /// It came first, and is no genesis to begin with.
@@ -13,7 +13,7 @@ pub enum AnswerFault {
     NoMemory,
 }
 
-/// The state after what was read, and what that comes to, or why there is no answer. (Own)
+/// The state after what was read and its outcome, or why there is no answer.
 pub type Answered<R> = Result<(R, Outcome), AnswerFault>;
 
 impl From<NoMemory> for AnswerFault {

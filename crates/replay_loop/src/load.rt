@@ -7,9 +7,9 @@ ghost use Rattle.load_options.specs.Command.{IsWithin};
 
 use crate::counting::Counting;
 use crate::fault::Answered;
-use crate::replay::tell_records;
 use crate::run_state::RunState;
 use crate::status::GenesisCause;
+use crate::tell::tell_records;
 use byte_lines::{Sink, whole_lines};
 use gen_load::GenSource;
 use line_runs::RunFault;
@@ -19,7 +19,7 @@ use load_summary::{LoadCounts, summary_is_counted};
 use std::alloc::Global;
 use tx_records::Reading;
 
-/// Replays the stream that is made for the command, and writes the summary of it. (Own)
+/// Replays the stream that is made for the command, and writes the summary of it.
 pub(crate) fn load<R: RunState + Drop, K: Sink, F: Fn(u32, Option<R>, Reading) -> Answered<R>>(
     alloc: Global,
     answer: &F,
@@ -33,7 +33,7 @@ pub(crate) fn load<R: RunState + Drop, K: Sink, F: Fn(u32, Option<R>, Reading) -
 {
     made_streams();
     summary_is_counted();
-    // (laws: how bytes are cut into lines)
+    // laws: how bytes are cut into lines
     whole_lines();
     let mut source = GenSource::new(alloc, command.seed, command.accounts, command.epochs)?;
     let teller = Counting {

@@ -9,14 +9,14 @@ ghost use Rattle.text_model.specs.EpochLines.{epoch_lines};
 ghost use Rattle.text_model.specs.Replies.{block_words, reply_words};
 
 use crate::run_state::RunState;
-use crate::through::Through;
 use byte_lines::{Sink, SinkFault};
-use coin_frac::NoMemory;
+use gathered_lines::Through;
 use load_summary::LoadCounts;
+use no_memory::NoMemory;
 use report::{LineTaker, PotsWord, put_epoch, put_one, reply_line};
 use tx_records::{EpochReport, Pots, Reply};
 
-/// What a record comes to, told in lines of its own over the state after it. (Own)
+/// The outcome of a record, printed in lines of its own over the state after it.
 #[derive(Drop)]
 pub enum Outcome {
     /// The reply to a transaction or a reward update, and every refusal: one line.
@@ -64,7 +64,7 @@ fn put_crossing<R: RunState, T: LineTaker>(
 }
 
 impl Outcome {
-    /// Hands over its lines, in order, each made in the buffer in place of what that held.
+    /// Hands over its lines, in order; each replaces what the buffer held.
     fn put<R: RunState, T: LineTaker>(
         &self,
         state: &R,
@@ -104,8 +104,7 @@ impl Outcome {
         self.put(state, line, text, to)
     }
 
-    /// Tells its text over the state after the record, line by line, through a buffer that is used
-    /// again for the next.
+    /// Tells its text over the state after the record, line by line, through one buffer.
     pub(crate) fn write<R: RunState, K: Sink>(
         self,
         state: &R,
@@ -124,7 +123,7 @@ impl Outcome {
         self.put_through(state, number, text, &mut to)
     }
 
-    /// Counts it into those of a summary.
+    /// Adds it to the counts of a summary.
     pub(crate) fn count(&self, counts: &mut LoadCounts) -> Result<(), NoMemory>
         ensures { IsCounted counts.old (outcome_counted counts.old self.now) counts.new result }
     {

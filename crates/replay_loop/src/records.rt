@@ -11,15 +11,14 @@ use crate::run_state::RunState;
 use crate::status::GenesisCause;
 use crate::teller::Teller;
 use byte_lines::Sink;
-use coin_frac::NoMemory;
 use line_runs::{LineCommand, RunFault};
+use no_memory::NoMemory;
 use record_read::Scratch;
 use record_stream::read_line;
 use std::alloc::Global;
 use tx_records::Reading;
 
-/// A command over the records of a ledger: who answers them, what the run holds, and who tells of
-/// them.
+/// A command over the records of a ledger: who answers them, the state, and who tells of them.
 #[derive(Drop)]
 pub(crate) struct Records<
     'a,
@@ -36,7 +35,7 @@ pub(crate) struct Records<
     pub(crate) scratch: Scratch,
 }
 
-/// What a line says; none is one that is too long.
+/// The reading of a line; none if the line is too long.
 fn read(
     alloc: Global,
     scratch: &mut Scratch,
@@ -51,7 +50,7 @@ fn read(
     }
 }
 
-/// The state after what was read of the line of this number, which is told.
+/// Answers what was read of the line of this number, reports it, and returns the state after it.
 fn turn<R: RunState + Drop, H: Teller<R>, F: Fn(u32, Option<R>, Reading) -> Answered<R>, K: Sink>(
     answer: &F,
     workers: u32,

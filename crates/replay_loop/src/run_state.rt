@@ -3,8 +3,8 @@ use report::LineTaker;
 use std::alloc::Global;
 use tx_records::Pots;
 
-/// What a run holds between two records. The loop is written over any, so that its proof opens no
-/// part of the ledger. (Own)
+/// What a run holds between two records.
+/// The loop is written over any, so that its proof opens no part of the ledger.
 pub trait RunState: Sized {
     ghost use Rattle.std.specs.Prelude.{◌≡◌, [], ◌∷◌};
     ghost use Rattle.ledger_model.specs.Supply.{pots_of};
@@ -16,11 +16,11 @@ pub trait RunState: Sized {
     // the whole state of the ledger
     ghost world: { Self → World };
 
-    /// Its pots, in lovelace. (Own)
+    /// Its pots, in lovelace.
     fn pots(&self) -> Pots
         ensures { result ≡ pots_of (world self.now).ledger };
 
-    /// Hands over the line of an accepted block that left it. (Own)
+    /// Hands over the line of an accepted block that left it.
     fn put_block<T: LineTaker>(
         &self,
         to: &mut T,
@@ -30,7 +30,7 @@ pub trait RunState: Sized {
         ensures { HasPut T.with_line T.IsPart line (T.taken to.old) (block_words (world self.now) ∷ []) (T.taken to.new)
             (T.faults to.old) (T.faults to.new) result };
 
-    /// Hands over the lines of a print of it. (Own)
+    /// Hands over the lines of a print of it.
     fn put_state<T: LineTaker>(
         &self,
         to: &mut T,
@@ -40,7 +40,7 @@ pub trait RunState: Sized {
         ensures { HasPut T.with_line T.IsPart line (T.taken to.old) (state_lines (world self.now)) (T.taken to.new)
             (T.faults to.old) (T.faults to.new) result };
 
-    /// Hands over the lines of a print of the native assets that its unspent outputs hold. (Own)
+    /// Hands over the lines of a print of the native assets that its unspent outputs hold.
     fn put_assets<T: LineTaker>(
         &self,
         to: &mut T,
@@ -51,15 +51,15 @@ pub trait RunState: Sized {
             (T.faults to.old) (T.faults to.new) result };
 }
 
-/// What a run holds, where it can say at the end what its frozen proposals lack. (Own)
-pub trait ShortState: RunState {
+/// A state that can say at the end of a run what it comes to, in lines without numbers. Each call
+/// consumes the state.
+pub trait LastState: RunState {
     ghost use Rattle.bare_lines.specs.Bare.{bare, bare_part};
+    ghost use Rattle.outlook_model.specs.Outlook.{outlook_lines};
     ghost use Rattle.report.specs.Taking.{HasPut};
     ghost use Rattle.shortfall_model.specs.ShortLines.{shortfall_lines};
 
-    /// Hands over the lines of what each frozen proposal lacks, in order of priority, without
-    /// numbers.
-    /// It consumes the state. (Own)
+    /// Hands over what each frozen proposal lacks, by priority.
     fn put_short<T: LineTaker>(
         self,
         alloc: Global,
@@ -67,5 +67,15 @@ pub trait ShortState: RunState {
         text: &mut Vec<u8>,
     ) -> Result<(), SinkFault>
         ensures { HasPut (bare T.with_line) (bare_part T.IsPart) 0 (T.taken to.old) (shortfall_lines (Self.world self).frozen) (T.taken to.new)
+            (T.faults to.old) (T.faults to.new) result };
+
+    /// Hands over the tallies of the next two boundaries, as if no further record came.
+    fn put_outlook<T: LineTaker>(
+        self,
+        alloc: Global,
+        to: &mut T,
+        text: &mut Vec<u8>,
+    ) -> Result<(), SinkFault>
+        ensures { HasPut (bare T.with_line) (bare_part T.IsPart) 0 (T.taken to.old) (outlook_lines (Self.world self)) (T.taken to.new)
             (T.faults to.old) (T.faults to.new) result };
 }

@@ -1,9 +1,10 @@
 ghost use Rattle.std.specs.Prelude.{◌≡◌};
-ghost use Rattle.replay_loop.specs.Statuses.{status_number};
+ghost use Rattle.replay_loop.specs.Statuses.{status_by, status_number};
 
+use line_runs::RunFault;
 use tx_records::{FieldName, GenesisRule};
 
-/// How a run ended. (Own)
+/// How a run ended.
 #[derive(Clone, Copy, Debug, PartialEq, Eq)]
 pub enum Status {
     /// The input was read to its end and all text written.
@@ -22,15 +23,14 @@ pub enum Status {
     TooMuch,
 }
 
-/// Why there was no genesis to begin with. (Own)
+/// Why there was no genesis to begin with.
 #[derive(Clone, Copy, Debug, PartialEq, Eq)]
 pub enum GenesisCause {
     /// There is no line, or none that is not blank.
     Missing,
     /// The line is longer than a line may be.
     TooLong,
-    /// It is no record: what of it is wrong, and the place in that list, from 0, where one entry
-    /// is.
+    /// It is no record: what of it is wrong, and, for an entry of a list, its index there, from 0.
     Malformed { what: FieldName, place: Option<u32> },
     /// It is a record of another kind.
     NoGenesis,
@@ -39,7 +39,17 @@ pub enum GenesisCause {
 }
 
 impl Status {
-    /// The status with which the program ends. (Own)
+    /// The status of a command that ended so.
+    pub fn of(ended: Result<(), RunFault<GenesisCause>>) -> Status
+        ensures { result ≡ status_by ended }
+    {
+        match ended {
+            Ok(()) => Status::Done,
+            Err(fault) => Status::from(fault),
+        }
+    }
+
+    /// The status with which the program ends.
     pub fn number(&self) -> u8
         ensures { result ≡ status_number self.now }
     {

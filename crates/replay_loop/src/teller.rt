@@ -2,8 +2,8 @@ use crate::outcome::Outcome;
 use crate::run_state::RunState;
 use byte_lines::{Sink, SinkFault};
 
-/// What a command tells of the records of a run, and what it keeps of them. (Own)
-pub(crate) trait Teller<R: RunState> {
+/// What a command tells of the records of a run, and what it keeps of them.
+pub trait Teller<R: RunState> {
     ghost use Rattle.std.specs.Prelude.{◌≡◌, Err, OnErr, OnOk};
     ghost use Rattle.byte_lines.specs.Faults.{CountsFaults};
     ghost use Rattle.line_runs.specs.Batches.{TellsAll, TellsPart};
@@ -15,7 +15,7 @@ pub(crate) trait Teller<R: RunState> {
 
     ghost telling: { Telling Kept };
 
-    /// Tells what the record of this line came to, over the state after it.
+    /// Tells the outcome of the record of this line, over the state after it.
     fn tell<K: Sink>(
         &mut self,
         state: &R,

@@ -1,13 +1,22 @@
 use crate::outcome::Outcome;
 use crate::run_state::RunState;
 use crate::teller::Teller;
-use crate::through::Through;
 use byte_lines::{Sink, SinkFault};
+use std::alloc::Global;
 
-/// Tells the text of each record, line by line, through a buffer that is used again for the next.
+/// Tells the text of each record, line by line, through one buffer.
 #[derive(Drop)]
 pub(crate) struct Texts {
-    pub(crate) text: Vec<u8>,
+    text: Vec<u8>,
+}
+
+impl Texts {
+    /// Before the first record.
+    pub(crate) fn new(alloc: Global) -> Texts {
+        Texts {
+            text: Vec::new(alloc),
+        }
+    }
 }
 
 impl<R: RunState + Drop> Teller<R> for Texts {

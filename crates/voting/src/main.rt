@@ -1,35 +1,21 @@
-//! What a voting tool asks of the library: who voted on each live proposal, what each role counts and needs, and what the next
-//! boundary makes of it. It reads a stream from standard input, and tells it of the ledger after the last record, in lines that
-//! begin with the number of that record's line. The page docs/use/library.md tells of it.
+//! A voting tool: votes, counts, needs and prospects of each live proposal, by the library.
+//! It reads a stream from standard input, and prints lines about the ledger after the last record,
+//! each with the number of that record's line. docs/use/library.md explains it.
 #![tactic(auto)]
 
-mod after;
-mod asked;
-mod told;
+use byte_lines::{ReaderSource, WriterSink};
+use commands::Crew;
+use par_count::OpenGate;
+use std::process::ExitCode;
+use voting_lines::report_votes;
 
-use after::replayed;
-use byte_lines::{ReaderSource, SinkFault, WriterSink};
-use epoch_rule::next_outcome;
-use ledger_state::LedgerState;
-use std::io;
-use told::put_all;
-
-/// Tells of all live proposals of a ledger.
-fn tell(rt: &HostRuntime, ledger: &LedgerState, line: u64) -> Result<(), SinkFault> {
-    let mut text = Vec::new(rt.alloc());
-    let mut sink = WriterSink::new(rt.stdout());
-    let ahead = next_outcome(rt.alloc(), ledger)?;
-    put_all(&mut sink, &mut text, line, &ahead, ledger)
-}
-
-fn main(rt: HostRuntime) -> io::Result<()> {
+fn main(rt: HostRuntime) -> ExitCode {
     let mut source = ReaderSource::new(rt.stdin());
-    match replayed(rt.alloc(), &rt, &mut source) {
-        Ok(Some((ledger, line))) => match tell(&rt, &ledger, line) {
-            Ok(()) => Ok(()),
-            Err(fault) => println!(rt; "not told: {fault}"),
-        },
-        Ok(None) => println!(rt; "no ledger to begin with"),
-        Err(fault) => println!(rt; "not read: {fault}"),
-    }
+    let mut sink = WriterSink::new(rt.stdout());
+    let crew = Crew {
+        alloc: rt.alloc(),
+        rt: &rt,
+        gate: &OpenGate,
+    };
+    ExitCode::from(report_votes(&crew, &mut source, &mut sink).number())
 }

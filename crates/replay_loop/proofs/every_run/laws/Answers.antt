@@ -1,5 +1,5 @@
 use Rattle.replay_loop.proofs.LawsHold.{reached, refused, supply, within}
-use Rattle.replay_loop.proofs.Shortfalls.{done_is_whole}
+use Rattle.replay_loop.proofs.Lasts.{outlook_is_whole, shortfall_is_whole}
 use Rattle.replay_loop.proofs.Workers.{summaries_are_one, texts_are_one}
 use Rattle.replay_loop.proofs.every_run.laws.Goals as goal
 
@@ -25,4 +25,7 @@ pub returns-clause-assets : goal.returns-clause-assets
 returns-clause-assets c = c.assets_change_by_mint.ensures
 
 pub returns-clause-whole_shortfall : goal.returns-clause-whole_shortfall
-returns-clause-whole_shortfall c = done_is_whole
+returns-clause-whole_shortfall c = shortfall_is_whole
+
+pub returns-clause-whole_outlook : goal.returns-clause-whole_outlook
+returns-clause-whole_outlook c = outlook_is_whole

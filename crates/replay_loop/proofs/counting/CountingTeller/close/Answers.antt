@@ -6,7 +6,7 @@ use Rattle.load_summary.specs.Counting.{summary_with}
 use Rattle.replay_loop.specs.Loads.{summary_text}
 use Rattle.tx_records.specs.declared.report.Pots.{Pots}
 use Rattle.line_runs.proofs.Gathers.{all_after, part_after, part_before}
-use Rattle.replay_loop.proofs.Gathering.{on_err_any}
+use Rattle.gathered_lines.proofs.Gathering.{on_err_any}
 use Rattle.replay_loop.proofs.counting.CountingTeller.close.Goals as goal
 
 pub returns-in_err-hand_over-clause-err : goal.returns-in_err-hand_over-clause-err

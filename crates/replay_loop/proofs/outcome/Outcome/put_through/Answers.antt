@@ -1,6 +1,6 @@
 use Rattle.std.proofs.lemmas.Result.{on_ok_weaker, on_err_weaker}
 use Rattle.replay_loop.specs.Outcomes.{outcome_lines}
-use Rattle.replay_loop.proofs.Gathering.{names_stay, told_all, told_part}
+use Rattle.gathered_lines.proofs.Gathering.{names_stay, told_all, told_part}
 use Rattle.replay_loop.proofs.outcome.Outcome.put_through.Goals as goal
 
 pub returns-clause-ok : goal.returns-clause-ok
