@@ -6,13 +6,13 @@ ghost use Rattle.run_model.specs.World.{on_ledger};
 ghost use Rattle.tx_records.specs.TxLimits.{is_within_limits};
 ghost use Rattle.tx_records.specs.declared.reply.Rule.{Rule};
 
-use coin_frac::NoMemory;
 use ledger_state::LedgerState;
+use no_memory::NoMemory;
 use std::alloc::Global;
 use tx_records::{Reply, Rule, Tx, TxFault};
 use tx_rule::{apply_tx, judge};
 
-/// Why a transaction that is sent is not judged. (Own)
+/// Why a transaction that is sent is not judged.
 #[derive(Clone, Copy, Debug, PartialEq, Eq)]
 pub enum SendFault {
     /// A list is longer, or a number greater, than a record may have.
@@ -31,7 +31,7 @@ impl From<NoMemory> for SendFault {
     }
 }
 
-/// Why a transaction would not be accepted, or is not judged. (Own)
+/// Why a transaction would not be accepted, or is not judged.
 #[derive(Clone, Copy, Debug, PartialEq, Eq)]
 pub enum AskFault {
     /// The first rule that it breaks.
@@ -49,19 +49,6 @@ impl From<NoMemory> for AskFault {
 
     fn from(_error: NoMemory) -> AskFault {
         AskFault::NoMemory
-    }
-}
-
-impl From<SendFault> for AskFault {
-    ghost use Rattle.wallet.specs.Asking.{unjudged};
-
-    ghost from_gives = { λ error fault. fault ≡ unjudged error };
-
-    fn from(error: SendFault) -> AskFault {
-        match error {
-            SendFault::BeyondLimits => AskFault::BeyondLimits,
-            SendFault::NoMemory => AskFault::NoMemory,
-        }
     }
 }
 
@@ -93,7 +80,7 @@ pub fn ask(alloc: Global, ledger: &LedgerState, tx: &Tx) -> Result<(), AskFault>
     Ok(())
 }
 
-/// The reply to a transaction that is sent, and the ledger after it, which is the one that was given where the reply is a refusal. (Own)
+/// Sends a transaction: its reply, and the ledger after it, which a refusal leaves unchanged. (Own)
 pub fn send(alloc: Global, ledger: LedgerState, tx: &Tx) -> Result<(LedgerState, Reply), SendFault>
     ensures reply { IfOk result (λ r. r.1 ≡ (tx_step ledger.ledger tx.now).1) }
     ensures ledger { IfOk result (λ r. r.0 ≡ on_ledger (λ l. (tx_step l tx.now).0) ledger) }
@@ -113,16 +100,41 @@ pub fn send(alloc: Global, ledger: LedgerState, tx: &Tx) -> Result<(LedgerState,
     }
 }
 
-/// What can be asked: a ledger, or a wallet's own around one.
+/// What can be asked: a ledger. The answers are over any, so that their proof opens no part of it.
 pub trait Asked: Sized {
-    /// Whether a transaction would be accepted.
-    fn ask(&self, alloc: Global, tx: &Tx) -> Result<(), AskFault>;
+    ghost use Rattle.std.specs.Prelude.{◌≡◌, Err, IfOk, None, Some, false, true};
+    ghost use Rattle.ledger_model.specs.Broken.{first_broken};
+    ghost use Rattle.ledger_model.specs.Transaction.{tx_step};
+    ghost use Rattle.run_model.specs.World.{World, on_ledger};
+    ghost use Rattle.tx_records.specs.TxLimits.{is_within_limits};
+    ghost use Rattle.tx_records.specs.declared.reply.Rule.{Rule};
+    ghost use Rattle.wallet.specs.declared.ask.AskFault.TheVariants as faults;
+    ghost use Rattle.wallet.specs.declared.ask.SendFault.TheVariants as send_faults;
 
-    /// What is to be asked after a transaction that is sent, and the reply to it.
-    fn send(self, alloc: Global, tx: &Tx) -> Result<(Self, Reply), SendFault>;
+    // the whole state of the ledger
+    ghost world: { Self → World };
+
+    /// Asks whether a transaction would be accepted, or which rule it breaks first.
+    fn ask(&self, alloc: Global, tx: &Tx) -> Result<(), AskFault>
+        ensures accepted { IfOk result (λ _. first_broken (world self.now).ledger tx.now ≡ None) }
+        ensures refused { (rule : Rule) → result ≡ Err (faults.Refused rule) →
+            first_broken (world self.now).ledger tx.now ≡ Some rule }
+        ensures judged { IfOk result (λ _. is_within_limits tx.now ≡ true) }
+        ensures beyond { result ≡ Err faults.BeyondLimits → is_within_limits tx.now ≡ false };
+
+    /// Sends a transaction: what to ask next, which a refusal leaves unchanged, and the reply.
+    fn send(self, alloc: Global, tx: &Tx) -> Result<(Self, Reply), SendFault>
+        ensures reply { IfOk result (λ r. r.1 ≡ (tx_step (world self).ledger tx.now).1) }
+        ensures ledger { IfOk result (λ r. world r.0 ≡ on_ledger (λ l. (tx_step l tx.now).0) (world self)) }
+        ensures judged { IfOk result (λ _. is_within_limits tx.now ≡ true) }
+        ensures beyond { result ≡ Err send_faults.BeyondLimits → is_within_limits tx.now ≡ false };
 }
 
 impl Asked for LedgerState {
+    ghost use Rattle.run_model.specs.World.{World};
+
+    ghost world = { λ (w : World). w };
+
     fn ask(&self, alloc: Global, tx: &Tx) -> Result<(), AskFault> {
         ask(alloc, self, tx)
     }

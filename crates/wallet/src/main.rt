@@ -1,6 +1,6 @@
-//! What a wallet asks of the library: will this be accepted, and if not, why? It reads a genesis from standard input, and
-//! asks about a transfer with a fee that is too small and with the least one, and about a transaction of governance before
-//! and after the hard fork that it votes on is proposed. The page docs/use/library.md tells of it.
+//! What a wallet asks of the library: will this be accepted, and if not, why? It reads a genesis
+//! from standard input. It asks about a transfer with too small a fee and with the least one, and a
+//! governance transaction before and after the hard fork it votes on. See docs/use/library.md.
 #![tactic(auto)]
 
 mod ask;
@@ -9,21 +9,28 @@ mod parts;
 mod start;
 mod transfer;
 
-use ask::{AskFault, Asked};
-use coin_frac::NoMemory;
+ghost use Rattle.std.specs.Prelude.{◌≡◌, Err, IfOk, false};
+ghost use Rattle.tx_records.specs.TxLimits.{is_within_limits};
+ghost use Rattle.wallet.specs.Asking.{after_answer, answer_line};
+ghost use Rattle.wallet.specs.Questions.{asked_by};
+
+use ask::{AskFault, Asked, SendFault};
 use governance::{governance, hard_fork};
+use no_memory::NoMemory;
 use report::reply_line;
 use start::ledger_of;
 use std::alloc::Global;
 use std::io::{self, Write};
 use transfer::transfer;
-use tx_records::{Reply, Rule, Tx};
+use tx_records::{Reply, Tx};
 
 /// How many transactions are asked about.
 const QUESTIONS: u64 = 5;
 
 /// The transaction that is asked about by a question.
-fn transaction(alloc: Global, question: u64) -> Result<Tx, NoMemory> {
+fn transaction(alloc: Global, question: u64) -> Result<Tx, NoMemory>
+    ensures { IfOk result (λ tx. tx ≡ asked_by question) }
+{
     match question {
         1 => transfer(alloc, 300),
         2 => transfer(alloc, 400),
@@ -32,34 +39,50 @@ fn transaction(alloc: Global, question: u64) -> Result<Tx, NoMemory> {
     }
 }
 
-/// What is answered to a question, as a line of text in place of what the buffer held; and what is to be asked next. A
-/// transaction that would be accepted is sent.
+/// Writes the answer about a transaction as a line into the buffer, which loses what it held.
+/// Returns what to ask next: a transaction that would be accepted is sent.
+fn answer_about<A: Asked + Drop>(
+    alloc: Global,
+    asked: A,
+    question: u64,
+    tx: &Tx,
+    text: &mut Vec<u8>,
+) -> Result<A, SendFault>
+    ensures text { IfOk result (λ _. text.new.items ≡ answer_line question (A.world asked) tx.now) }
+    ensures next { IfOk result (λ next. A.world next ≡ after_answer (A.world asked) tx.now) }
+    ensures beyond { result ≡ Err SendFault.BeyondLimits → is_within_limits tx.now ≡ false }
+{
+    match asked.ask(alloc, tx) {
+        Ok(()) => {
+            let (next, reply) = asked.send(alloc, tx)?;
+            reply_line(text, question, &reply)?;
+            Ok(next)
+        }
+        Err(AskFault::Refused(rule)) => {
+            reply_line(text, question, &Reply::Refused(rule))?;
+            Ok(asked)
+        }
+        Err(AskFault::BeyondLimits) => Err(SendFault::BeyondLimits),
+        Err(AskFault::NoMemory) => Err(SendFault::NoMemory),
+    }
+}
+
+/// Answers a question as a line in the buffer, and returns what to ask next.
 fn answer<A: Asked + Drop>(
     alloc: Global,
     asked: A,
     question: u64,
     text: &mut Vec<u8>,
-) -> Result<A, AskFault> {
+) -> Result<A, SendFault>
+    ensures text { IfOk result (λ _. text.new.items ≡ answer_line question (A.world asked) (asked_by question)) }
+    ensures next { IfOk result (λ next. A.world next ≡ after_answer (A.world asked) (asked_by question)) }
+    ensures beyond { result ≡ Err SendFault.BeyondLimits → is_within_limits (asked_by question) ≡ false }
+{
     let tx = transaction(alloc, question)?;
-    if let Err(fault) = asked.ask(alloc, &tx) {
-        let rule = refusal(fault)?;
-        reply_line(text, question, &Reply::Refused(rule))?;
-        return Ok(asked);
-    }
-    let (next, reply) = asked.send(alloc, &tx)?;
-    reply_line(text, question, &reply)?;
-    Ok(next)
+    answer_about(alloc, asked, question, &tx, text)
 }
 
-/// The rule that is broken, or why nothing was judged.
-fn refusal(fault: AskFault) -> Result<Rule, AskFault> {
-    match fault {
-        AskFault::Refused(rule) => Ok(rule),
-        AskFault::BeyondLimits | AskFault::NoMemory => Err(fault),
-    }
-}
-
-/// Asks about each transaction in turn, and prints what is answered.
+/// Asks about each transaction in turn, and prints the answers.
 fn ask_all<A: Asked + Drop>(rt: &HostRuntime, first: A) -> io::Result<()> {
     let mut asked = first;
     let mut text = Vec::new(rt.alloc());

@@ -3,9 +3,9 @@ ghost use Rattle.std.specs.Prelude.{◌≡◌, IfOk};
 ghost use Rattle.wallet.specs.Parts.{account, key, output, spending};
 
 use assets::{Assets, Mint};
-use coin_frac::NoMemory;
 use gov_ids::{Account, Address, CredKind, Credential, OutRef, TxId};
 use listed::Listed;
+use no_memory::NoMemory;
 use out_refs::OutRefs;
 use std::alloc::Global;
 use tx_records::{Scripts, Tx, TxOutput};
@@ -59,8 +59,8 @@ pub fn output(to: [u8; 28], lovelace: u64) -> TxOutput
     }
 }
 
-/// A transaction that spends one output and pays a fee, and does nothing else yet. Whoever sends it states its size and
-/// that its witnesses are there.
+/// A transaction that spends one output, pays a fee, and does nothing else yet.
+/// Whoever sends it states its size, and that its witnesses are there.
 pub fn spending(alloc: Global, id: TxId, spent: OutRef, fee: u64) -> Result<Tx, NoMemory>
     ensures { IfOk result (λ tx. tx ≡ spending id spent fee) }
 {

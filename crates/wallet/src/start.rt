@@ -7,7 +7,7 @@ use record_read::{RecordFault, read_record};
 use std::alloc::Global;
 use tx_records::{GenesisRule, Record};
 
-/// Why a line gives no ledger. (Own)
+/// Why a line gives no ledger.
 #[derive(Clone, Copy, Debug, PartialEq, Eq)]
 pub enum StartFault {
     /// The line is no record: what of it is wrong.

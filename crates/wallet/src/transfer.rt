@@ -1,19 +1,16 @@
 //! A transfer as a wallet builds it.
-ghost use Rattle.std.specs.Prelude.{◌≡◌, ◌-◌, [], ◌∷◌, IfOk, min};
-ghost use Rattle.wallet.specs.declared.parts.TheConstants.{ALICE, BOB, GENESIS, TRANSFER};
-ghost use Rattle.wallet.specs.Parts.{output, spending};
+ghost use Rattle.std.specs.Prelude.{◌≡◌, IfOk};
+ghost use Rattle.wallet.specs.Questions.{transfer};
 
 use crate::parts::{ALICE, BOB, GENESIS, TRANSFER, output, spending};
-use coin_frac::NoMemory;
 use gov_ids::OutRef;
+use no_memory::NoMemory;
 use std::alloc::Global;
 use tx_records::Tx;
 
 /// Alice's 15,000 lovelace: 4,000 go to Bob, the fee is paid, and the rest comes back.
 pub fn transfer(alloc: Global, fee: u16) -> Result<Tx, NoMemory>
-    ensures { IfOk result (λ tx. tx ≡ record (spending TRANSFER (record { tx = GENESIS; index = 0 }) (min fee 11000)) {
-      outputs = output BOB 4000 ∷ output ALICE (11000 - min fee 11000) ∷ [];
-    }) }
+    ensures { IfOk result (λ tx. tx ≡ transfer fee) }
 {
     let fee = u64::from(fee).min(11_000);
     let spent = OutRef {
