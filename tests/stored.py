@@ -15,7 +15,7 @@ TOP = Path(__file__).resolve().parent.parent
 # where `rt ci` and `rt run` leave the program
 PROGRAM = TOP / "crates/conway/out/conway"
 # the further commands that the program has
-BUILT = ("shortfall",)
+BUILT = ("shortfall", "outlook")
 
 
 def is_missing(program, script):

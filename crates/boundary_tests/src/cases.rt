@@ -9,14 +9,14 @@ pub struct Case {
     pub genesis: Line,
     /// The lines of each epoch, behind which its boundary is.
     pub epochs: &'static [&'static [Line]],
-    /// What the last boundary tells, but for the number of its line.
+    /// What the last boundary reports, without the number of its line.
     pub told: &'static [&'static str],
     /// What is seen of the state after it.
     pub parts: [u64; 6],
 }
 
 /// No action needs votes.
-const NO_VOTES: &str =
+pub const NO_VOTES: &str =
     r#","drepVotingThresholds":[[0,1],[0,1],[0,1],[0,1],[0,1],[0,1],[0,1],[0,1],[0,1],[0,1]]"#;
 
 /// A proposal may be voted on in its own epoch alone.
@@ -55,7 +55,7 @@ pub const TERM_1: Line = Line::Genesis(
     r#","committee":{"threshold":[1,2],"members":[["k_70",1,"k_71"]]}"#,
 );
 
-/// The same with a term that ends with epoch 0.
+/// As TERM_1, with a term that ends with epoch 0.
 pub const TERM_0: Line = Line::Genesis(
     NO_VOTES,
     r#","committeeMinSize":1"#,

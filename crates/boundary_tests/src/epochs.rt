@@ -1,11 +1,11 @@
-//! What the last of some boundaries tells, and what it leaves.
+//! What the last of some boundaries reports, and what it leaves.
 use crate::cases::{Case, WORKED};
 use crate::lines::{Line, spell};
 use crate::proposals::{CHAINS, COMMITTEES, PASSES};
 use crate::state::{Changed, Stop, after_epoch, begun, crossed, votes_refused};
 use crate::steps::{PAYMENTS, POOLS, STEPS};
-use coin_frac::NoMemory;
 use ledger_state::LedgerState;
+use no_memory::NoMemory;
 use report::epoch_text;
 use std::alloc::Global;
 use std::test::Fail;
@@ -21,7 +21,7 @@ fn text_of(alloc: Global, report: &EpochReport, pots: &Pots) -> Result<Vec<u8>, 
 }
 
 /// The text that is wanted, of these lines.
-fn wanted(alloc: Global, lines: &[&str]) -> Result<Vec<u8>, NoMemory> {
+pub fn wanted(alloc: Global, lines: &[&str]) -> Result<Vec<u8>, NoMemory> {
     let mut text = Vec::new(alloc);
     for line in lines {
         spell(&mut text, "1 ")?;
@@ -31,7 +31,7 @@ fn wanted(alloc: Global, lines: &[&str]) -> Result<Vec<u8>, NoMemory> {
     Ok(text)
 }
 
-/// What the last boundary of these epochs tells, and what is seen of the state after it.
+/// What the last boundary of these epochs reports, and what is seen of the state after it.
 fn told<S: Changed + Drop, F: Fn(S) -> Result<(S, EpochReport), Stop>>(
     alloc: Global,
     crossed: &F,
@@ -67,7 +67,7 @@ fn boundaries_tell_what_they_do(rt: HostRuntime) -> Result<(), Fail> {
     Ok(())
 }
 
-/// The rule on votes that a transaction breaks first in the epoch after these lines and as many boundaries.
+/// The rule on votes that a transaction breaks first, after these lines and as many boundaries.
 fn refused_after<S: Changed + Drop, F: Fn(S) -> Result<(S, EpochReport), Stop>>(
     alloc: Global,
     crossed: &F,
@@ -84,7 +84,8 @@ fn refused_after<S: Changed + Drop, F: Fn(S) -> Result<(S, EpochReport), Stop>>(
     votes_refused(alloc, &s, tx)
 }
 
-/// A proposal of epoch 0 may be voted on up to epoch 2, as it lives for two. In epoch 3 it is there, and may not.
+/// A proposal of epoch 0 lives for two epochs: votes may come up to epoch 2. In epoch 3 it remains,
+/// and may not be voted on.
 #[test]
 fn votes_end_with_the_life_of_a_proposal(rt: HostRuntime) -> Result<(), Fail> {
     let proposed = [Line::Tx(

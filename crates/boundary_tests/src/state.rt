@@ -4,13 +4,15 @@ ghost use Rattle.tx_records.specs.RecordLimits.{is_within_limits};
 ghost use Rattle.tx_records.specs.TxLimits as tx_limits;
 
 use crate::lines::{Line, bytes_of};
-use coin_frac::NoMemory;
 use epoch_rule::cross;
 use gov_ids::{CredKind, Credential};
 use ledger_state::LedgerState;
 use live_ledger::{Draft, GenesisFault};
+use no_memory::NoMemory;
 use par_count::OpenGate;
 use record_read::{RecordFault, read_record};
+use report::LineList;
+use shortfall::{close, least, put_shortfall, short_text};
 use std::alloc::Global;
 use std::thread::Threads;
 use thiserror::Error;
@@ -44,8 +46,8 @@ impl From<RecordFault> for Stop {
 /// How many workers share a count.
 const WORKERS: u32 = 3;
 
-/// A state that records change and a boundary ends. What goes over many of them is written over any, so that its proof opens no
-/// part of the ledger.
+/// A state that records change and a boundary ends. Loops are over any, so that their proofs do not
+/// open the ledger.
 pub trait Changed: Sized {
     ghost use Rattle.std.specs.Prelude.{◌≡◌, true};
     ghost use Rattle.tx_records.specs.GenesisLimits as genesis_limits;
@@ -60,16 +62,22 @@ pub trait Changed: Sized {
     fn after(self, alloc: Global, told: &Record) -> Result<Self, Stop>
         requires within { record_limits.is_within_limits told.now ≡ true };
 
-    /// The rule on votes that a transaction breaks first, over its draft before it changes anything.
+    /// The rule on votes that a transaction breaks first, by its draft before any change.
     fn check_votes(&self, alloc: Global, tx: &Tx) -> Result<(), Rule>
         requires within { tx_limits.is_within_limits tx.now ≡ true };
 
     /// The pots.
     fn pots(&self) -> Pots;
 
-    /// How many of the cold keys 60 and 70 have a hot key, the stakes of mark together, the fees noted beside it, how many
-    /// proposals are live, the last byte of the constitution's document, and the first number of the version.
+    /// How many of the cold keys 60 and 70 have a hot key, mark's total stake, the noted fees, how
+    /// many proposals are live, the last byte of the constitution's document, the major version.
     fn parts(&self) -> [u64; 6];
+
+    /// The lines of what all its frozen proposals lack, in order of priority.
+    fn lacks(self, alloc: Global) -> Result<Vec<u8>, Stop>;
+
+    /// The lines of what each lacks, by calls of its own, in order of submission.
+    fn lacks_each(self, alloc: Global) -> Result<Vec<u8>, Stop>;
 }
 
 impl Changed for LedgerState {
@@ -111,9 +119,51 @@ impl Changed for LedgerState {
             u64::from(state.version.0),
         ]
     }
+
+    fn lacks(self, alloc: Global) -> Result<Vec<u8>, Stop> {
+        lacks_of_all(alloc, self)
+    }
+
+    fn lacks_each(self, alloc: Global) -> Result<Vec<u8>, Stop> {
+        lacks_of_each(alloc, self)
+    }
 }
 
-/// The state after the boundary of its epoch, which workers share, and what the boundary tells.
+/// Adds lines to a text.
+fn add_lines(text: &mut Vec<u8>, lines: &[Vec<u8>]) -> Result<(), NoMemory> {
+    for line in lines {
+        text.extend_from_slice(line.as_slice())?;
+    }
+    Ok(())
+}
+
+/// What all frozen proposals lack, as if the first line of a stream came to it.
+fn lacks_of_all(alloc: Global, s: LedgerState) -> Result<Vec<u8>, Stop> {
+    let mut list = LineList::new(alloc);
+    let mut line = Vec::new(alloc);
+    if put_shortfall(alloc, &mut list, &mut line, 1, s).is_err() {
+        return Err(Stop::NoMemory);
+    }
+    let mut text = Vec::new(alloc);
+    let lines = list.into_lines();
+    add_lines(&mut text, lines.as_slice())?;
+    Ok(text)
+}
+
+/// The same of each by itself.
+fn lacks_of_each(alloc: Global, s: LedgerState) -> Result<Vec<u8>, Stop> {
+    let (frozen, counted) = close(s);
+    let mut text = Vec::new(alloc);
+    let proposals = frozen.proposals.as_slice();
+    for i in 0..proposals.len() {
+        let short = least(alloc, &frozen, &counted, &proposals[i])?;
+        let lines = short_text(alloc, 1, &proposals[i].id, &short)?;
+        add_lines(&mut text, lines.as_slice())?;
+    }
+    Ok(text)
+}
+
+/// The state after its epoch's boundary, which workers share, and what the boundary reports.
 pub fn crossed<R: Threads + Sync>(
     alloc: Global,
     rt: &R,
@@ -179,7 +229,12 @@ fn marked(s: &LedgerState) -> u64 {
 /// The state of a genesis.
 pub fn begun<S: Changed>(alloc: Global, line: Line) -> Result<S, Stop> {
     let bytes = bytes_of(alloc, line)?;
-    match read_record(alloc, bytes.as_slice())? {
+    begun_by(alloc, bytes.as_slice())
+}
+
+/// The state of the genesis that these bytes are.
+pub fn begun_by<S: Changed>(alloc: Global, bytes: &[u8]) -> Result<S, Stop> {
+    match read_record(alloc, bytes)? {
         Record::Genesis(genesis) => S::begin(alloc, genesis.get()),
         Record::Block { .. } | Record::Rewards(_) | Record::Tx(_) | Record::Print(_) => {
             Err(Stop::Unreadable)
@@ -188,13 +243,13 @@ pub fn begun<S: Changed>(alloc: Global, line: Line) -> Result<S, Stop> {
 }
 
 /// The state after the record of a line, which is accepted.
-fn after_line<S: Changed + Drop>(alloc: Global, s: S, line: Line) -> Result<S, Stop> {
+pub fn after_line<S: Changed + Drop>(alloc: Global, s: S, line: Line) -> Result<S, Stop> {
     let bytes = bytes_of(alloc, line)?;
     let record = read_record(alloc, bytes.as_slice())?;
     s.after(alloc, &record)
 }
 
-/// The state after these lines and the boundary behind them, and what the boundary tells.
+/// The state after these lines and the boundary behind them, and what the boundary reports.
 pub fn after_epoch<S: Changed + Drop, F: Fn(S) -> Result<(S, EpochReport), Stop>>(
     alloc: Global,
     crossed: &F,

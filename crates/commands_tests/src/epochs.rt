@@ -4,8 +4,8 @@ ghost use Rattle.std.specs.Prelude.{◌<◌};
 use crate::memory::{ran, replayed_in_memory};
 use crate::streams::{MOTION, MOTION_TEXT, answers_to, stream, whole_lines};
 use byte_lines::{FaultySink, FaultySource, MemorySink, MemorySource};
-use coin_frac::NoMemory;
 use commands::Status;
+use no_memory::NoMemory;
 use std::alloc::Global;
 use std::process::Abort;
 use std::test::Fail;
@@ -44,8 +44,8 @@ fn with_failing_read<R: Threads + Sync>(
     Ok((status, sink))
 }
 
-/// Read k fails: the answers to the lines that came whole were written, those of a boundary and of a state whole. Past the
-/// end no read comes.
+/// Read k fails: the answers to the whole lines were written, boundaries and states whole.
+/// Past the end no read comes.
 #[test]
 fn each_read_fails(rt: HostRuntime) -> Result<(), Fail> {
     let bytes = stream(rt.alloc(), MOTION)?;
@@ -69,8 +69,8 @@ fn each_read_fails(rt: HostRuntime) -> Result<(), Fail> {
     Ok(())
 }
 
-/// How a run of these words ends where write k, of `part` bytes at most, fails, and what it wrote; a read gives one byte, so that
-/// the answer to each line is handed over by itself.
+/// How a run of these words ends if write k, of `part` bytes at most, fails, and what it wrote.
+/// A read gives one byte, so that the answer to each line is handed over by itself.
 fn with_failing_write<R: Threads + Sync>(
     rt: &R,
     alloc: Global,
@@ -90,7 +90,7 @@ fn with_failing_write<R: Threads + Sync>(
     Ok((status, written))
 }
 
-/// The end that is wanted where this front of the text was written.
+/// The wanted ending where this prefix of the text was written.
 fn end_after(written: &[u8]) -> Status {
     if written.len() == MOTION_TEXT.len() {
         Status::Done
@@ -151,7 +151,7 @@ fn bytes_fail(rt: HostRuntime) -> Result<(), Fail> {
     Ok(())
 }
 
-/// What is written of a stream whose first lines came whole, and then a piece of one, if any, which is no record.
+/// The text of a stream of whole lines, and then a piece of one, if any, which is no record.
 fn cut_text(alloc: Global, count: usize, piece: bool) -> Result<Vec<u8>, NoMemory> {
     let mut text = Vec::new(alloc);
     text.extend_from_slice(answers_to(MOTION_TEXT.as_bytes(), count))?;
@@ -184,7 +184,7 @@ fn is_cut<R: Threads + Abort + Sync>(
     Ok(())
 }
 
-/// Input that is cut after each byte of one line: the proposal, the block that enacts it, the print.
+/// Input that is cut after each byte of one line: a proposal, the block that enacts it, a print.
 #[test]
 fn each_cut(rt: HostRuntime) -> Result<(), Fail> {
     for (before, line) in [

@@ -4,15 +4,15 @@ ghost use Rattle.std.specs.Prelude.{◌<◌};
 use crate::memory::{ran, replayed_in_memory};
 use crate::streams::{ROW, ROW_TEXT, first_lines, stream, whole_lines};
 use byte_lines::{FaultySink, FaultySource, MemorySink, MemorySource};
-use coin_frac::NoMemory;
 use commands::{GenesisCause, Status};
+use no_memory::NoMemory;
 use std::alloc::Global;
 use std::test::Fail;
 use std::thread::Threads;
 use tx_records::FieldName;
 
 /// How a run of these words ends where read k, of `part` bytes at most, fails, and what it wrote.
-fn with_failing_read<R: Threads + Sync>(
+pub fn with_failing_read<R: Threads + Sync>(
     rt: &R,
     alloc: Global,
     words: &str,
@@ -29,8 +29,8 @@ fn with_failing_read<R: Threads + Sync>(
     Ok((status, sink))
 }
 
-/// Read k fails, also where each read gives one byte and where there are workers: the text of the lines that came whole was
-/// written. Past the end no read comes.
+/// Read k fails, also with reads of one byte and with workers: the text of whole lines was written.
+/// Past the end no read comes.
 #[test]
 fn each_read_fails(rt: HostRuntime) -> Result<(), Fail> {
     let bytes = stream(rt.alloc(), ROW)?;
@@ -64,7 +64,7 @@ fn each_read_fails(rt: HostRuntime) -> Result<(), Fail> {
     Ok(())
 }
 
-/// How long each write is at most, which one fails, and the text before it: for the first seven a line each, then a byte each.
+/// The most bytes of a write, which one fails, and the text before it: seven lines, then bytes.
 fn failing_write(number: usize) -> (usize, u64, &'static [u8])
     ensures { 0 < result.0 }
 {
@@ -102,7 +102,7 @@ fn each_write_fails(rt: HostRuntime) -> Result<(), Fail> {
     Ok(())
 }
 
-/// What a stream of a genesis and a transaction gives where it is cut: the last piece counts as a line.
+/// The text of a cut stream of a genesis and a transaction: the last piece counts as a line.
 fn cut_answer(end: usize, genesis: usize, whole: usize) -> (Status, &'static str) {
     if end == 0 {
         (Status::BadGenesis(GenesisCause::Missing), "")

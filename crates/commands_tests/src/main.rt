@@ -1,6 +1,9 @@
-//! Tests of the commands: rows, streams, faults, and the numbers of the endings. It has no code, so that a test is proved alone; it is a program that does nothing, since the gate makes more sums of a library than of a program.
+//! Tests of the commands: rows, streams, faults, statuses. No code, so that a test is proved alone.
+//! It is a program that does nothing, since the gate makes more sums of a library.
 #![tactic(auto)]
 
+#[cfg(test)]
+mod batches;
 #[cfg(test)]
 mod endings;
 #[cfg(test)]
@@ -11,6 +14,8 @@ mod faults;
 mod memory;
 #[cfg(test)]
 mod rows;
+#[cfg(test)]
+mod shortfalls;
 #[cfg(test)]
 mod streams;
 #[cfg(test)]

@@ -1,13 +1,13 @@
-//! Runs over memory, where no read and no write fails, and runs whose ending is not told beforehand.
+//! Runs over memory, where no read and no write fails, and runs of unknown ending.
 ghost use Rattle.std.specs.Prelude.{◌≡◌, ◌≢◌, ◌<◌, ◌≤◌, ◌⊎◌, IfOk, None, Some, length};
 ghost use Rattle.replay_loop.specs.Commands.{IsReplayCommand};
 ghost use Rattle.tx_records.specs.declared.limits.TheConstants.{STREAM_LIMIT};
 ghost use Rattle.record_stream.specs.Records.{records_of};
 ghost use Rattle.replay_loop.specs.Runs.{start_fault, text_of_run};
 
-use byte_lines::{MemorySink, MemorySource, Sink, Source};
-use coin_frac::NoMemory;
+use byte_lines::{MemorySink, MemorySource, Sink, Source, whole_lines};
 use commands::{Status, run};
+use no_memory::NoMemory;
 use par_count::{Gate, OpenGate};
 use std::alloc::Global;
 use std::thread::Threads;
@@ -69,6 +69,8 @@ pub fn replayed_in_memory<R: Threads + Sync>(
     ensures complete { start_fault (records_of bytes.now) ≡ None → length bytes.now ≤ STREAM_LIMIT →
         IfOk result (λ r. (r.0 ≡ Status.Done) ⊎ (r.0 ≡ Status.NoMemory)) }
 {
+    // (laws: how bytes are cut into lines)
+    whole_lines();
     let words = replay_words(alloc)?;
     let mut source = MemorySource::new(bytes, part);
     let mut sink = MemorySink::new(alloc);

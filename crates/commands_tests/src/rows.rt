@@ -4,16 +4,16 @@ ghost use Rattle.std.specs.Prelude.{◌<◌};
 use crate::memory::{ran, replayed_in_memory};
 use crate::streams::{ROW, ROW_TEXT, stream};
 use byte_lines::{MemorySink, MemorySource};
-use coin_frac::NoMemory;
 use commands::{GenesisCause, Status};
+use no_memory::NoMemory;
 use std::alloc::Global;
 use std::test::Fail;
 use std::thread::Threads;
 use tx_records::{FieldName, GenesisRule};
 
-/// Shapes of streams, how each ends, and what was written: that of the worked row; line ends, blank lines, a float that
-/// nobody names, two equal names, of which the later counts, a block, assets that are minted and burned, and prints; streams
-/// that make no ledger, each with its cause.
+/// Streams, how each ends, and what was written: the worked row; line ends, blank lines, an unnamed
+/// float, equal names (the later counts), a block, minted and burned assets, prints; streams with
+/// no ledger, each with the cause.
 fn rows() -> [(&'static str, Status, &'static str); 14] {
     [
         (ROW, Status::Done, ROW_TEXT),

@@ -1,5 +1,5 @@
 //! Streams of bytes, each by a short shape.
-use coin_frac::NoMemory;
+use no_memory::NoMemory;
 use std::alloc::Global;
 
 /// The parameters of each genesis.
@@ -10,7 +10,7 @@ const PARAMS: &[u8] =
 const NO_OUTPUTS: &[u8] =
     b",\"document\":\"0000000000000000000000000000000000000000000000000000000000000001\",\"outputs\":[],\"accounts\":[],\"pools\":[],\"dreps\":[]}";
 
-/// The first part of the genesis that a letter stands for, up to its parameters.
+/// The first part of the genesis that a letter means, up to its parameters.
 fn genesis_head(letter: u8) -> Option<&'static [u8]> {
     match letter {
         b'G' => Some(
@@ -32,7 +32,7 @@ fn genesis_head(letter: u8) -> Option<&'static [u8]> {
         b'E' => Some(
             b"{\"kind\":\"genesis\",\"network\":1,\"slot\":0,\"epochLength\":10,\"version\":[10,0],\"supply\":1000,\"reserves\":749,\"treasury\":100,\"params\":",
         ),
-        // the same with an account whose hash has another first byte
+        // as E, with an account whose hash has another first byte
         b'W' => Some(
             b"{\"kind\":\"genesis\",\"network\":1,\"slot\":0,\"epochLength\":10,\"version\":[10,0],\"supply\":1000,\"reserves\":749,\"treasury\":100,\"params\":",
         ),
@@ -60,7 +60,7 @@ fn genesis_tail(letter: u8) -> &'static [u8] {
     }
 }
 
-/// The bytes that a letter of a shape stands for; any other letter stands for itself.
+/// The bytes that a letter of a shape means; any other letter means itself.
 fn piece(letter: u8) -> Option<&'static [u8]> {
     match letter {
         b'2' => Some(
@@ -141,8 +141,19 @@ pub const MOTION: &str = "E\nm\nv\nt\nu\ns\n";
 pub const MOTION_TEXT: &str =
     "1 genesis outputs 40 deposits 11 rewards 100 fees 0 donations 0 treasury 100 reserves 749 supply 1000\n2 accepted\n3 accepted\n4 epoch 1 frozen 3 dormant 0\n4 stake k00000000000000000000000000000000000000000000000000000030 67\n4 pots outputs 0 deposits 21 rewards 100 fees 30 donations 0 treasury 100 reserves 749 supply 1000\n4 block slot 10 epoch 1 counted 1 of 3\n5 epoch 2 frozen 3 dormant 1\n5 stake k00000000000000000000000000000000000000000000000000000030 67\n5 tally 0000000000000000000000000000000000000000000000000000000000000002#0 NoConfidence committee 0/0 need none drep 67/67 need 67/100 pool 0/0 need 0/1 ratified\n5 removed 0000000000000000000000000000000000000000000000000000000000000002#0 enacted refund 10 1k00000000000000000000000000000000000000000000000000000012\n5 pots outputs 0 deposits 11 rewards 110 fees 30 donations 0 treasury 100 reserves 749 supply 1000\n5 block slot 20 epoch 2 counted 1 of 3\n6 now slot 20 epoch 2 version 10.0 dormant 1\n6 constitution 0000000000000000000000000000000000000000000000000000000000000001 none\n6 committee none\n6 enacted committee 0000000000000000000000000000000000000000000000000000000000000002#0 constitution none hardfork none parameters none\n6 param maxBlockBodySize 90112\n6 param maxTxSize 16384\n6 param maxBlockHeaderSize 1100\n6 param maxValueSize 5000\n6 param maxTxExUnits 1000 1000\n6 param maxBlockExUnits 1000 1000\n6 param maxCollateralInputs 3\n6 param minFeeA 0\n6 param minFeeB 0\n6 param keyDeposit 2\n6 param poolDeposit 5\n6 param rho 0/1\n6 param tau 0/1\n6 param minPoolCost 0\n6 param coinsPerUTxOByte 0\n6 param prices 0/1 0/1\n6 param minFeeRefScriptCostPerByte 15/1\n6 param a0 0/1\n6 param eMax 18\n6 param nOpt 500\n6 param costModels 0000000000000000000000000000000000000000000000000000000000000000\n6 param collateralPercentage 150\n6 param poolVotingThresholds 0/1 0/1 0/1 0/1 0/1\n6 param drepVotingThresholds 67/100 67/100 67/100 67/100 67/100 67/100 67/100 67/100 67/100 67/100\n6 param govActionLifetime 2\n6 param govActionDeposit 10\n6 param drepDeposit 5\n6 param drepActivity 20\n6 param committeeMinSize 0\n6 param committeeMaxTermLength 100\n6 drep k00000000000000000000000000000000000000000000000000000030 deposit 5 expiry 20\n6 account k00000000000000000000000000000000000000000000000000000010 stake 0 deposit 2 rewards 67 pool none drep k00000000000000000000000000000000000000000000000000000030\n6 account k00000000000000000000000000000000000000000000000000000011 stake 0 deposit 2 rewards 33 pool none drep none\n6 account k00000000000000000000000000000000000000000000000000000012 stake 0 deposit 2 rewards 10 pool none drep none\n6 snapshot fees 30\n6 pending none\n6 pots outputs 0 deposits 11 rewards 110 fees 30 donations 0 treasury 100 reserves 749 supply 1000\n";
 
-/// The shape of two boundaries. All entries are counted before the first. At the second two motions are frozen, and two entries are left to count, one whose hash begins with a byte below 128 and one with 128.
+/// The shape of one boundary, which freezes two motions. No entry is counted before it.
+pub const ONE_BOUNDARY: &str = "W\nM\nt\n";
+
+/// The shape of two boundaries. All entries are counted before the first. At the second two motions
+/// are frozen and two entries are left, whose hashes begin with a byte below 128 and with 128.
 pub const TWO_BOUNDARIES: &str = "W\nc\nM\nt\nu\ns\n";
+
+/// The shape of two motions that are frozen, with two of three entries not counted yet.
+pub const LACKS: &str = "E\nM\nt\n";
+
+/// What they lack: one DRep has stake, 67 lovelace, and is silent.
+pub const LACKS_TEXT: &str =
+    "shortfall 0000000000000000000000000000000000000000000000000000000000000002#0 least 1 yes 0 of 67 need 67/100 short 0\nadd k00000000000000000000000000000000000000000000000000000030 67\nshortfall 0000000000000000000000000000000000000000000000000000000000000002#1 least 1 yes 0 of 67 need 67/100 short 0\nadd k00000000000000000000000000000000000000000000000000000030 67\n";
 
 /// How many lines of these bytes are whole.
 pub fn whole_lines(bytes: &[u8]) -> usize {
