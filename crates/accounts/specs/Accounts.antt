@@ -1,4 +1,5 @@
--- The account entries, live and frozen. (DState of the formal specification; that credentials with stake alone stand among them is own)
+-- The account entries, live and frozen.
+-- (DState of the formal specification; that entries with stake alone are among them is own)
 use Rattle.std.specs.Prelude.{Bool, ◌==◌, ◌&&◌, is_none, List, if◌then◌else◌}
 use Rattle.gov_ids.specs.declared.Credential.{Credential}
 use Rattle.gov_ids.specs.Orders.{credential_cmp}
@@ -14,7 +15,7 @@ Accounts = View Credential Entry
 abbrev pub is_nothing : Entry → Bool
 is_nothing e = (e.stake == 0) && is_none e.registered
 
--- with the entry at c in place of what was there; without one where it is nothing
+-- the entries with this one at c, or without an entry at c if this one is nothing
 abbrev pub with_entry : Credential → Entry → List (Credential × Entry) → List (Credential × Entry)
 with_entry c e es = if is_nothing e then without_key credential_cmp c es else with_value credential_cmp c e es
 

@@ -1,4 +1,4 @@
-//! The book of accounts: the live entries, and those that stood at the last freeze.
+//! The book of accounts: the live entries, and those of the last freeze.
 #![tactic(auto)]
 
 ghost use Rattle.std.specs.Prelude.{◌≡◌, [], OnOk, OnErr, length, option_map};
@@ -10,14 +10,15 @@ ghost use Rattle.view_map.specs.Walk.{entries_past};
 ghost use Rattle.accounts.specs.Accounts.{is_nothing, entered};
 
 pub use book_records::{Entry, Registered};
-use coin_frac::NoMemory;
 use gov_ids::Credential;
+use no_memory::NoMemory;
 use std::alloc::Global;
 use std::marker::Model;
 use view_map::ViewMap;
 pub use view_map::{FrozenIter, LiveIter};
 
-/// The account entries by credential, live and frozen. Contracts see it as the `ViewMap` that it is. (DState of the formal specification; the frozen entries are own)
+/// The account entries by credential, live and frozen. Contracts see the `ViewMap`.
+/// (DState of the formal specification; the frozen entries are own)
 #[derive(Drop)]
 pub struct AccountBook {
     view: ViewMap<Credential, Entry>,
@@ -48,16 +49,16 @@ impl AccountBook {
         }
     }
 
-    /// The entries, live and frozen: all that a book holds. (Own)
+    /// The entries, live and frozen: all that a book holds.
     pub fn into_view(self) -> ViewMap<Credential, Entry>
         ensures { result ≡ self }
     {
-        // The pattern has no rest: with a further field it does not compile.
+        // No `..` in the pattern: with a further field it does not compile.
         let AccountBook { view } = self;
         view
     }
 
-    /// The live entry of a credential, none where there is none. (DState of the formal specification)
+    /// The live entry of a credential, if there is one. (DState of the formal specification)
     pub fn get(&self, c: &Credential) -> Option<Entry>
         ensures value { result ≡ value_at credential_cmp self.now.live c.now }
         ensures in_order { IsInOrder credential_cmp self.now }
@@ -65,7 +66,8 @@ impl AccountBook {
         self.view.get(c)
     }
 
-    /// Puts a live entry in place of what was there; one without stake and registration takes it away. Want of memory changes nothing. (Own)
+    /// Sets a live entry. One without stake and registration removes the entry instead.
+    /// `NoMemory` leaves the book unchanged.
     pub fn put(&mut self, c: Credential, e: Entry) -> Result<(), NoMemory>
         ensures ok { OnOk result (self.new ≡ entered c e self.old) }
         ensures frozen { frozen_of credential_cmp self.new ≡ frozen_of credential_cmp self.old }
@@ -79,8 +81,8 @@ impl AccountBook {
         Ok(())
     }
 
-    /// Sets the entry of a credential at the last freeze, none for an absence. The live entry stays; want of memory changes
-    /// nothing. (Own)
+    /// Sets the frozen entry of a credential; `None` means that it had none.
+    /// The live entry stays. `NoMemory` leaves the book unchanged.
     pub fn note_first(&mut self, c: Credential, first: Option<Entry>) -> Result<(), NoMemory>
         ensures ok { OnOk result (self.new ≡
             record self.old { frozen = with_option credential_cmp c first self.old.frozen }) }
@@ -90,7 +92,8 @@ impl AccountBook {
         Ok(())
     }
 
-    /// Makes the live entries the frozen ones. It takes no memory and copies no entry. (SNAP of the formal specification; how it is kept is own)
+    /// Makes the live entries the frozen ones. It takes no memory and copies no entry.
+    /// (SNAP of the formal specification; how it is kept is own)
     pub fn freeze(&mut self)
         ensures fields { self.new ≡ record self.old { frozen = self.old.live } }
         ensures frozen { frozen_of credential_cmp self.new ≡ self.old.live }
@@ -98,15 +101,15 @@ impl AccountBook {
         self.view.freeze();
     }
 
-    /// The entry of a credential at the last freeze, none where there was none. (Own)
+    /// The entry of a credential at the last freeze, if it had one.
     pub fn frozen_get(&self, c: &Credential) -> Option<Entry>
         ensures { result ≡ value_at credential_cmp (frozen_of credential_cmp self.now) c.now }
     {
         self.view.frozen_get(c)
     }
 
-    /// The frozen entries past a credential, or all of them, in the order of credentials. It searches once, and then goes
-    /// on step by step. It takes no memory. (Own)
+    /// The frozen entries after a credential, or all of them, in order of credentials.
+    /// It searches once, and then goes on step by step. It takes no memory.
     pub fn frozen_past(&self, after: Option<&Credential>) -> FrozenIter<'_, Credential, Entry>
         ensures { result ≡
             entries_past credential_cmp (option_map (λ c. c.now) after.entry) (frozen_of credential_cmp self.now) }
@@ -114,7 +117,7 @@ impl AccountBook {
         self.view.frozen_past(after)
     }
 
-    /// The first frozen entry past a credential, or the first of all, in the order of credentials; none at the end. (Own)
+    /// The next frozen entry in order of credentials after this one, or the first of all.
     pub fn frozen_next(&self, after: Option<&Credential>) -> Option<(Credential, Entry)>
         ensures { result ≡
             entry_after credential_cmp (option_map (λ c. c.now) after.entry) (frozen_of credential_cmp self.now) }
@@ -122,7 +125,7 @@ impl AccountBook {
         self.view.frozen_next(after)
     }
 
-    /// How many frozen entries there are. (Own)
+    /// How many frozen entries there are.
     pub fn frozen_len(&self) -> u64
         ensures len { result ≡ length (frozen_of credential_cmp self.now) }
         ensures in_order { IsMap credential_cmp (frozen_of credential_cmp self.now) }
@@ -130,14 +133,16 @@ impl AccountBook {
         self.view.frozen_len()
     }
 
-    /// The live entries in the order of credentials, in one walk. It takes no memory. (DState of the formal specification)
+    /// The live entries in order of credentials. It takes no memory.
+    /// (DState of the formal specification)
     pub fn iter(&self) -> LiveIter<'_, Credential, Entry>
         ensures { result ≡ self.now.live }
     {
         self.view.iter()
     }
 
-    /// The first live entry past a credential, or the first of all, in the order of credentials; none at the end. (DState of the formal specification)
+    /// The next live entry in order of credentials after this one, or the first of all.
+    /// (DState of the formal specification)
     pub fn next(&self, after: Option<&Credential>) -> Option<(Credential, Entry)>
         ensures { result ≡ entry_after credential_cmp (option_map (λ c. c.now) after.entry) self.now.live }
     {

@@ -1,6 +1,6 @@
 -- Fields that are added, some after others.
 use Rattle.std.proofs.Common.{◌≡◌, Bool, true, false, ◌||◌, List, [], ◌∷◌, ◌++◌, flat_map, codes, Result, Ok, Err, IfOk, refl, ap, sym, ◌∙◌, append_assoc}
-use Rattle.coin_frac.specs.declared.NoMemory.{NoMemory}
+use Rattle.no_memory.specs.declared.NoMemory.{NoMemory}
 use Rattle.text_model.specs.Words.{Text}
 use Rattle.action_lines.specs.Adding.{Adds, are_some, continued}
 

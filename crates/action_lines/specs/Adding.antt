@@ -3,7 +3,7 @@ use Rattle.std.specs.Prelude.{◌≡◌, Bool, true, false, ◌||◌, List, [], 
 use Rattle.text_forms.specs.ActionText.{listed}
 use Rattle.text_model.specs.Words.{Text}
 
--- a comma, if a field stands before
+-- a comma, if a field is before
 abbrev pub comma : Bool → Text
 comma true = codes ","
 comma false = []
@@ -18,7 +18,7 @@ abbrev pub are_some : List Text → Bool
 are_some [] = false
 are_some (f ∷ fs) = true
 
--- fields were added to a text: whether one stood before, and whether one does now
+-- fields were added to a text: whether one was before, and whether one is now
 pub record Adds (old : Text) (begun : Bool) (fields : List Text) (new : Text) (now : Bool) : Type 0 where
   pub text : new ≡ old ++ continued begun fields
   pub begun_now : now ≡ (begun || are_some fields)

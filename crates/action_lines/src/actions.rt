@@ -5,11 +5,12 @@ ghost use Rattle.action_lines.specs.Adding.{Adds};
 
 use crate::fields::{push_field, push_maybe};
 use crate::json::push_quoted;
-use coin_frac::{NoMemory, Unit};
+use coin_frac::Unit;
 use credential_list::CredentialList;
 use gov_actions::{Action, ActionKind};
 use gov_ids::{Account, ActionId, Credential};
 use listed::Listed;
+use no_memory::NoMemory;
 use pparams::Update;
 use report::kind_name;
 
@@ -124,8 +125,8 @@ fn push_type(out: &mut Vec<u8>, kind: ActionKind) -> Result<(), NoMemory>
     push_quoted(out, kind_name(kind))
 }
 
-/// Adds an action as compact JSON: fields and parameters in the order of the formats, absent ones left
-/// out. After want of memory the buffer may hold anything. (Own)
+/// Adds an action as compact JSON. After an out-of-memory error the buffer may hold anything. (Own)
+/// Fields and parameters are in the order of the formats; absent ones are left out.
 pub fn push_action(out: &mut Vec<u8>, a: &Action) -> Result<(), NoMemory>
     ensures { OnOk result (out.new.items ≡ out.old.items ++ action_text a.now) }
 {

@@ -1,10 +1,10 @@
-//! The fields of an object: each call is told whether one stands before, and says whether one does now.
+//! The fields of an object. Each call takes whether one is before, and returns whether one is now.
 ghost use Rattle.std.specs.Prelude.{◌≡◌, ◌++◌, [], ◌∷◌, IfOk, OnOk, codes};
 ghost use Rattle.text_forms.specs.ActionText.{field, maybe, quoted};
 ghost use Rattle.action_lines.specs.Adding.{Adds, comma};
 
 use crate::json::{Json, push_quoted};
-use coin_frac::NoMemory;
+use no_memory::NoMemory;
 
 /// Adds the name of a field.
 fn push_name(out: &mut Vec<u8>, begun: bool, name: &str) -> Result<(), NoMemory>

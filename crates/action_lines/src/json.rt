@@ -1,7 +1,7 @@
 ghost use Rattle.std.specs.Prelude.{◌≡◌, ◌++◌, OnOk};
 ghost use Rattle.text_forms.specs.ActionText.{quoted};
 
-use coin_frac::NoMemory;
+use no_memory::NoMemory;
 
 /// What is printed as JSON.
 pub trait Json {

@@ -3,9 +3,10 @@ ghost use Rattle.std.specs.Prelude.{◌≡◌, ◌++◌, OnOk, codes, flat_map};
 ghost use Rattle.std.specs.List.{join_by};
 
 use crate::json::Json;
-use coin_frac::{NoMemory, Unit};
+use coin_frac::Unit;
 use credential_list::CredentialList;
 use listed::Listed;
+use no_memory::NoMemory;
 
 /// Adds items, each after a comma.
 fn push_others<J: Json>(out: &mut Vec<u8>, items: &[J]) -> Result<(), NoMemory>

@@ -5,7 +5,7 @@ ghost use Rattle.action_lines.specs.Adding.{Adds};
 
 use crate::fields::push_maybe;
 use crate::json::Json;
-use coin_frac::NoMemory;
+use no_memory::NoMemory;
 use pparams::Update;
 
 /// Adds the parameters of the network group.

@@ -3,10 +3,11 @@ ghost use Rattle.std.specs.Prelude.{◌≡◌, ◌≤◌, ◌++◌, OnOk, length
 ghost use Rattle.text_forms.specs.ActionText.{hash_json};
 
 use crate::json::Json;
-use coin_frac::{NoMemory, Ratio, Unit};
+use coin_frac::{Ratio, Unit};
 use gov_ids::{
     Account, ActionId, Credential, push_account, push_action_id, push_credential, push_hash,
 };
+use no_memory::NoMemory;
 use report::push_digits;
 
 impl Json for u16 {

@@ -1,4 +1,5 @@
--- What a JSON value reads as, where it is an object of protocol parameters. (Own; the names and groups are those of CIP-1694, Protocol parameter groups, and of cardano-ledger)
+-- What a JSON value reads as, where it is an object of protocol parameters.
+-- (Own; names and groups are those of CIP-1694, Protocol parameter groups, and of cardano-ledger)
 use Rattle.std.specs.Prelude.{ℕ, Bool, true, false, ◌&&◌, List, [], ◌∷◌, None, Result, Ok, Err, bytes_eq, codes, if◌then◌else◌}
 use Rattle.std.specs.List.{list_any}
 use Rattle.serde_json.specs.Data.{Data, Items, no_items, item, Members, no_members, member}

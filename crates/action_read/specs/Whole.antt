@@ -1,4 +1,4 @@
--- All parameters from an update that names each of them, a group at a time. (Own; the groups are those of CIP-1694)
+-- All parameters of an update that names each of them, group by group. (Own; groups of CIP-1694)
 use Rattle.std.specs.Prelude.{Option, Some}
 use Rattle.pparams.specs.declared.Params.{Params}
 use Rattle.pparams.specs.declared.Update.{Update}

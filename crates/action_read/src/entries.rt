@@ -7,7 +7,7 @@ use std::alloc::Global;
 use std::marker::PhantomData;
 use tx_records::limits::{LIST_LIMIT, SLOT_LIMIT};
 
-/// The last epoch of a term: a number below 2^62. (Own)
+/// The last epoch of a term: a number below 2^62.
 pub struct Term;
 
 impl Kind for Term {
@@ -22,7 +22,7 @@ impl Kind for Term {
     }
 }
 
-/// A list of entries, each with a name of its own. (Own)
+/// A list of entries, each with a name of its own.
 pub struct Distinct<K>(PhantomData<K>);
 
 impl<K: Kind> Kind for Distinct<K>
@@ -42,7 +42,7 @@ where
     }
 }
 
-/// A list of credentials, each once. (Own)
+/// A list of credentials, each once.
 pub struct Credentials;
 
 impl Kind for Credentials {

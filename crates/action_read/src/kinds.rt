@@ -6,7 +6,7 @@ use json_tree::Value;
 use pparams::{Params, Update};
 use std::alloc::Global;
 
-/// A field that has all parameters. (Own)
+/// A field that has all parameters.
 pub struct ParamsField;
 
 impl Kind for ParamsField {
@@ -21,7 +21,7 @@ impl Kind for ParamsField {
     }
 }
 
-/// A field that has an update of the parameters. (Own)
+/// A field that has an update of the parameters.
 pub struct UpdateField;
 
 impl Kind for UpdateField {
@@ -36,7 +36,7 @@ impl Kind for UpdateField {
     }
 }
 
-/// A field that has a governance action. (Own)
+/// A field that has a governance action.
 pub struct ActionField;
 
 impl Kind for ActionField {

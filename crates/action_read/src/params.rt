@@ -74,7 +74,7 @@ fn param_object<'v, 'a>(v: &'v Value<'a>) -> Result<&'v Value<'a>, FieldFault>
     }
 }
 
-/// An update: an object that names nothing but parameters, each of its kind; a null one is absent. (Own)
+/// An update: an object of parameters alone, each of its kind; a null one is absent. (Own)
 #[tactic(auto, unfolding(crate::specs::Params::update_in))]
 pub fn read_update(alloc: Global, v: &Value<'_>) -> Result<Update, FieldFault>
     ensures { Reads result (update_in (view v.now)) }

@@ -1,4 +1,4 @@
--- How much of what is taken a comparison with what is given must look at. (Own)
+-- The part of what is taken that must be compared with what is given. (Own)
 use Rattle.std.specs.Prelude.{ℕ, ◌≡◌, ◌+◌, true, List, [], ◌∷◌, Option, Some, None, flat_map, take}
 use Rattle.std.specs.List.{AllByRecursion, list_all}
 use Rattle.gov_ids.specs.declared.assets.AssetId.{AssetId}
@@ -11,12 +11,12 @@ use Rattle.assets.specs.Quantities.{is_held}
 abbrev pub front : {A : Type 0} → ℕ → List A → List A
 front n es = take (n + 1) es
 
--- a list as an output holds it: each asset once, in order, at least 1 of it
+-- a list as an output holds it: each asset once, in order, with a quantity that may be held
 abbrev pub IsSound : List (AssetId × ℕ) → Type 0
 IsSound es = IsMap asset_cmp es × (list_all (λ (e : AssetId × ℕ). is_held e.1) es ≡ true)
 
 module _ {R : Type 0} (f : R → List (AssetId × ℕ)) where
-  -- the list of each is such a list
+  -- the list of each is sound
   abbrev pub AreSound : List R → Type 0
   AreSound refs = AllByRecursion (λ r. IsSound (f r)) refs
 

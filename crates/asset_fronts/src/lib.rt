@@ -1,4 +1,4 @@
-//! How much of sorted lists of assets is looked at to find the first asset that is not balanced.
+//! The part of sorted lists of assets that decides which asset is the first unbalanced one.
 #![tactic(auto)]
 
 ghost use Rattle.std.specs.Prelude.{◌≡◌, ◌+◌, ◌<◌, ◌≤◌, ◌^◌, ◌++◌, List, ℕ};
@@ -9,7 +9,9 @@ ghost use Rattle.maps.specs.Words.{amount};
 use gov_ids::AssetId;
 use std::cmp::Ordering;
 
-/// The first entries of a list, one more than `named`. Where a transaction names so many assets itself, these are all entries, or one of them is of an asset that it does not name: what lies behind tells nothing about the first asset that is not balanced. (Own)
+/// The first entries of a list, one more than `named`: how many assets a transaction names.
+/// They are all entries, or one of them is of an asset that the transaction does not name.
+/// Later entries change nothing about the first unbalanced asset.
 pub fn front(entries: &[(AssetId, u64)], named: usize) -> &[(AssetId, u64)]
     ensures { result.now ≡ front named entries.now }
 {
@@ -20,7 +22,8 @@ pub fn front(entries: &[(AssetId, u64)], named: usize) -> &[(AssetId, u64)]
     }
 }
 
-/// The lowest asset of some lists, with how much their first entries have of it, where there is one list more. It takes no memory. (Own)
+/// The lowest asset of the lists so far and this one, with the sum of their first entries of it.
+/// It takes no memory.
 pub fn lowest_with(
     lowest: Option<(AssetId, u128)>,
     entries: &[(AssetId, u64)],

@@ -1,4 +1,4 @@
--- What is taken and what is given of each asset. (The preservation of value of the formal specification)
+-- What is taken and given of each asset. (The preservation of value of the formal specification)
 use Rattle.std.specs.Prelude.{ℕ, ◌==◌, Bool, not, List, ◌++◌, Option, find, map}
 use Rattle.gov_ids.specs.declared.assets.AssetId.{AssetId}
 use Rattle.maps.specs.Words.{with_places}

@@ -1,4 +1,5 @@
--- Assets with their quantities, as plain lists. (Value of the formal specification, without its lovelace)
+-- Assets with their quantities, as plain lists.
+-- (Value of the formal specification, without its lovelace)
 use Rattle.std.specs.Prelude.{ℕ, suc, ◌^◌, Bool, ◌&&◌, ℤ, pos, negsuc, List, filter, map, nat_lt, sum_by}
 use Rattle.std.specs.Map.{keys_of}
 use Rattle.gov_ids.specs.declared.assets.AssetId.{AssetId}
@@ -23,12 +24,12 @@ quantity_of entries a = sum_by (λ (e : AssetId × ℕ). e.1) (filter (λ (e : A
 abbrev pub named_in : List (AssetId × ℕ) → List AssetId
 named_in entries = in_order asset_cmp (keys_of entries)
 
--- how much is minted, 0 where some is burned
+-- how much is minted; 0 if some is burned
 abbrev pub minted_of : ℤ → ℕ
 minted_of (pos n) = n
 minted_of (negsuc n) = 0
 
--- how much is burned, 0 where some is minted
+-- how much is burned; 0 if some is minted
 abbrev pub burned_of : ℤ → ℕ
 burned_of (pos n) = 0
 burned_of (negsuc n) = suc n

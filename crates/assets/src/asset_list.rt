@@ -4,20 +4,21 @@ ghost use Rattle.gov_ids.specs.Orders.{asset_cmp};
 ghost use Rattle.maps.specs.Maps.{IsMap, with_values};
 
 use crate::quantity::Quantity;
-use coin_frac::NoMemory;
 use gov_ids::AssetId;
 use listed::{Boxed, Listed};
+use no_memory::NoMemory;
 use std::alloc::Global;
 use std::collections::BTreeMap;
 use std::marker::Model;
 
-/// Assets with their quantities, in order, each asset once. Contracts see the list of them. The empty list owns
-/// nothing, and takes the room of a pointer. (Value of the formal specification)
+/// Assets with their quantities, in order, each once. Contracts see the list.
+/// An empty list owns nothing, and takes the room of a pointer.
+/// (Value of the formal specification)
 pub struct AssetList<Q: Quantity> {
     entries: Option<Boxed<Listed<(AssetId, Q)>>>,
 }
 
-// What lets it go stands here once: a derived one is proved again, part by part, in each crate above.
+// A derived drop would be proved again, part by part, in each crate above.
 impl<Q: Quantity> Drop for AssetList<Q> {
     fn drop(self) {
         let AssetList { entries: _entries } = self;
@@ -40,15 +41,14 @@ impl<Q: Quantity> Model for AssetList<Q> {
 }
 
 impl<Q: Quantity> AssetList<Q> {
-    /// No asset. (Own)
+    /// The list of no asset.
     pub fn none() -> AssetList<Q>
         ensures { result ≡ [] }
     {
         AssetList { entries: None }
     }
 
-    /// The list of these entries, which may come in any order. A later one of an asset stands in place of an earlier
-    /// one. (Own)
+    /// The list of these entries, in any order; an asset's later entry replaces its earlier one.
     pub fn from_entries(alloc: Global, entries: &[(AssetId, Q)]) -> Result<AssetList<Q>, NoMemory>
         requires quantities { list_all (λ e. Q.is_quantity e.1) entries.now ≡ true }
         ensures { IfOk result (λ list. list ≡ with_values asset_cmp entries.now []) }
@@ -64,7 +64,7 @@ impl<Q: Quantity> AssetList<Q> {
         })
     }
 
-    /// The same entries once more. (Own)
+    /// A copy in memory of its own.
     pub fn copied(&self, alloc: Global) -> Result<AssetList<Q>, NoMemory>
         ensures { IfOk result (λ copy. copy ≡ self.now) }
     {
@@ -78,7 +78,7 @@ impl<Q: Quantity> AssetList<Q> {
         })
     }
 
-    /// The entries, in order of policy, then of name. (Own)
+    /// The entries, in order of policy, then of name.
     pub fn as_slice(&self) -> &[(AssetId, Q)]
         ensures value { result.now ≡ self.now }
         ensures in_order { IsMap asset_cmp self.now }
@@ -90,7 +90,7 @@ impl<Q: Quantity> AssetList<Q> {
         }
     }
 
-    /// Whether there is none. (Own)
+    /// Whether there is no asset.
     pub fn is_empty(&self) -> bool
         ensures { IsTrue result ↔ (self.now ≡ []) }
     {
@@ -98,7 +98,7 @@ impl<Q: Quantity> AssetList<Q> {
     }
 }
 
-// The entries as a map: a later one of an asset in place of an earlier one.
+// The entries as a map: a later one of an asset replaces an earlier one.
 fn in_order<Q: Quantity>(
     alloc: Global,
     entries: &[(AssetId, Q)],
@@ -112,7 +112,7 @@ fn in_order<Q: Quantity>(
     Ok(ordered)
 }
 
-// The entries of a map as a list of no more room than they need.
+// The entries of a map as a list, with room for no more than they need.
 fn listed<Q: Quantity>(
     alloc: Global,
     ordered: &BTreeMap<AssetId, Q>,

@@ -7,14 +7,14 @@ ghost use Rattle.maps.specs.Maps.{value_at};
 
 use crate::Mint;
 use crate::quantity::{burned, minted};
-use coin_frac::NoMemory;
 use gov_ids::AssetId;
+use no_memory::NoMemory;
 use std::alloc::Global;
 use std::collections::BTreeMap;
 use std::marker::Model;
 
-/// How much is taken and how much is given of each asset, in order. (The preservation of value of the formal
-/// specification)
+/// How much is taken and how much is given of each asset, in order.
+/// (The preservation of value of the formal specification)
 #[derive(Drop)]
 pub struct AssetBalance {
     sums: BTreeMap<AssetId, (u128, u128)>,
@@ -39,7 +39,7 @@ impl Model for AssetBalance {
 }
 
 impl AssetBalance {
-    /// Nothing taken and nothing given. (Own)
+    /// No asset is taken or given.
     pub fn new(alloc: Global) -> AssetBalance
         ensures { result ≡ balance_of [] [] }
     {
@@ -49,7 +49,8 @@ impl AssetBalance {
         }
     }
 
-    /// Takes what these entries have of each asset. After want of memory the caller drops the balance. (Own)
+    /// Takes what these entries have of each asset.
+    /// After `NoMemory` the caller drops the balance.
     pub fn take(&mut self, entries: &[(AssetId, u64)]) -> Result<(), NoMemory>
         ensures { (taken given : List (AssetId × ℕ)) → self.old ≡ balance_of taken given
             → OnOk result (self.new ≡ balance_of (taken ++ entries.now) given) }
@@ -60,7 +61,8 @@ impl AssetBalance {
         Ok(())
     }
 
-    /// Gives what these entries have of each asset. After want of memory the caller drops the balance. (Own)
+    /// Gives what these entries have of each asset.
+    /// After `NoMemory` the caller drops the balance.
     pub fn give(&mut self, entries: &[(AssetId, u64)]) -> Result<(), NoMemory>
         ensures { (taken given : List (AssetId × ℕ)) → self.old ≡ balance_of taken given
             → OnOk result (self.new ≡ balance_of taken (given ++ entries.now)) }
@@ -71,8 +73,8 @@ impl AssetBalance {
         Ok(())
     }
 
-    /// Takes what is minted of each asset, and gives what is burned of it. After want of memory the caller drops the
-    /// balance. (Own)
+    /// Takes what is minted of each asset, and gives what is burned of it.
+    /// After `NoMemory` the caller drops the balance.
     pub fn mint(&mut self, mint: &Mint) -> Result<(), NoMemory>
         ensures { (taken given : List (AssetId × ℕ)) → self.old ≡ balance_of taken given
             → OnOk result (self.new ≡ balance_of (taken ++ all_minted mint.now) (given ++ all_burned mint.now)) }
@@ -103,8 +105,8 @@ impl AssetBalance {
         self.sums.get(asset).copied().unwrap_or((0, 0))
     }
 
-    /// The first asset of which more or less is given than taken: its place, from 0, how much is taken and how much is
-    /// given of it. (Own)
+    /// The first asset of which more or less is given than taken.
+    /// Its place, from 0, then how much is taken and how much is given.
     pub fn first_uneven(&self) -> Option<(usize, u128, u128)>
         ensures { result ≡ option_map (λ p. (p.0, p.1.1.0, p.1.1.1)) (first_uneven self.now) }
     {

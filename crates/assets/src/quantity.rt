@@ -1,13 +1,13 @@
 ghost use Rattle.std.specs.Prelude.{◌≡◌};
 ghost use Rattle.assets.specs.Quantities.{burned_of, minted_of};
 
-/// How much of an asset: more than none of it. (Own)
+/// A quantity of an asset. Which quantities a list may hold, `is_quantity` says.
 pub trait Quantity: Copy + Drop {
     ghost use Rattle.std.specs.Prelude.{Bool};
 
     ghost is_quantity: { Self → Bool };
 
-    /// Whether it may stand in a list. (Own)
+    /// Whether a list may hold it.
     fn is_quantity(self) -> bool
         ensures { result ≡ is_quantity self };
 }
@@ -32,7 +32,7 @@ impl Quantity for i64 {
     }
 }
 
-/// How much is minted, 0 where some is burned. (Own)
+/// How much is minted; 0 if some is burned.
 pub fn minted(quantity: i64) -> u64
     ensures { result ≡ minted_of quantity }
 {
@@ -43,7 +43,7 @@ pub fn minted(quantity: i64) -> u64
     }
 }
 
-/// How much is burned, 0 where some is minted. (Own)
+/// How much is burned; 0 if some is minted.
 pub fn burned(quantity: i64) -> u64
     ensures { result ≡ burned_of quantity }
 {

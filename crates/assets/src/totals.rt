@@ -7,14 +7,14 @@ ghost use Rattle.gov_ids.specs.Orders.{asset_cmp};
 ghost use Rattle.maps.specs.Maps.{IsMap, entry_after};
 
 use crate::Assets;
-use coin_frac::NoMemory;
 use gov_ids::AssetId;
 use maps::keys_past;
+use no_memory::NoMemory;
 use std::alloc::Global;
 use std::collections::BTreeMap;
 use std::marker::Model;
 
-/// How much there is of each asset, in order; one of which there is none takes no room. (Own)
+/// How much there is of each asset, in order. An asset with a total of 0 takes no room.
 #[derive(Drop)]
 pub struct AssetTotals {
     totals: BTreeMap<AssetId, u128>,
@@ -37,7 +37,7 @@ impl Model for AssetTotals {
 }
 
 impl AssetTotals {
-    /// No asset. (Own)
+    /// The totals of no asset.
     pub fn new(alloc: Global) -> AssetTotals
         ensures { result ≡ [] }
     {
@@ -47,7 +47,7 @@ impl AssetTotals {
         }
     }
 
-    /// Adds what a list has of each asset. Want of memory changes nothing. (Own)
+    /// Adds what a list has of each asset. `NoMemory` leaves the totals unchanged.
     pub fn add(&mut self, assets: &Assets) -> Result<(), NoMemory>
         ensures ok { OnOk result ((a : AssetId) →
             total_at self.new a ≡ total_at self.old a + quantity_of assets.now a) }
@@ -63,7 +63,7 @@ impl AssetTotals {
         Ok(())
     }
 
-    // Adds what these entries have of each asset, as far as the memory goes, and says how many were added.
+    // Adds entries until memory runs out, and returns how many were added.
     fn raise_while(&mut self, entries: &[(AssetId, u64)]) -> usize
         requires quantities { list_all (λ e. is_held e.1) entries.now ≡ true }
         ensures was_sound { AreTotals self.old }
@@ -98,7 +98,7 @@ impl AssetTotals {
         Ok(())
     }
 
-    /// Takes away what a list has of each asset. (Own)
+    /// Subtracts what a list has of each asset.
     pub fn subtract(&mut self, assets: &Assets)
         requires enough { (a : AssetId) → quantity_of assets.now a ≤ total_at self.old a }
         ensures totals { (a : AssetId) → total_at self.new a ≡ total_at self.old a - quantity_of assets.now a }
@@ -107,7 +107,7 @@ impl AssetTotals {
         self.lower_all(assets.as_slice());
     }
 
-    // Takes away what these entries have of each asset.
+    // Subtracts what these entries have of each asset.
     fn lower_all(&mut self, entries: &[(AssetId, u64)])
         requires enough { (a : AssetId) → quantity_of entries.now a ≤ total_at self.old a }
         ensures totals { (a : AssetId) → total_at self.new a ≡ total_at self.old a - quantity_of entries.now a }
@@ -119,7 +119,7 @@ impl AssetTotals {
         }
     }
 
-    // Takes away some of an asset.
+    // Subtracts some of an asset.
     fn lower(&mut self, asset: &AssetId, quantity: u64)
         requires enough { quantity ≤ total_at self.old asset.now }
         ensures totals { (a : AssetId) →
@@ -134,7 +134,7 @@ impl AssetTotals {
         }
     }
 
-    /// How much there is of an asset. (Own)
+    /// How much there is of an asset.
     pub fn total(&self, a: &AssetId) -> u128
         ensures value { result ≡ total_at self.now a.now }
         ensures in_order { IsMap asset_cmp self.now }
@@ -142,8 +142,7 @@ impl AssetTotals {
         self.totals.get(a).copied().unwrap_or(0)
     }
 
-    /// The first asset past an asset, or the first of all, in order, with how much there is of it; none at the
-    /// end. (Own)
+    /// The next asset in order after this one, or the first of all, with its total.
     pub fn next(&self, after: Option<&AssetId>) -> Option<(AssetId, u128)>
         ensures { result ≡ entry_after asset_cmp (option_map (λ a. a.now) after.entry) self.now }
     {

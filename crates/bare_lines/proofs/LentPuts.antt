@@ -5,7 +5,7 @@ use Rattle.text_model.specs.Words.{Text, line_of}
 use Rattle.report.specs.Taking.{HasPut, IsFront, with_lines}
 use Rattle.bare_lines.specs.Lent.{lent, lent_part}
 
--- what is told after lines
+-- the state after lines
 with_lent : {T : Type 0} (add : T → Text → T) (n g : ℕ) (t : T) (lines : List (List Text)) → with_lines (lent add) n (g, t) lines ≡ (g, with_lines add n t lines)
 with_lent add n g t [] = refl
 with_lent add n g t (words ∷ lines) = with_lent add n g (add t (line_of n words)) lines

@@ -1,4 +1,4 @@
--- What is told of lines of the number 0 where they are passed on without it. (Own)
+-- Lines of the number 0 that are passed on without it. (Own)
 use Rattle.std.specs.Prelude.{◌≡◌, ◌⊎◌, ◌++◌, codes, drop}
 use Rattle.text_model.specs.Words.{Text}
 
@@ -10,7 +10,7 @@ bare add t line = add t (drop 2 line)
 abbrev pub bare_part : {T : Type 0} → (T → Text → T → Type 0) → T → Text → T → Type 0
 bare_part IsPart t line t' = IsPart t (drop 2 line) t'
 
--- a line with `frozen` in place of its number
+-- a line with `frozen` instead of its number
 abbrev pub frozen_text : Text → Text
 frozen_text line = codes "frozen" ++ drop 1 line
 

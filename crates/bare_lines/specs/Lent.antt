@@ -1,4 +1,4 @@
--- Who takes lines for another, whom it borrows: what it tells is the name of that loan, and what the other tells. (Own)
+-- A taker of lines that borrows another: the name of that loan, and what the other has. (Own)
 use Rattle.std.specs.Prelude.{◌≡◌, ℕ}
 use Rattle.text_model.specs.Words.{Text}
 

@@ -3,7 +3,7 @@ ghost use Rattle.std.specs.Prelude.{◌≡◌, drop};
 use byte_lines::SinkFault;
 use report::LineTaker;
 
-/// Takes lines of the number 0, and passes each on without the number and the space after it. (Own)
+/// Takes lines of the number 0, and passes each on without the number and the space after it.
 #[derive(Drop)]
 pub struct Bare<'a, T: LineTaker> {
     pub to: &'a mut T,

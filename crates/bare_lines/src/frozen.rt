@@ -2,18 +2,18 @@ ghost use Rattle.std.specs.Prelude.{◌≡◌, ◌++◌, OnOk, codes, drop};
 ghost use Rattle.bare_lines.specs.Bare.{frozen_text};
 
 use byte_lines::SinkFault;
-use coin_frac::NoMemory;
+use no_memory::NoMemory;
 use report::LineTaker;
 
-/// Takes lines of the number 0, and passes each on with the word `frozen` in place of the number. (Own)
+/// Takes lines of the number 0, and passes each on with the word `frozen` instead.
 #[derive(Drop)]
 pub struct FrozenLine<'a, 'b, T: LineTaker> {
     pub to: &'a mut T,
-    /// Where the line is made that is passed on.
+    /// The buffer for the line that is passed on.
     pub text: &'b mut Vec<u8>,
 }
 
-/// Makes the line that is passed on, in place of what the buffer held.
+/// Makes the line that is passed on; the buffer loses what it held.
 fn make_frozen(text: &mut Vec<u8>, line: &[u8]) -> Result<(), NoMemory>
     ensures { OnOk result (text.new.items ≡ frozen_text line.now) }
 {

@@ -3,8 +3,8 @@ ghost use Rattle.text_forms.specs.Lines.{joined};
 ghost use Rattle.text_model.specs.Words.{line_of};
 ghost use Rattle.bare_lines.specs.Bare.{frozen_text};
 
-/// A law: what is passed on of a line of the number 0 is its words with a space between each two, and
-/// a line feed; with `frozen` as the first word where that stands in place of the number. (Own)
+/// A law: a line of the number 0 is passed on as its words with a space between each two, and a
+/// line feed; with `frozen`, that is the first word.
 pub fn lines_are_joined()
     ensures bare { (word : List ℕ) (words : List (List ℕ)) →
         drop 2 (line_of 0 (word ∷ words)) ≡ joined (word ∷ words) ++ 10 ∷ [] }

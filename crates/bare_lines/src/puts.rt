@@ -7,7 +7,7 @@ use crate::frozen::FrozenLine;
 use byte_lines::SinkFault;
 use report::{LineTaker, Printed, put_each};
 
-/// Hands over the line of each item, in order, without numbers, each made in the buffer. (Own)
+/// Hands over the line of each item, in order, without numbers, each made in the buffer.
 pub fn put_bare<T: LineTaker, P: Printed>(
     to: &mut T,
     text: &mut Vec<u8>,
@@ -20,8 +20,8 @@ pub fn put_bare<T: LineTaker, P: Printed>(
     put_each(&mut bare, text, 0, items)
 }
 
-/// Hands over the line of each item, in order, with `frozen` in place of the number. The second buffer
-/// takes the line as it is passed on; what both hold before does not matter. (Own)
+/// Hands over the line of each item, in order, with `frozen` instead of the number.
+/// The second buffer takes the line as it is passed on. What both hold before does not matter.
 pub fn put_frozen<T: LineTaker, P: Printed>(
     to: &mut T,
     text: &mut Vec<u8>,

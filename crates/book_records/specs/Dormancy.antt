@@ -1,4 +1,6 @@
--- What dormant epochs do to the expiries of DReps. (Own: CIP-1694, Delegated representatives, lets the epochs without a proposal not count; that they are added with the next proposal is as here)
+-- What dormant epochs do to the expiries of DReps. (Own)
+-- CIP-1694, Delegated representatives: epochs without a proposal do not count.
+-- That they are added with the next proposal is a rule of this ledger.
 use Rattle.std.specs.Prelude.{ℕ, ◌+◌, ◌^◌, ◌<◌, Bool, List, nat_le}
 use Rattle.std.specs.List.{AllByRecursion}
 use Rattle.std.specs.Map.{values_of}
@@ -6,7 +8,7 @@ use Rattle.maps.specs.Maps.{changed_where}
 use Rattle.gov_ids.specs.declared.Credential.{Credential}
 use Rattle.book_records.specs.declared.DrepState.{DrepState}
 
--- by the epoch and the dormant count, the DRep has not expired, if the dormant epochs count for it
+-- the DRep has not expired at the epoch, if the dormant epochs are added
 abbrev pub is_kept_active : ℕ → ℕ → DrepState → Bool
 is_kept_active epoch dormant d = nat_le epoch (d.expiry + dormant)
 
@@ -14,7 +16,7 @@ is_kept_active epoch dormant d = nat_le epoch (d.expiry + dormant)
 abbrev pub extended : ℕ → DrepState → DrepState
 extended dormant d = record d { expiry = d.expiry + dormant }
 
--- the dormant epochs are added to such expiries
+-- the dormant epochs are added to the expiries of DReps that have not expired
 abbrev pub with_dormant_added : ℕ → ℕ → List (Credential × DrepState) → List (Credential × DrepState)
 with_dormant_added epoch dormant dreps = changed_where (λ c d. is_kept_active epoch dormant d) (extended dormant) dreps
 

@@ -1,4 +1,5 @@
--- What registrations, retirements and a boundary make of the registered pools. (POOL and POOLREAP of the formal specification)
+-- Registered pools after registrations, retirements and a boundary.
+-- (POOL and POOLREAP of the formal specification)
 use Rattle.std.specs.Prelude.{ℕ, ◌==◌, Bool, not, ◌&&◌, ◌||◌, List, Option, Some, None, unwrap_or}
 use Rattle.std.specs.List.{list_any}
 use Rattle.maps.specs.Maps.{value_at, with_value, changed_at, each_value, entries_where}
@@ -10,12 +11,13 @@ use Rattle.book_records.specs.Hashes.{same_hash}
 use Rattle.book_records.specs.declared.pool.Pool.{Pool}
 use Rattle.book_records.specs.declared.pool.PoolTerms.{PoolTerms}
 
--- a new pool with its deposit and terms, or a registered one with them as its future terms and no retirement
+-- a new pool with its deposit and terms
+-- a registered pool gets the terms as its future terms, and no longer retires
 abbrev pub pool_after : ℕ → PoolTerms → Option Pool → Pool
 pool_after deposit terms None = record { deposit = deposit; terms = terms; future = None; retires = None }
 pool_after deposit terms (Some p) = record p { future = Some terms; retires = None }
 
--- the key stands in the terms
+-- the terms have the key
 abbrev pub is_key_of : List ℕ → PoolTerms → Bool
 is_key_of key terms = holds same_hash terms.key key
 

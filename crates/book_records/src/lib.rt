@@ -31,7 +31,7 @@ pub struct Registered {
     pub drep: Option<Drep>,
 }
 
-/// A credential that holds stake or is registered. (Own)
+/// A credential that holds stake or is registered.
 #[derive(Clone, Copy, Debug, PartialEq, Eq)]
 pub struct Entry {
     /// The lovelace of the outputs with this stake credential.

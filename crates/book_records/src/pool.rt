@@ -8,11 +8,12 @@ pub struct PoolTerms {
     pub cost: u64,
     /// What its owners promise to hold, in lovelace; kept and not used.
     pub pledge: u64,
-    /// The part of the rewards that the pool keeps besides; kept and not used.
+    /// The share of the rewards that the pool keeps besides; kept and not used.
     pub margin: Unit,
     /// The reward account, whose vote delegation is the pool's default vote.
     pub account: Account,
-    /// The hash of the key by which the pool makes blocks, if it is stated: from version 11.0 on no two pools may take one. (Own)
+    /// The hash of the key with which the pool makes blocks, if stated.
+    /// From version 11.0 on no two pools may take the same key.
     pub key: Option<[u8; 32]>,
 }
 
@@ -21,21 +22,22 @@ pub struct PoolTerms {
 pub struct Pool {
     /// What its first registration paid, in lovelace.
     pub deposit: u64,
-    /// The terms that hold.
+    /// The terms in force.
     pub terms: PoolTerms,
-    /// The terms that the next boundary makes hold.
+    /// The terms that the next boundary puts in force.
     pub future: Option<PoolTerms>,
     /// The epoch that begins without it.
     pub retires: Option<u64>,
 }
 
-/// How a pool that did not vote counts, but for hard forks. (CIP-1694, Ratification: the default vote of pools)
+/// How a pool that did not vote counts, except for hard forks.
+/// (CIP-1694, Ratification: the default vote of pools)
 #[derive(Clone, Copy, Debug, PartialEq, Eq)]
 pub enum DefaultVote {
     /// It says No, to a motion of no confidence too.
     No,
     /// It abstains.
     Abstain,
-    /// Yes to a motion of no confidence, and No else.
+    /// It says Yes to a motion of no confidence, and No otherwise.
     NoConfidence,
 }

@@ -1,4 +1,4 @@
-//! Actions in chains: what may follow what, and which stay when some are enacted or expire.
+//! Actions in chains: what may follow what, and what remains after enactment or expiry.
 use crate::proposals::{add, fork_after, id};
 use coin_frac::NoMemory;
 use gov_actions::{Action, LastIds};
@@ -8,7 +8,7 @@ use std::alloc::Global;
 use std::process::Abort;
 use std::test::Fail;
 
-/// The last actions, where the hard fork of this byte was enacted and no other.
+/// The last actions, if the hard fork of this byte was enacted and no other action.
 fn last_of(hardfork: u8) -> LastIds {
     LastIds {
         committee: None,
@@ -24,7 +24,8 @@ fn dismissal(previous: Option<u8>) -> Action {
     }
 }
 
-/// Hard forks 2, 3, 4 in a chain after 1, and 8 before the 7 that it follows; 5 of another purpose, and 6 of none.
+/// Hard forks 2, 3, 4 in a chain after 1, and 8 before the 7 that it follows.
+/// 5 is of another purpose, and 6 of none.
 fn forks_and_others(rt: &impl Abort, alloc: Global) -> Result<ProposalStore, Fail> {
     let mut store = ProposalStore::new(alloc);
     for (byte, previous) in [(2, 1), (3, 2), (4, 3), (8, 7), (7, 1)] {
@@ -59,7 +60,7 @@ fn tells_what_may_follow(rt: HostRuntime) -> Result<(), Fail> {
     Ok(())
 }
 
-/// The bytes of those that stay.
+/// The bytes of the proposals that remain.
 fn kept(
     alloc: Global,
     store: &ProposalStore,
@@ -76,7 +77,7 @@ fn kept(
     Ok(bytes)
 }
 
-/// Enacted, expired (0 is none of them) and the last hard fork, and what stays.
+/// Enacted, expired (0 is none of them) and the last hard fork, and what remains.
 #[test]
 fn tells_which_proposals_stay(rt: HostRuntime) -> Result<(), Fail> {
     let store = forks_and_others(&rt, rt.alloc())?;

@@ -1,4 +1,4 @@
-//! The book of hot keys: what was authorized, undone and taken over from another, and whom members seat.
+//! The book of hot keys: entries authorized, undone and taken over, and which keys members seat.
 use coin_frac::{NoMemory, Unit};
 use committee_book::HotBook;
 use gov_actions::{Committee, HotState, MemberList};
@@ -89,7 +89,7 @@ fn seats_the_hot_keys_of_members(rt: HostRuntime) -> Result<(), Fail> {
     Ok(())
 }
 
-/// One member, and two keys to come that took its hot key, which are more than the members.
+/// One member, and two changed keys that took its hot key: more than the members.
 #[test]
 fn seats_among_fewer_members(rt: HostRuntime) -> Result<(), Fail> {
     let members = Vec::from_slice(rt.alloc(), [(key(2), 9)].as_slice())?;

@@ -1,5 +1,5 @@
-//! Tests of the books: each call that needs memory once, and what their rows come to. It has no code, so that a test is
-//! proved alone.
+//! Tests of the books: each call that needs memory once, and the results of their rows.
+//! The crate has no code, so that a test is proved alone.
 #![tactic(auto)]
 
 #[cfg(test)]

@@ -1,4 +1,4 @@
-//! The book of outputs: what outputs with assets make of the totals.
+//! The book of outputs: the totals of assets.
 use assets::Assets;
 use coin_frac::NoMemory;
 use gov_ids::{Address, AssetId, AssetName, CredKind, Credential, OutRef, TxId};
@@ -23,7 +23,7 @@ fn at(tx: u8) -> OutRef {
     }
 }
 
-/// Puts an output with these assets into a book that holds little and has none there.
+/// Puts an output with these assets into a book that holds little and has none at `r`.
 fn put(rt: &impl Abort, book: &mut UtxoSet, r: OutRef, assets: Assets) -> Result<(), NoMemory> {
     let payment = Credential {
         hash: [9; 28],
@@ -46,7 +46,7 @@ fn put(rt: &impl Abort, book: &mut UtxoSet, r: OutRef, assets: Assets) -> Result
     )
 }
 
-/// An output with 5 of asset 1 and 7 of asset 2, one with the most that there may be of asset 1, and one with none.
+/// An output with 5 of asset 1 and 7 of asset 2, one with the most of asset 1, and one with none.
 fn three_outputs(rt: &impl Abort, alloc: Global) -> Result<UtxoSet, NoMemory> {
     let mut book = UtxoSet::new(alloc);
     let two = Assets::from_entries(alloc, &[(asset(2), 7), (asset(1), 5)])?;
@@ -68,7 +68,7 @@ fn next_past(book: &UtxoSet, name: u8) -> Option<(AssetId, u128)> {
     book.next_asset(Some(&before))
 }
 
-/// The totals as outputs come and go; no asset is left where none holds any.
+/// The totals as outputs come and go; an asset that no output holds is gone.
 #[test]
 fn keeps_the_totals_of_assets(rt: HostRuntime) -> Result<(), Fail> {
     let mut book = three_outputs(&rt, rt.alloc())?;

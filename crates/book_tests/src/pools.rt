@@ -1,4 +1,4 @@
-//! The book of pools: a later registration, an epoch's end, an entry that is put back, and the keys of other pools.
+//! The book of pools: later registrations, ends of epochs, restored entries, keys of other pools.
 use book_records::{Pool, PoolTerms};
 use cert_pool::{PoolBook, Reaped};
 use coin_frac::Unit;
@@ -43,7 +43,8 @@ fn reaped(byte: u8, to: u8) -> Reaped {
     }
 }
 
-/// Pools 50 to 52 with a deposit of 5; later terms for 50 and 51; 52 and 51 retire after epochs 1 and 2, and 50 does no more.
+/// Pools 50 to 52 with a deposit of 5; later terms for 50 and 51.
+/// 52 and 51 retire after epochs 1 and 2; 50 retires no more.
 fn book(alloc: Global, margin: Unit) -> Result<PoolBook, Fail> {
     let mut book = PoolBook::new(alloc);
     book.retire(&pool(50), 1);
@@ -58,7 +59,7 @@ fn book(alloc: Global, margin: Unit) -> Result<PoolBook, Fail> {
     Ok(book)
 }
 
-/// The epoch, who is reaped then, and the deposits' accounts: 51 has its later terms by then.
+/// The epoch, the pools reaped then, and the deposits' accounts: 51 has its later terms by then.
 #[test]
 fn reaps_the_pools_of_an_epoch(rt: HostRuntime) -> Result<(), Fail> {
     let margin = Unit::new(0, 1)?;
@@ -86,7 +87,7 @@ fn reaps_the_pools_of_an_epoch(rt: HostRuntime) -> Result<(), Fail> {
     Ok(())
 }
 
-/// Whether each key is one of another pool than the named one exactly where that is wanted.
+/// Whether each key is one of another pool than the named one, if and only if that is wanted.
 fn are_keys(book: &PoolBook, wanted: &[(u8, u8, bool)]) -> bool {
     wanted.iter().all(|(key, byte, of_other)| book.key_of_other(&[*key; 32], &pool(*byte))
         == *of_other)

@@ -1,4 +1,4 @@
-//! A store of proposals that are voted on, and from which some are taken. (Its own words serve the tests of chains.)
+//! A store of proposals with votes, some removed. (Its functions serve the tests of chains.)
 ghost use Rattle.std.specs.Prelude.{◌≡◌, []};
 
 use coin_frac::Unit;
@@ -83,7 +83,7 @@ fn voted_on(rt: &impl Abort, alloc: Global) -> Result<ProposalStore, Fail> {
     Ok(store)
 }
 
-/// What is removed has both voters, each with its last vote.
+/// The removed proposals have both voters, each with its last vote.
 #[test]
 fn keeps_votes_and_what_is_listed(rt: HostRuntime) -> Result<(), Fail> {
     let mut store = voted_on(&rt, rt.alloc())?;
@@ -111,7 +111,7 @@ fn adding(alloc: Global, bytes: &[u8]) -> Result<Action, Fail> {
     })
 }
 
-/// Five proposals, of which the second and the fourth add a cold key twice each, with two votes of a DRep.
+/// Five proposals: the second and the fourth add a cold key twice each, with two votes of a DRep.
 fn with_members(rt: &impl Abort, alloc: Global) -> Result<ProposalStore, Fail> {
     let mut store = voted_on(rt, alloc)?;
     let members = adding(alloc, [4, 4, 6].as_slice())?;
@@ -122,7 +122,7 @@ fn with_members(rt: &impl Abort, alloc: Global) -> Result<ProposalStore, Fail> {
     Ok(store)
 }
 
-/// The first proposals stay, with their votes, their children and the keys that they add.
+/// The first proposals remain, with their votes, their children and the keys that they add.
 #[test]
 fn keeps_the_first(rt: HostRuntime) -> Result<(), Fail> {
     for (n, len, voted, children, adds) in [
@@ -144,7 +144,7 @@ fn keeps_the_first(rt: HostRuntime) -> Result<(), Fail> {
     Ok(())
 }
 
-/// What was kept is cut again, and grows again.
+/// A store that was cut is cut again, and grows again.
 #[test]
 fn keeps_the_first_of_what_is_listed(rt: HostRuntime) -> Result<(), Fail> {
     let mut store = with_members(&rt, rt.alloc())?;

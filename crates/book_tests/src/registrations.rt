@@ -1,4 +1,4 @@
-//! The book of accounts after a freeze: the entries that stood then, and those that stand.
+//! The book of accounts after a freeze: the frozen entries and the current ones.
 use accounts::AccountBook;
 use book_records::Entry;
 use coin_frac::NoMemory;
@@ -20,7 +20,7 @@ fn staked(stake: u64) -> Entry {
     }
 }
 
-/// Two entries, frozen, and four changes after it.
+/// Two frozen entries, and four changes after the freeze.
 fn changed(alloc: Global) -> Result<AccountBook, NoMemory> {
     let mut book = AccountBook::new(alloc);
     book.put(key(1), staked(10))?;

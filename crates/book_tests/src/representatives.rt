@@ -1,4 +1,4 @@
-//! The book of DReps: entries put back, and what a refresh leaves of an expiry.
+//! The book of DReps: restored entries, and expiries after a refresh.
 ghost use Rattle.std.specs.Prelude.{◌+◌, ◌^◌, ◌<◌};
 
 use book_records::DrepState;
@@ -14,7 +14,7 @@ fn drep(byte: u8) -> Credential {
     }
 }
 
-/// The expiry that a refresh at the epoch leaves of one DRep with this expiry.
+/// The expiry of one DRep after a refresh at the epoch, from this expiry.
 fn refreshed(alloc: Global, expiry: u64, dormant: u64, epoch: u64) -> Result<Option<u64>, Fail>
     requires { expiry + dormant < 2 ^ 64 }
 {
@@ -25,7 +25,7 @@ fn refreshed(alloc: Global, expiry: u64, dormant: u64, epoch: u64) -> Result<Opt
     Ok(book.get(&drep(30)).map(|d| d.expiry))
 }
 
-/// Expiry, dormant epochs and the epoch, and the expiry that is left.
+/// Expiry, dormant epochs and the epoch, and the expiry afterwards.
 #[test]
 fn adds_dormant_epochs_to_those_that_they_keep(rt: HostRuntime) -> Result<(), Fail> {
     for (expiry, dormant, epoch, left) in [

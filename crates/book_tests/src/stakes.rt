@@ -1,4 +1,4 @@
-//! The book of stake: what each call leaves of the stakes of pools, the balances and the outputs.
+//! The book of stake: the stakes of pools, the balances and the outputs after each call.
 use assets::Assets;
 use book_records::{Output, Registered};
 use coin_frac::NoMemory;
@@ -50,7 +50,7 @@ fn delegating(rewards: u64, to: PoolId, voter: Credential) -> Option<Registered>
     })
 }
 
-/// Adds an output to a book that holds little and has none there.
+/// Adds an output to a book that holds little and has none at `r`.
 fn add(rt: &impl Abort, book: &mut StakeBook, r: OutRef, o: Output) -> Result<(), NoMemory> {
     assert!(rt; book.outputs().get(&r).is_none());
     assert!(rt; book.outputs().total() < 1000);
@@ -72,7 +72,8 @@ fn set(
     book.set_account(c, to)
 }
 
-/// Two accounts that delegate to pool 5 and to DRep 31, one that delegates to pool 6 and to DRep 32, and 7 lovelace of no account.
+/// Two accounts that delegate to pool 5 and DRep 31, and one that delegates to pool 6 and DRep 32.
+/// 7 lovelace belong to no account.
 fn three_accounts(rt: &impl Abort, alloc: Global) -> Result<StakeBook, NoMemory> {
     let mut book = StakeBook::new(alloc);
     set(rt, &mut book, key(1), delegating(3, pool(5), key(31)))?;
@@ -116,7 +117,7 @@ fn changed(rt: &impl Abort, alloc: Global, change: Change) -> Result<StakeBook, 
     Ok(book)
 }
 
-/// The change, and then the stakes of pools 5 and 6, the balances and the outputs.
+/// The change; then the stakes of pools 5 and 6, the balances and the outputs.
 #[test]
 fn keeps_the_stake_of_pools(rt: HostRuntime) -> Result<(), Fail> {
     for (change, wanted) in [

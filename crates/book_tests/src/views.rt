@@ -1,10 +1,10 @@
-//! A map with its frozen list: what changes after a freeze, and what is noted.
+//! A map with its frozen list: the changes after a freeze, and the notes of them.
 use coin_frac::NoMemory;
 use std::alloc::Global;
 use std::test::Fail;
 use view_map::ViewMap;
 
-/// 1 to 10 and 2 to 20, frozen, and five changes after it.
+/// 1 to 10 and 2 to 20, frozen, and five changes after the freeze.
 fn changed(alloc: Global) -> Result<ViewMap<u64, u64>, NoMemory> {
     let mut view = ViewMap::new(alloc);
     view.put(1, 10)?;

@@ -68,7 +68,7 @@ whole-open (b ∷ bs) =
       | false ↦ refl
     ]
 
--- no line feed stands in the open line
+-- the open line has no line feed
 pub open_of-no_feed : (bytes : List ℕ) → has_feed (open_of bytes) ≡ false
 open_of-no_feed [] = refl
 open_of-no_feed (b ∷ bs) =
@@ -116,7 +116,7 @@ pub whole_of-whole : (bytes : List ℕ) → open_of bytes ≡ [] → whole_of by
 whole_of-whole bytes whole =
     sym (append-nil (whole_of bytes)) ∙ ap (λ (xs : List ℕ). whole_of bytes ++ xs) (sym whole) ∙ whole-open bytes
 
--- where nothing is open, a line feed stands
+-- if nothing is open, there is a line feed
 whole-has_feed : (b : ℕ) (bs : List ℕ) → open_of (b ∷ bs) ≡ [] → (has_feed (b ∷ bs) ≡ true) × (open_of bs ≡ [])
 whole-has_feed b bs whole =
     elim (has_feed-cases (b ∷ bs)) [

@@ -9,16 +9,16 @@ use Rattle.byte_lines.specs.Told.{HasGiven, given_between}
 use Rattle.byte_lines.specs.declared.lines.Line.{Line}
 use Rattle.byte_lines.specs.declared.lines.LineFault.{LineFault}
 
--- a piece goes up to the first line feed, and the others are those of the rest
+-- the first piece goes up to the first line feed, and the others are those of the rest
 abbrev pub FeedEndsPiece : Type 0
 FeedEndsPiece =
     (piece rest : List ℕ) → has_feed piece ≡ false → pieces_of (piece ++ line_feed ∷ rest) ≡ piece ∷ pieces_of rest
 
--- the bytes are those of the whole lines and those after the last line feed
+-- the bytes are the whole lines and then the bytes after the last line feed
 abbrev pub CutsInTwo : Type 0
 CutsInTwo = (bytes : List ℕ) → (whole_of bytes ++ open_of bytes ≡ bytes) × (has_feed (open_of bytes) ≡ false)
 
--- the lines of bytes and of more bytes are the whole ones of the former, and those of what follows
+-- the lines of all bytes are the whole ones of the first bytes, and those of what follows
 abbrev pub LinesAddUp : Type 0
 LinesAddUp =
     (max : ℕ) (bytes more : List ℕ) →
@@ -32,14 +32,15 @@ EndGivesAll =
     IsTrue r.ended → r.taken ≤ r.stream_max →
     (given ≡ lines_of r.line_max bytes) × (read.came ≡ bytes) × (read.rest ≡ [])
 
--- where reading broke off with nothing ahead, the lines given are the whole lines of the bytes that came
+-- before the end, with an empty buffer, the lines given are the whole lines of the bytes that came
 abbrev pub BreakGivesWhole : Type 0
 BreakGivesWhole =
     (bytes : List ℕ) (r : Reader) (left : Option (List ℕ)) (given : List (Option (List ℕ))) →
     (read : HasRead bytes r left given) →
     r.ended ≡ false → r.ahead ≡ [] → given ≡ lines_of r.line_max (whole_of (heeded r.stream_max read.came))
 
--- at any time, the lines given are the first of the whole lines of the bytes that came or, at the end, all lines of them
+-- always, the lines given are the first of the whole lines of the bytes that came,
+-- or, at the end, all lines of them
 abbrev pub GivesFirst : Type 0
 GivesFirst =
     (bytes : List ℕ) (r : Reader) (left : Option (List ℕ)) (given : List (Option (List ℕ))) →
@@ -48,14 +49,14 @@ GivesFirst =
     × (lines_of r.line_max (whole_of (heeded r.stream_max read.came)) ≡ given ++ later))
     ⊎ ((read.rest ≡ []) × (lines_of r.line_max (heeded r.stream_max read.came) ≡ given))
 
--- and the first of the lines of the stream, as long as no more came than the reader heeds
+-- and the first lines of the stream, if it was not too long so far
 abbrev pub GivesFirstOfAll : Type 0
 GivesFirstOfAll =
     (bytes : List ℕ) (r : Reader) (left : Option (List ℕ)) (given : List (Option (List ℕ))) →
     (read : HasRead bytes r left given) →
     r.taken ≤ r.stream_max → (later : List (Option (List ℕ))) × (lines_of r.line_max bytes ≡ given ++ later)
 
--- after a line, nothing came but its own bytes, those of the lines before it, and those ahead
+-- after a line, only its bytes, those of earlier lines and those of the buffer came
 abbrev pub NothingBeyond : Type 0
 NothingBeyond =
     (bytes : List ℕ) (r : Reader) (left : Option (List ℕ)) (given : List (Option (List ℕ))) →
@@ -64,12 +65,12 @@ NothingBeyond =
     (upto : List ℕ) × (read.came ≡ upto ++ r.ahead) × (given ≡ lines_of r.line_max upto)
     × ((open_of upto ≡ []) ⊎ (read.rest ≡ []))
 
--- a reader that has begun no line, and looks at nothing, has all lines of what comes to give
+-- a reader whose current line and buffer are empty has all lines of the next bytes to give
 abbrev pub FreshGivesAll : Type 0
 FreshGivesAll =
     (r : Reader) (bytes : List ℕ) → r.begun ≡ Some [] → r.ahead ≡ [] → lines_left r bytes ≡ lines_of r.line_max bytes
 
--- what one call for a line takes and gives, and then the next, they take and give in all; after the end nothing comes
+-- two calls in a row take and give what each takes and gives; after the end nothing comes
 abbrev pub CallsAddUp : Type 0
 CallsAddUp =
     (first mid last : Reader) (left left' left'' : Option (List ℕ)) (given more : List (Option (List ℕ))) →
@@ -77,7 +78,7 @@ CallsAddUp =
     mid.stream_max ≡ first.stream_max → (IsTrue mid.ended → (last ≡ mid) × (left'' ≡ left')) →
     HasTaken first last left left'' (given ++ more)
 
--- what a sink takes at one time and then at another, it takes in all
+-- two writes in a row take what each takes
 abbrev pub TakesAddUp : Type 0
 TakesAddUp =
     (first mid last : Option (List ℕ)) (piece more : List ℕ) →
@@ -85,33 +86,33 @@ TakesAddUp =
 
 -- ---- line feeds
 
--- a line feed more ends one line more than the whole ones
+-- one more line feed ends the open line after the whole ones
 abbrev pub FeedEndsOneMore : Type 0
 FeedEndsOneMore =
     (max : ℕ) (bytes : List ℕ) →
     lines_of max (bytes ++ line_feed ∷ []) ≡ lines_of max (whole_of bytes) ++ kept max (open_of bytes) ∷ []
 
--- where nothing is ahead, a line feed ends the line begun, which is not too long by itself, and no other
+-- with an empty buffer, a line feed ends the current line, if that is not too long, and no other
 abbrev pub FeedEndsBegun : Type 0
 FeedEndsBegun = (r : Reader) → FitsIn r.line_max r.begun → r.ahead ≡ [] → lines_left r (line_feed ∷ []) ≡ r.begun ∷ []
 
--- where a line feed is to come, a line is
+-- if a line feed is to come, a line is to come
 abbrev pub FeedGivesLine : Type 0
 FeedGivesLine = (r : Reader) (bytes : List ℕ) → 0 < length (lines_left r (bytes ++ line_feed ∷ []))
 
--- ---- what a source tells
+-- ---- what a source reports
 
--- what a source gave is what lies between
+-- the bytes that a source gave are those between
 abbrev pub GivenIsBetween : Type 0
 GivenIsBetween =
     (left left' : Option (List ℕ)) (bytes : List ℕ) →
     IsSome left → left ≡ prepend_known bytes left' → given_between left left' ≡ bytes
 
--- a source that stays gives nothing
+-- an unchanged source gives nothing
 abbrev pub StayingGivesNone : Type 0
 StayingGivesNone = (left : Option (List ℕ)) → given_between left left ≡ []
 
--- what was given at one time and then at another was given in all
+-- the bytes given in two steps are those of the first and then those of the second
 abbrev pub GivenAddsUp : Type 0
 GivenAddsUp =
     (first mid last : Option (List ℕ)) →
@@ -127,7 +128,7 @@ BeginsWithNone =
     (r : Reader) (left : Option (List ℕ)) →
     r.begun ≡ Some [] → r.ahead ≡ [] → r.taken ≡ 0 → r.ended ≡ false → HasGiven r left left []
 
--- one call more, by what it takes and leaves, gives its line more
+-- one more call adds its line to the lines given
 abbrev pub CallGivesMore : Type 0
 CallGivesMore =
     (old new : Reader) (left left' : Option (List ℕ)) (result : Result Line LineFault) →
@@ -143,14 +144,14 @@ GivenAll =
     HasGiven r first left given → IsTrue r.ended → r.ahead ≡ [] → r.begun ≡ Some [] → r.taken ≤ r.stream_max →
     IfSome first (λ bytes. given ≡ lines_of r.line_max bytes)
 
--- where reading broke off with nothing ahead, they are the whole lines of the bytes that came
+-- before the end, with an empty buffer, they are the whole lines of the bytes that came
 abbrev pub GivenWhole : Type 0
 GivenWhole =
     (r : Reader) (first left : Option (List ℕ)) (given : List (Option (List ℕ))) →
     HasGiven r first left given → IsSome first → r.ended ≡ false → r.ahead ≡ [] →
     given ≡ lines_of r.line_max (whole_of (heeded r.stream_max (given_between first left)))
 
--- and before the end, whatever comes then, they are the first of the whole lines of all that came
+-- before the end, they are the first whole lines of all that came, whatever follows
 abbrev pub GivenFirst : Type 0
 GivenFirst =
     (r : Reader) (first left : Option (List ℕ)) (given : List (Option (List ℕ))) (more : List ℕ) →

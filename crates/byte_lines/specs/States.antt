@@ -1,4 +1,4 @@
--- Where a reader of lines stands.
+-- The states of a reader of lines.
 use Rattle.std.specs.Prelude.{◌≡◌, ℕ, ◌+◌, ◌≤◌, ◌<◌, Bool, true, false, List, [], Option, Some, None, IsTrue, length}
 use Rattle.byte_lines.specs.Buffers.{BytesAhead, LineBegun}
 use Rattle.byte_lines.specs.Reader.{FitsIn, part_max}
@@ -19,19 +19,19 @@ is_failed Ended = false
 is_failed TooMuch = false
 is_failed NoMemory = true
 
--- how many bytes beyond the limit were taken
+-- how many bytes beyond the limit were read
 abbrev pub bytes_over : State → ℕ
 bytes_over Reading = 0
 bytes_over Ended = 0
 bytes_over TooMuch = 1
 bytes_over NoMemory = 0
 
--- at most how many lines the line begun can become, by its bytes
+-- the most lines that the current line can become, by its bytes
 abbrev pub weight : Option (List ℕ) → ℕ
 weight None = 1
 weight (Some line) = length line
 
--- what holds of the fields of a reader
+-- the invariant of the fields of a reader
 pub record AreSoundFields (state : State) (line_max stream_max taken number : ℕ) (begun : LineBegun) (ahead : BytesAhead) (text : List ℕ) : Type 0 where
   -- each line took a byte
   pub few : number + length ahead.bytes + weight begun.line ≤ taken

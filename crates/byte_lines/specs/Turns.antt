@@ -1,7 +1,7 @@
--- What the steps of a reader of lines do.
+-- The steps of a reader of lines.
 use Rattle.std.specs.Prelude.{◌≡◌, ℕ, ◌+◌, ◌≤◌, ◌<◌, ◌++◌, ◌⊎◌, ◌↔◌, true, false, IsTrue, IsOk, IsErr, List, [], Option, Some, None, Result, Ok, Err, length}
 use Rattle.std.specs.Io.KnownBytes.{IsAtEnd}
-use Rattle.coin_frac.specs.declared.NoMemory.{NoMemory as OutOfMemory}
+use Rattle.no_memory.specs.declared.NoMemory.{NoMemory as OutOfMemory}
 use Rattle.byte_lines.specs.Answers.{Advances, HasTaken, PassesLine, line_given, TextStays}
 use Rattle.byte_lines.specs.Pieces.{has_feed}
 use Rattle.byte_lines.specs.Progress.{HasRead}
@@ -17,7 +17,7 @@ pub record IsReading (r : Reader) : Type 0 where
   pub failed : r.failed ≡ false
   pub within : r.taken ≤ r.stream_max
 
--- whatever the stream was, these lines more were given of it
+-- for every stream: the reader gave these lines more of it
 abbrev pub Gives : Reader → Reader → Option (List ℕ) → Option (List ℕ) → List (Option (List ℕ)) → Type 0
 Gives old new left left' more =
     (bytes : List ℕ) (given : List (Option (List ℕ))) →
@@ -33,14 +33,14 @@ pub record EndsLine (old new : Reader) (line : Line) : Type 0 where
   pub took : (left : Option (List ℕ)) → HasTaken old new left left (line_given (Ok line) new)
   pub passes : PassesLine old new line
 
--- all that was ahead is looked at, and no line feed stands in it
+-- the whole buffer is examined, and has no line feed
 pub record GoesOn (old new : Reader) : Type 0 where
   pub reader : new ≡ record old { begun = new.begun; ahead = []; held = new.held }
   pub none : has_feed old.ahead ≡ false
   pub gives : (left : Option (List ℕ)) → Gives old new left left []
   pub took : (left : Option (List ℕ)) → HasTaken old new left left []
 
--- a line feed was found in what was ahead, or there is none there, or memory ran out
+-- the buffer has a line feed, or it has none, or memory ran out
 abbrev pub LooksAhead : Reader → Reader → Result (Option Line) OutOfMemory → Type 0
 LooksAhead old new (Ok (Some line)) = EndsLine old new line
 LooksAhead old new (Ok None) = GoesOn old new
@@ -54,7 +54,7 @@ pub record Ends (old new : Reader) (line : Line) : Type 0 where
   pub gives : (left : Option (List ℕ)) → IsAtEnd left → Gives old new left left (line_given (Ok line) new)
   pub took : (left : Option (List ℕ)) → IsAtEnd left → HasTaken old new left left (line_given (Ok line) new)
 
--- a read brought bytes, or the end
+-- a read returned bytes, or the end
 pub record TakesPart (old new : Reader) (left left' : Option (List ℕ)) (count : ℕ) : Type 0 where
   pub reader : new ≡ record old { taken = old.taken + count; ahead = new.ahead; held = new.held }
   pub within : old.taken + count ≤ old.stream_max
@@ -76,14 +76,14 @@ pub record TakesNone (old new : Reader) (left left' : Option (List ℕ)) : Type 
   pub gives : Gives old new left left' []
   pub took : HasTaken old new left left' []
 
--- a read brought bytes, the end, one byte too much, or nothing
+-- a read returned bytes, the end, one byte too many, or nothing
 abbrev pub TakesMore : Reader → Reader → Option (List ℕ) → Option (List ℕ) → Result ℕ LineFault → Type 0
 TakesMore old new left left' (Ok count) = TakesPart old new left left' count
 TakesMore old new left left' (Err TooMuch) = TakesOver old new left left'
 TakesMore old new left left' (Err ReadFault) = TakesNone old new left left'
 TakesMore old new left left' (Err NoMemory) = TakesNone old new left left'
 
--- a reader that has not stopped reads on to its next answer
+-- a reader that has not stopped reads until its next answer
 pub record ReadsOn (old new : Reader) (left left' : Option (List ℕ)) (result : Result Line LineFault) : Type 0 where
   pub advances : Advances old new result
   pub gives : Gives old new left left' (line_given result new)

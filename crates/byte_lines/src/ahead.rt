@@ -1,4 +1,4 @@
-//! A buffer of bytes taken from a source and not looked at yet.
+//! A buffer of bytes that were read and not examined yet.
 ghost use Rattle.std.specs.Prelude.{◌≡◌, ◌<◌, ◌≤◌, [], length, drop, IsErr, IfOk, OnErr};
 ghost use Rattle.std.specs.Io.KnownBytes.{IsAtEnd, prepend_known};
 ghost use Rattle.byte_lines.specs.Faults.{CountsFaults};
@@ -10,10 +10,10 @@ use super::source::{ReadFault, Source};
 use std::alloc::Global;
 use std::marker::Model;
 
-/// How many bytes one read asks for at most.
+/// The greatest number of bytes that one read asks for.
 const PART: usize = 65_536;
 
-/// Bytes taken from a source, in order. The room for them is made by the first `refill`.
+/// Bytes of a source, in order. The first `refill` takes the memory for them.
 #[derive(Drop)]
 pub struct Ahead {
     part: Vec<u8>,
@@ -50,7 +50,7 @@ impl Ahead {
         &self.part[self.start..self.end]
     }
 
-    /// Lets the first `n` bytes go.
+    /// Drops the first `n` bytes.
     pub fn pass(&mut self, n: usize)
         requires { n ≤ length self.old.bytes }
         ensures { self.new ≡ record self.old { bytes = drop n self.old.bytes } }
@@ -58,7 +58,7 @@ impl Ahead {
         self.start += n;
     }
 
-    /// Reads once, at most `max` bytes, when nothing is ahead. Answers how many came.
+    /// Reads once, at most `max` bytes, into an empty buffer. Returns the count.
     pub fn refill<S: Source>(&mut self, source: &mut S, max: usize) -> Result<usize, LineFault>
         requires empty { self.old.bytes ≡ [] }
         requires room { 0 < max }
@@ -81,7 +81,7 @@ impl Ahead {
     }
 }
 
-/// Reads once into the front of `part`, at most `max` bytes.
+/// Reads once into the first `max` bytes of `part`.
 fn read_front<S: Source>(source: &mut S, part: &mut [u8], max: usize) -> Result<usize, ReadFault>
     requires part { 0 < length part.old }
     requires room { 0 < max }

@@ -4,12 +4,12 @@ ghost use Rattle.byte_lines.specs.Reader.{FitsIn, with_run};
 ghost use Rattle.byte_lines.specs.Buffers.{Finishes};
 
 use super::lines::Line;
-use coin_frac::NoMemory;
+use no_memory::NoMemory;
 use std::alloc::Global;
 use std::marker::Model;
 use std::mem;
 
-/// The bytes of the line begun, or that it is too long already.
+/// The bytes of the current line, or that it is too long already.
 #[derive(Drop)]
 pub struct Begun {
     line: Vec<u8>,
@@ -44,7 +44,7 @@ impl Begun {
         !self.is_too_long && self.line.is_empty()
     }
 
-    /// Adds a run of bytes. A line that grows beyond `max` bytes is let go.
+    /// Adds bytes to the line. A line that grows beyond `max` bytes is dropped.
     pub fn extend(&mut self, max: usize, run: &[u8]) -> Result<(), NoMemory>
         requires { self.old.held ≤ max }
         ensures ok { OnOk result (self.new.line ≡ with_run max self.old.line run.now) }
@@ -63,7 +63,7 @@ impl Begun {
         Ok(())
     }
 
-    /// Ends the line: `text` becomes it where it is not too long, and another line is begun.
+    /// Ends the line and begins another. `text` becomes the line unless it is too long.
     pub fn finish(&mut self, text: &mut Vec<u8>) -> Line
         ensures begun { self.new ≡ record { line = Some []; held = 0 } }
         ensures line { Finishes self.old.line text.old.items text.new.items result }

@@ -3,8 +3,8 @@ ghost use Rattle.byte_lines.specs.Laws.{FeedEndsPiece, CutsInTwo, LinesAddUp, En
 ghost use Rattle.byte_lines.specs.Laws.{FeedEndsOneMore, FeedEndsBegun, FeedGivesLine};
 ghost use Rattle.byte_lines.specs.Laws.{GivenIsBetween, StayingGivesNone, GivenAddsUp, BeginsWithNone, CallGivesMore, GivenAll, GivenWhole, GivenFirst};
 
-/// Does nothing. Its clauses are laws: how bytes are cut into lines, and how the lines that a reader gave lie among
-/// those of its stream. (Own)
+/// Does nothing. Its clauses are laws: bytes cut into lines, and the lines that a reader gave
+/// among the lines of its stream.
 pub fn whole_lines()
     ensures pieces { FeedEndsPiece }
     ensures cuts { CutsInTwo }
@@ -19,15 +19,15 @@ pub fn whole_lines()
     ensures takes { TakesAddUp }
 {}
 
-/// Does nothing. Its clauses are laws: which line a line feed ends. (Own)
+/// Does nothing. Its clauses are laws: the line that a line feed ends.
 pub fn line_feeds()
     ensures one_more { FeedEndsOneMore }
     ensures begun { FeedEndsBegun }
     ensures line { FeedGivesLine }
 {}
 
-/// Does nothing. Its clauses are laws: what a source gave, by what it tells, and the lines that a reader gave of
-/// it, one call after another. (Own)
+/// Does nothing. Its clauses are laws: the bytes that a source gave, and the lines that a reader
+/// gave of them, call by call.
 pub fn what_was_given()
     ensures between { GivenIsBetween }
     ensures stays { StayingGivesNone }

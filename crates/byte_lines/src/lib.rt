@@ -1,4 +1,4 @@
-//! The outside of the program: sources of bytes, sinks for them, and a reader of lines.
+//! The outside of the program: sources of bytes, sinks for bytes, and a reader of lines.
 #![tactic(auto)]
 
 mod ahead;

@@ -11,33 +11,33 @@ ghost use Rattle.byte_lines.specs.Turns.{IsReading, ReadsOn, LooksAhead, Ends, T
 use super::ahead::Ahead;
 use super::begun::Begun;
 use super::source::{ReadFault, Source};
-use coin_frac::NoMemory;
 use memchr::memchr;
+use no_memory::NoMemory;
 use std::alloc::{AllocError, Global};
 use std::marker::Model;
 use thiserror::Error;
 
-/// What `next` came to. (Own)
+/// The answer of `next`.
 #[derive(Clone, Copy, Debug, PartialEq, Eq)]
 pub enum Line {
-    /// A line, without its line feed: `text` has it.
+    /// A line without its line feed, in `text`.
     Whole,
-    /// A line of more than `line_max` bytes, which was passed over.
+    /// A line of more than `line_max` bytes. It was skipped.
     TooLong,
-    /// The end of the source, with no line left. Each later call answers this again.
+    /// The end of the source, with no line left. Each later call returns it again.
     End,
 }
 
-/// Why there is no line. (Own)
+/// Why there is no line.
 #[derive(Clone, Copy, Debug, PartialEq, Eq, Error)]
 pub enum LineFault {
-    /// A read failed. What was taken is kept, and a later call reads on.
+    /// A read failed. The bytes read are kept, and a later call reads on.
     #[error("a read failed")]
     ReadFault,
-    /// The source has more than `stream_max` bytes. Each later call answers this again.
+    /// The source has more than `stream_max` bytes. Each later call returns this again.
     #[error("the stream is longer than its limit")]
     TooMuch,
-    /// Memory ran out. Each later call answers this again.
+    /// Out of memory. Each later call returns this again.
     #[error("out of memory")]
     NoMemory,
 }
@@ -72,7 +72,7 @@ impl From<AllocError> for LineFault {
     }
 }
 
-/// Where a reader stands.
+/// The state of a reader.
 #[derive(Clone, Copy)]
 enum State {
     Reading,
@@ -81,8 +81,8 @@ enum State {
     NoMemory,
 }
 
-/// Reads the lines of a source, whatever parts the source gives. Lines are numbered from 1. A line
-/// ends at a line feed, or at the end of the source where it is not empty. (Own)
+/// Reads the lines of a source, whatever parts the source gives. Lines are numbered from 1.
+/// A line ends at a line feed. A last line without one ends at the end, if it is not empty.
 #[derive(Drop)]
 pub struct Lines {
     line_max: u32,
@@ -119,7 +119,7 @@ impl Model for Lines {
 }
 
 impl Lines {
-    /// A reader before its first line. It takes no memory until the first `next`. (Own)
+    /// A reader before its first line. It takes no memory until the first `next`.
     pub fn new(alloc: Global, line_max: u32, stream_max: u64) -> Lines
         ensures reader { result ≡ record {
           line_max = line_max;
@@ -148,9 +148,9 @@ impl Lines {
         }
     }
 
-    /// Reads on to the next line. After an error, `text` and `number` are those of the line before. (Own)
+    /// Reads the next line. An error leaves `text` and `number` unchanged.
     pub fn next<S: Source>(&mut self, source: &mut S) -> Result<Line, LineFault>
-        // whatever the stream is and was, with this line the lines given are those of what came of it
+        // for every stream: with this line, the lines given are those of the bytes read
         ensures reads { (bytes : List ℕ) (given : List (Option (List ℕ))) →
             HasRead bytes self.old (S.left source.old) given →
             HasRead bytes self.new (S.left source.new) (given ++ line_given result self.new) }
@@ -160,10 +160,10 @@ impl Lines {
         ensures bounded { IsBounded self.new }
         ensures answer { IsAnswer self.old self.new result }
         ensures counts { CountsFaults (result ≡ Err LineFault.ReadFault) (S.faults source.old) (S.faults source.new) }
-        // a reader that has stopped, or has a line ahead, asks the source for nothing
+        // a reader that has stopped, or has a whole line in its buffer, does not call the source
         ensures stopped { IsStopped self.old → (self.new ≡ self.old) × (source.new ≡ source.old) }
         ensures asks { has_feed self.old.ahead ≡ true → source.new ≡ source.old }
-        // and passes over that line
+        // and returns that line
         ensures passes { has_feed self.old.ahead ≡ true → Passes self.old self.new result }
     {
         match self.state {
@@ -179,7 +179,7 @@ impl Lines {
         answer
     }
 
-    /// The line of the last `Whole`, without its line feed; empty before the first. (Own)
+    /// The line of the last `Whole`, without its line feed; empty before the first.
     pub fn text(&self) -> &[u8]
         ensures line { result.now ≡ self.now.text }
         ensures fits { length result.now ≤ self.now.line_max }
@@ -187,14 +187,14 @@ impl Lines {
         &self.text
     }
 
-    /// The bytes that were read and not looked at yet. (Own)
+    /// The bytes that were read and not examined yet.
     pub fn ahead(&self) -> &[u8]
         ensures { result.now ≡ self.now.ahead }
     {
         self.ahead.as_slice()
     }
 
-    /// The number, from 1, of the line of the last `Whole` or `TooLong`; 0 before the first. (Own)
+    /// The number, from 1, of the line of the last `Whole` or `TooLong`; 0 before the first.
     pub fn number(&self) -> u64
         ensures { result ≡ self.now.number }
     {
@@ -220,7 +220,7 @@ impl Lines {
         }
     }
 
-    /// The line that ends in what is ahead. Where none does, all that is ahead joins the line begun.
+    /// The line that ends in the buffer. Without one, the whole buffer joins the current line.
     fn line_ahead(&mut self) -> Result<Option<Line>, NoMemory>
         requires { IsReading self.old }
         ensures looks { LooksAhead self.old self.new result }
@@ -257,7 +257,7 @@ impl Lines {
         self.begun.finish(&mut self.text)
     }
 
-    /// Reads once, when nothing is ahead. Answers how many bytes came, 0 at the end.
+    /// Reads once, into an empty buffer. Returns how many bytes came, 0 at the end.
     fn take_more<S: Source>(&mut self, source: &mut S) -> Result<usize, LineFault>
         requires reading { IsReading self.old }
         requires looked { self.old.ahead ≡ [] }
@@ -273,7 +273,7 @@ impl Lines {
         Ok(count)
     }
 
-    /// Looks for a byte beyond the limit.
+    /// Checks for a byte beyond the limit.
     fn look_beyond<S: Source>(&mut self, source: &mut S) -> Result<usize, LineFault>
         requires reading { IsReading self.old }
         requires looked { self.old.ahead ≡ [] }

@@ -9,7 +9,7 @@ use super::source::{ReadFault, Source};
 use std::alloc::Global;
 use std::marker::Model;
 
-/// A source of the bytes of a slice, which never fails. (Own)
+/// A source of the bytes of a slice; it never fails.
 #[derive(Debug, Drop)]
 pub struct MemorySource<'a> {
     rest: &'a [u8],
@@ -28,7 +28,7 @@ impl<'a> Model for MemorySource<'a> {
 }
 
 impl<'a> MemorySource<'a> {
-    /// One read gives at most `part` bytes. (Own)
+    /// One read gives at most `part` bytes.
     pub fn new(bytes: &'a [u8], part: usize) -> Self
         requires { 0 < part }
         ensures { result ≡ record { left = bytes.now; part = part } }
@@ -56,7 +56,7 @@ impl Source for MemorySource<'_> {
     }
 }
 
-/// A source of the bytes of a slice, which fails at the calls whose numbers, from 0, it lists. (Own)
+/// A source of the bytes of a slice. It fails at the calls in a list of numbers, from 0.
 #[derive(Debug, Drop)]
 pub struct FaultySource<'a> {
     inner: MemorySource<'a>,
@@ -80,7 +80,7 @@ impl<'a> Model for FaultySource<'a> {
 }
 
 impl<'a> FaultySource<'a> {
-    /// One read gives at most `part` bytes. (Own)
+    /// One read gives at most `part` bytes.
     pub fn new(bytes: &'a [u8], part: usize, failing: &'a [u64]) -> Self
         requires { 0 < part }
         ensures { result ≡ record { left = bytes.now; part = part; failing = failing.now; calls = 0; faults = 0 } }
@@ -121,7 +121,7 @@ impl Source for FaultySource<'_> {
     }
 }
 
-/// A sink that keeps the bytes, and never fails but for want of memory. (Own)
+/// A sink that keeps the bytes. It fails only when it is out of memory.
 #[derive(Debug, Drop)]
 pub struct MemorySink {
     bytes: Vec<u8>,
@@ -136,7 +136,7 @@ impl Model for MemorySink {
 }
 
 impl MemorySink {
-    /// An empty sink. (Own)
+    /// An empty sink.
     pub fn new(alloc: Global) -> Self
         ensures { result ≡ [] }
     {
@@ -145,7 +145,7 @@ impl MemorySink {
         }
     }
 
-    /// The bytes taken. (Own)
+    /// The bytes that the sink took.
     pub fn as_slice(&self) -> &[u8]
         ensures { result.now ≡ self.now }
     {
@@ -168,7 +168,7 @@ impl Sink for MemorySink {
     }
 }
 
-/// A sink that keeps the bytes, and fails at the calls whose numbers, from 0, it lists. (Own)
+/// A sink that keeps the bytes. It fails at the calls in a list of numbers, from 0.
 #[derive(Debug, Drop)]
 pub struct FaultySink<'a> {
     inner: MemorySink,
@@ -196,7 +196,7 @@ impl<'a> Model for FaultySink<'a> {
 }
 
 impl<'a> FaultySink<'a> {
-    /// One write takes at most `part` bytes. (Own)
+    /// One write takes at most `part` bytes.
     pub fn new(alloc: Global, part: usize, failing: &'a [u64]) -> Self
         requires { 0 < part }
         ensures { result ≡ record { bytes = []; part = part; failing = failing.now; calls = 0; faults = 0 } }
@@ -210,7 +210,7 @@ impl<'a> FaultySink<'a> {
         }
     }
 
-    /// The bytes taken. (Own)
+    /// The bytes that the sink took.
     pub fn as_slice(&self) -> &[u8]
         ensures { result.now ≡ self.now.bytes }
     {

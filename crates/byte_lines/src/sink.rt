@@ -4,17 +4,17 @@ ghost use Rattle.std.specs.Io.KnownBytes.{append_known};
 ghost use Rattle.byte_lines.specs.Faults.{CountsFaults};
 ghost use Rattle.byte_lines.specs.Sinks.{IsWrite};
 
-use coin_frac::NoMemory;
+use no_memory::NoMemory;
 use std::alloc::AllocError;
 use thiserror::Error;
 
-/// Why bytes were not taken. (Own)
+/// Why bytes were not taken.
 #[derive(Clone, Copy, Debug, PartialEq, Eq, Error)]
 pub enum SinkFault {
     /// A write failed, and the sink's count of faults rose.
     #[error("a write failed")]
     WriteFault,
-    /// A sink that grows found no memory.
+    /// Out of memory.
     #[error("out of memory")]
     NoMemory,
 }
@@ -39,22 +39,22 @@ impl From<AllocError> for SinkFault {
     }
 }
 
-/// A sink for bytes. (Own)
+/// A sink for bytes.
 pub trait Sink {
-    // the bytes taken, where it tells them: it tells them for its whole life, or never
+    // the bytes taken, if the sink reports them: for its whole life, or never
     ghost taken: { Self → Option (List ℕ) };
 
     // how many writes failed; it never falls
     ghost faults: { Self → ℕ };
 
-    /// Takes the first bytes of `piece`, at least one, and answers how many.
+    /// Takes the first bytes of `piece`, at least one, and returns how many.
     fn write(&mut self, piece: &[u8]) -> Result<usize, SinkFault>
         requires { 0 < length piece.now }
         ensures { IsWrite (taken self.old) (taken self.new) (faults self.old) (faults self.new) piece.now result };
 }
 
-/// Hands the whole piece to the sink. After an error the sink has taken a prefix of it; an empty
-/// piece asks the sink for nothing. (Own)
+/// Writes the whole piece. An error leaves a prefix of it in the sink.
+/// An empty piece does not call the sink.
 pub fn put_all<K: Sink>(sink: &mut K, piece: &[u8]) -> Result<(), SinkFault>
     ensures ok { OnOk result (K.taken sink.new ≡ append_known (K.taken sink.old) piece.now) }
     ensures err { OnErr result ((n : ℕ) × (n < length piece.now)

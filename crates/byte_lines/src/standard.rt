@@ -11,8 +11,8 @@ use std::io::{Read, Write};
 use std::marker::Model;
 use std::snapshot::Snapshot;
 
-/// A source that reads from `reader`, with one read for each. It tells the bytes that the reader tells, if the reader
-/// tells them when the source is made, and else none. It counts each error. (Own)
+/// A source over `reader`: each read is one read of it. It counts each error.
+/// It reports the bytes that the reader reports, if the reader did so when the source was made.
 #[derive(Drop)]
 pub struct ReaderSource<R: Read> {
     reader: R,
@@ -34,7 +34,7 @@ impl<R: Read> Model for ReaderSource<R> {
 }
 
 impl<R: Read> ReaderSource<R> {
-    /// A source over a reader, with no fault counted. (Own)
+    /// A source over a reader, with no fault counted.
     pub fn new(reader: R) -> Self
         ensures { result ≡ record { left = R.remaining reader; faults = 0 } }
     {
@@ -68,9 +68,9 @@ impl<R: Read> Source for ReaderSource<R> {
     }
 }
 
-/// A sink that writes to `writer`, and flushes it each time. It tells the bytes that the writer tells, if the writer
-/// tells them when the sink is made, and else none; but for those whose flush failed, after which each write fails. It
-/// counts each error, and each write of nothing as one. (Own)
+/// A sink over `writer`, with a flush after each write. It counts each error and empty write.
+/// It reports the bytes that the writer reports, if the writer did so when the sink was made.
+/// Bytes whose flush failed are not reported, and after that each write fails.
 #[derive(Drop)]
 pub struct WriterSink<W: Write> {
     writer: W,
@@ -93,7 +93,7 @@ impl<W: Write> Model for WriterSink<W> {
 }
 
 impl<W: Write> WriterSink<W> {
-    /// A sink over a writer, with no fault counted. (Own)
+    /// A sink over a writer, with no fault counted.
     pub fn new(writer: W) -> Self
         ensures { result ≡ record { taken = W.contents writer; faults = 0 } }
     {
@@ -106,7 +106,7 @@ impl<W: Write> WriterSink<W> {
         }
     }
 
-    /// Writes and flushes: how many bytes were written, none where either failed or nothing was.
+    /// Writes and flushes. Returns how many bytes; none if either failed or nothing was written.
     fn write_through(&mut self, piece: &[u8]) -> Option<usize>
         ensures count { IfSome result (λ n. (0 < n) × (n ≤ length piece.now)) }
         ensures took { IfSome result (λ n. self.new.taken ≡ append_known self.old.taken (take n piece.now)) }

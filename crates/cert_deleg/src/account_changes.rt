@@ -4,9 +4,9 @@ ghost use Rattle.ledger_model.specs.Changes.{new_account};
 ghost use Rattle.tx_records.specs.declared.cert.Cert.TheVariants.{Delegate};
 
 use book_records::Registered;
-use coin_frac::NoMemory;
 use gov_ids::{Credential, Drep, PoolId};
 use live_ledger::Draft;
+use no_memory::NoMemory;
 
 /// What is stored for a new account: the deposit that is due, and no balance.
 pub fn new_account(d: &Draft, pool: Option<PoolId>, drep: Option<Drep>) -> Registered

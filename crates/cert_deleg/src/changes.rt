@@ -7,8 +7,8 @@ ghost use Rattle.ledger_model.specs.Checks.{first_among};
 use crate::account_changes::{delegate, new_account};
 use crate::pool_changes::{register, retire};
 use book_records::PoolTerms;
-use coin_frac::NoMemory;
 use live_ledger::Draft;
+use no_memory::NoMemory;
 use tx_records::Cert;
 
 /// What a certificate of an account or a pool changes, if it breaks no rule.
@@ -27,7 +27,7 @@ pub fn change(d: &mut Draft, c: &Cert) -> Result<(), NoMemory>
             ..
         } => {
             let registered = new_account(d, pool, drep);
-            // (an account that comes was not registered)
+            // the new account was not registered
             d.change_account(cred, None, Some(registered))?;
             Ok(())
         }

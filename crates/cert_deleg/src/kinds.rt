@@ -3,7 +3,8 @@ ghost use Rattle.cert_deleg.specs.Kinds.{is_account_or_pool_cert};
 
 use tx_records::Cert;
 
-/// Whether a certificate registers an account, ends it or delegates, or registers a pool or retires it: `cert` asks for it. (Own)
+/// Whether `cert` takes a certificate: one that registers, ends or delegates an account, or that
+/// registers or retires a pool.
 pub fn is_account_or_pool_cert(c: &Cert) -> bool
     ensures { result ≡ is_account_or_pool_cert c.now }
 {

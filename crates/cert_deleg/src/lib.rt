@@ -28,7 +28,9 @@ use live_ledger::Draft;
 use rule_checks::{answer_at, as_fault};
 use tx_records::{Cert, Tx, TxFault};
 
-/// Empties each account that a transaction withdraws from, or refuses with the first broken rule of a withdrawal and its place. The rules look at the ledger before the transaction. (CERTS of the formal specification; that the vote delegation is that of the ledger before the transaction is own)
+/// Empties each account of a withdrawal, or refuses with the first broken rule and its index.
+/// The rules read the ledger before the transaction. (CERTS of the formal specification; that the
+/// vote delegation is that of the ledger before the transaction is own)
 pub fn withdraw(d: &mut Draft, tx: &Tx) -> Result<(), TxFault>
     requires within { is_within_limits tx.now ≡ true }
     requires few { d.old.changes ≤ 2 ^ 31 }
@@ -43,7 +45,9 @@ pub fn withdraw(d: &mut Draft, tx: &Tx) -> Result<(), TxFault>
     Ok(())
 }
 
-/// Registers an account, ends it or delegates for it, or registers a pool or retires it, as the certificate at this place says, or refuses with the first rule that it breaks. (DELEG and POOL of the formal specification)
+/// Registers, ends or delegates an account, or registers or retires a pool, as the certificate at
+/// this index says, or refuses with the first rule that it breaks.
+/// (DELEG and POOL of the formal specification)
 pub fn cert(d: &mut Draft, place: u32, c: &Cert) -> Result<(), TxFault>
     requires kind { is_account_or_pool_cert c.now ≡ true }
     requires few { d.old.changes ≤ 2 ^ 31 }

@@ -4,11 +4,12 @@ ghost use Rattle.ledger_model.specs.Ledger.{is_pool};
 ghost use Rattle.tx_records.specs.declared.cert.Cert.TheVariants.{PoolReg, PoolRetire};
 
 use book_records::PoolTerms;
-use coin_frac::NoMemory;
 use gov_ids::PoolId;
 use live_ledger::Draft;
+use no_memory::NoMemory;
 
-/// A pool is registered and pays the deposit that is due, or it has these terms from the next boundary on, pays nothing and does not retire.
+/// A new pool is registered and pays the deposit that is due; an old one gets these terms at the
+/// next boundary, pays nothing and does not retire.
 pub fn register(d: &mut Draft, pool: PoolId, terms: PoolTerms) -> Result<(), NoMemory>
     requires few { d.old.changes < 2 ^ 32 }
     ensures ok { OnOk result
@@ -19,7 +20,7 @@ pub fn register(d: &mut Draft, pool: PoolId, terms: PoolTerms) -> Result<(), NoM
     d.register_pool(pool, terms, due)
 }
 
-/// A registered pool retires with an epoch, in place of an earlier choice.
+/// A registered pool retires with an epoch, instead of one that it chose before.
 pub fn retire(d: &mut Draft, pool: PoolId, epoch: u64) -> Result<(), NoMemory>
     requires few { d.old.changes < 2 ^ 32 }
     requires registered { is_pool d.old.ledger pool ≡ true }

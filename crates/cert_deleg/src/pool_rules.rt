@@ -41,7 +41,7 @@ fn is_key_in_use(d: &Draft, pool: &PoolId, key: Option<[u8; 32]>) -> bool
     }
 }
 
-/// The rules on the retirement of a pool: it is registered, and the epoch is above the current one by 1 to eMax.
+/// The rules on a pool's retirement: it is registered, and the epoch is 1 to eMax after this one.
 pub fn check_retirement(d: &Draft, pool: &PoolId, epoch: u64) -> Result<(), Rule>
     ensures { result ≡ answer_of (cert_checks d.now.start d.now.ledger (PoolRetire pool.now epoch)) }
 {

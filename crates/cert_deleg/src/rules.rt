@@ -9,7 +9,7 @@ use book_records::PoolTerms;
 use live_ledger::Draft;
 use tx_records::{Cert, Rule};
 
-/// The first rule that a certificate of an account or a pool breaks, if there is one; its place is not told yet.
+/// The first rule that a certificate of an account or a pool breaks, if any, without its index.
 pub fn check_cert(d: &Draft, c: &Cert) -> Result<(), Rule>
     requires { is_account_or_pool_cert c.now ≡ true }
     ensures { result ≡ answer_of (cert_checks d.now.start d.now.ledger c.now) }

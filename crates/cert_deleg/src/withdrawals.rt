@@ -5,9 +5,9 @@ ghost use Rattle.ledger_model.specs.Checks.{answer_of, per_place};
 ghost use Rattle.tx_records.specs.TxLimits.{is_within_limits};
 
 use book_records::Registered;
-use coin_frac::NoMemory;
 use gov_ids::{Account, CredKind, Credential};
 use live_ledger::{Draft, LiveLedger};
+use no_memory::NoMemory;
 use rule_checks::{ItemRules, check_each};
 use tx_records::rules::{
     WITHDRAWAL_NO_ACCOUNT, WITHDRAWAL_NOT_DELEGATED, WITHDRAWAL_NOT_WHOLE, WITHDRAWAL_WRONG_NETWORK,

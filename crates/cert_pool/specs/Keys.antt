@@ -20,19 +20,19 @@ count_of_others key p pools = length (filter (λ e. not (same_pool e.0 p) && use
 abbrev pub count_of : List (PoolId × Pool) → List ℕ → ℕ
 count_of pools key = length (filter (λ e. uses_key key e.1) pools)
 
--- how many a single pool is: one or none
+-- how many of this one pool have the key: one or none
 abbrev pub count_in : List ℕ → Pool → ℕ
 count_in key p = if uses_key key p then 1 else 0
 
--- what stands at an id, if a pool does
+-- one if there is a pool that has the key, otherwise none
 abbrev pub count_in_option : List ℕ → Option Pool → ℕ
 count_in_option key p = amount (count_in key) p
 
--- how many keys a stated key is: one or none
+-- one if this key is stated, otherwise none
 abbrev pub count_in_key : List ℕ → Option (List ℕ) → ℕ
 count_in_key key stated = if holds same_hash stated key then 1 else 0
 
--- the second key, where it is not the first
+-- the second key, if it is not the first
 abbrev pub another : Option (List ℕ) → Option (List ℕ) → Option (List ℕ)
 another None second = second
 another (Some first) None = None
@@ -40,11 +40,11 @@ another (Some first) (Some second) = if same_hash first second then None else So
 
 -- ---- what is kept
 
--- by the bytes
+-- keys in order of their bytes
 abbrev pub key_cmp : List ℕ → List ℕ → Ordering
 key_cmp = slice_cmp nat_cmp
 
--- the count that is kept of a key, 0 where there is none
+-- the count that is kept of a key; 0 if there is none
 abbrev pub count_at : List (List ℕ × ℕ) → List ℕ → ℕ
 count_at counts key = unwrap_or (value_at key_cmp counts key) 0
 
@@ -52,7 +52,7 @@ count_at counts key = unwrap_or (value_at key_cmp counts key) 0
 abbrev pub AreCounted : List (PoolId × Pool) → List (List ℕ × ℕ) → Type 0
 AreCounted pools counts = (key : List ℕ) → count_at counts key ≡ count_of pools key
 
--- the pools stand in order, and each key has its count
+-- the pools are in order, and each key has its count
 pub record IsIndexed (pools : List (PoolId × Pool)) (counts : List (List ℕ × ℕ)) : Type 0 where
   pub in_order : IsMap pool_cmp pools
   pub counted : AreCounted pools counts

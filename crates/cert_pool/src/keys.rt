@@ -2,12 +2,12 @@ ghost use Rattle.std.specs.Prelude.{◌≡◌, ◌+◌, ◌-◌, ℕ, List, [], 
 ghost use Rattle.cert_pool.specs.Keys.{another, count_at, count_in, count_in_key, count_in_option};
 
 use book_records::Pool;
-use coin_frac::NoMemory;
+use no_memory::NoMemory;
 use std::alloc::Global;
 use std::collections::BTreeMap;
 use std::marker::Model;
 
-/// How many pools have each key, in their terms or their future terms; one that none has stands in no entry. (Own)
+// How many pools have each key, in their terms or their future terms. A count of 0 has no entry.
 #[derive(Debug, Drop)]
 pub(crate) struct KeyCounts {
     counts: BTreeMap<[u8; 32], u64>,
@@ -42,7 +42,8 @@ impl KeyCounts {
         self.counts.get(key).copied().unwrap_or(0)
     }
 
-    /// One pool more has its keys. Want of memory changes no count; a count past 64 bits is more than any memory holds.
+    /// Counts the pool's keys once more. `NoMemory` changes no count.
+    /// A count above 64 bits, too, is `NoMemory`: no memory holds so many pools.
     pub fn add(&mut self, pool: &Pool) -> Result<(), NoMemory>
         ensures ok { OnOk result ((key : List ℕ) → count_at self.new key ≡ count_at self.old key + count_in key pool.now) }
         ensures err { OnErr result ((key : List ℕ) → count_at self.new key ≡ count_at self.old key) }
@@ -56,7 +57,7 @@ impl KeyCounts {
         Ok(())
     }
 
-    /// One pool less has its keys, if there is a pool. It takes no memory.
+    /// Counts the keys of the pool, if there is one, once less. It takes no memory.
     pub fn take(&mut self, pool: Option<Pool>)
         ensures { (key : List ℕ) → count_at self.new key ≡ count_at self.old key - count_in_option key pool }
     {
@@ -67,7 +68,7 @@ impl KeyCounts {
         }
     }
 
-    /// One pool more has this key, if there is one. Want of memory changes nothing.
+    // Counts the key, if there is one, once more. `NoMemory` changes nothing.
     fn raise(&mut self, key: Option<[u8; 32]>) -> Result<(), NoMemory>
         ensures ok { OnOk result ((k : List ℕ) → count_at self.new k ≡ count_at self.old k + count_in_key k key) }
         ensures err { OnErr result (self.new ≡ self.old) }
@@ -79,7 +80,7 @@ impl KeyCounts {
         Ok(())
     }
 
-    /// One pool less has this key, if there is one.
+    // Counts the key, if there is one, once less.
     fn lower(&mut self, key: Option<[u8; 32]>)
         ensures { (k : List ℕ) → count_at self.new k ≡ count_at self.old k - count_in_key k key }
     {
@@ -88,7 +89,7 @@ impl KeyCounts {
         }
     }
 
-    /// One pool less has this key.
+    // Counts the key once less.
     fn lower_at(&mut self, key: &[u8; 32])
         ensures { (k : List ℕ) → count_at self.new k ≡ count_at self.old k - count_in_key k (Some key.now) }
     {
@@ -101,7 +102,7 @@ impl KeyCounts {
     }
 }
 
-/// The keys that a pool has: that of its terms, and that of its future terms where it is another.
+// The keys of a pool: that of its terms, and that of its future terms if it is another.
 fn keys_of(pool: &Pool) -> (Option<[u8; 32]>, Option<[u8; 32]>)
     ensures { (key : List ℕ) → count_in key pool.now ≡ count_in_key key result.0 + count_in_key key result.1 }
 {
@@ -112,7 +113,7 @@ fn keys_of(pool: &Pool) -> (Option<[u8; 32]>, Option<[u8; 32]>)
     }
 }
 
-/// The second key, where it is not the first.
+// The second key, if it is not the first.
 fn another(first: Option<[u8; 32]>, second: Option<[u8; 32]>) -> Option<[u8; 32]>
     ensures { result ≡ another first second }
 {

@@ -13,15 +13,17 @@ ghost use Rattle.cert_pool.specs.Keys.{AreCounted, count_in_option, count_of_oth
 ghost use Rattle.cert_pool.specs.Reaping.{reaped_of, left_of};
 
 pub use book_records::{Pool, PoolTerms};
-use coin_frac::NoMemory;
 use gov_ids::{Account, PoolId};
 use keys::KeyCounts;
 use maps::keys_past;
+use no_memory::NoMemory;
 use std::alloc::Global;
 use std::collections::BTreeMap;
 use std::marker::Model;
 
-/// The registered pools in the order of their ids. How many of them have a key is kept beside them, so that no pool is walked for it. (PState of the formal specification; that they are counted is own)
+/// The registered pools in order of their ids. A count of pools is kept for each key.
+/// So no question about a key looks at the pools.
+/// (PState of the formal specification; that they are counted is own)
 #[derive(Debug)]
 pub struct PoolBook {
     alloc: Global,
@@ -29,7 +31,7 @@ pub struct PoolBook {
     keys: KeyCounts,
 }
 
-// What lets it go stands here once: a derived one is proved again, part by part, in each crate above.
+// A derived drop would be proved again, part by part, in each crate above.
 impl Drop for PoolBook {
     fn drop(self) {
         let PoolBook {
@@ -59,7 +61,7 @@ pub struct Reaped {
     pub pool: PoolId,
     /// What its first registration paid, in lovelace.
     pub deposit: u64,
-    /// The reward account of the terms that hold, to which the deposit goes.
+    /// The reward account of the terms in force, to which the deposit goes.
     pub account: Account,
 }
 
@@ -75,7 +77,7 @@ impl PoolBook {
         }
     }
 
-    /// The pool of an id, none where it is not registered. (PState of the formal specification)
+    /// The pool of an id, if it is registered. (PState of the formal specification)
     pub fn get(&self, p: &PoolId) -> Option<Pool>
         ensures value { result ≡ value_at pool_cmp self.now p.now }
         ensures in_order { IsMap pool_cmp self.now }
@@ -83,7 +85,8 @@ impl PoolBook {
         self.pools.get(p).copied()
     }
 
-    /// Whether a pool other than `p` has this key, in its terms or its future terms. No pool is walked for it. (Own)
+    /// Whether a pool other than `p` has this key, in its terms or its future terms.
+    /// It looks at `p` alone, and at the count of the key.
     pub fn key_of_other(&self, key: &[u8; 32], p: &PoolId) -> bool
         ensures value { result ≡ is_key_of_other key.now p.now self.now }
         ensures in_order { IsMap pool_cmp self.now }
@@ -91,7 +94,8 @@ impl PoolBook {
         self.count_of_others(key, p) > 0
     }
 
-    /// How many pools other than `p` have this key, in their terms or their future terms. No pool is walked for it. (Own)
+    /// How many pools other than `p` have this key, in their terms or their future terms.
+    /// It looks at `p` alone, and at the count of the key.
     pub fn count_of_others(&self, key: &[u8; 32], p: &PoolId) -> u64
         ensures count { result ≡ count_of_others key.now p.now self.now }
         ensures in_order { IsMap pool_cmp self.now }
@@ -99,7 +103,7 @@ impl PoolBook {
         self.keys.of(key) - count_in(self.get(p), key)
     }
 
-    /// What the id has becomes `to`. Want of memory changes nothing. (Own)
+    /// Sets the pool of an id, or removes it. `NoMemory` leaves the book unchanged.
     pub fn restore(&mut self, p: PoolId, to: Option<Pool>) -> Result<(), NoMemory>
         ensures ok { OnOk result (self.new ≡ with_option pool_cmp p to self.old) }
         ensures err { OnErr result (self.new ≡ self.old) }
@@ -113,7 +117,7 @@ impl PoolBook {
         }
     }
 
-    /// What the id has is forgotten. It takes no memory. (Own)
+    /// Removes the pool of an id, if there is one. It takes no memory.
     pub fn forget(&mut self, p: &PoolId)
         ensures { self.new ≡ without_key pool_cmp p.now self.old }
     {
@@ -121,7 +125,9 @@ impl PoolBook {
         self.keys.take(forgotten);
     }
 
-    /// Registers a pool with its deposit, in lovelace, and its terms; of a registered pool they become the future terms, its retirement is cancelled, and its deposit stays. It gives whether this is the first registration. Want of memory changes nothing. (POOL of the formal specification)
+    /// Registers a pool and returns whether it is the first registration; `deposit` is in lovelace.
+    /// A registered pool gets future terms, no longer retires, and keeps its deposit.
+    /// `NoMemory` leaves the book unchanged. (POOL of the formal specification)
     pub fn register(&mut self, p: PoolId, terms: PoolTerms, deposit: u64) -> Result<bool, NoMemory>
         ensures first { IfOk result (λ r. r ≡ is_none (value_at pool_cmp self.old p)) }
         ensures ok { OnOk result (self.new ≡ with_registration p terms deposit self.old) }
@@ -133,7 +139,8 @@ impl PoolBook {
         Ok(first)
     }
 
-    /// The pool retires with the epoch that is named: that epoch begins without it. A pool that is not registered stays so. (POOL of the formal specification)
+    /// Lets a pool retire: the named epoch begins without it. An unregistered id changes nothing.
+    /// (POOL of the formal specification)
     pub fn retire(&mut self, p: &PoolId, epoch: u64)
         ensures { self.new ≡ with_retirement p.now epoch self.old }
     {
@@ -142,7 +149,9 @@ impl PoolBook {
         }
     }
 
-    /// The future terms take effect, and then the pools that retire with the epoch leave. It gives these in order of their ids. Want of memory changes nothing. (POOLREAP of the formal specification)
+    /// Puts future terms in force, then removes the pools that retire with the epoch.
+    /// Returns these in order of their ids. `NoMemory` leaves the book unchanged.
+    /// (POOLREAP of the formal specification)
     pub fn reap(&mut self, epoch: u64) -> Result<Vec<Reaped>, NoMemory>
         ensures reaped { IfOk result (λ r. r.items ≡ reaped_of epoch self.old) }
         ensures left { OnOk result (self.new ≡ left_of epoch self.old) }
@@ -158,7 +167,7 @@ impl PoolBook {
         Ok(reaped)
     }
 
-    /// With each pool of another book in place of what its id had. (Own)
+    /// Sets each pool of the other book, which replaces what its id had.
     pub fn with_all(self, changed: PoolBook) -> Result<PoolBook, NoMemory>
         ensures { IfOk result (λ after. after ≡ with_values pool_cmp changed self) }
     {
@@ -174,7 +183,8 @@ impl PoolBook {
         Ok(book)
     }
 
-    /// The first pool past an id, or the first of all, in the order of ids; none at the end. (PState of the formal specification)
+    /// The next pool in order of ids after this one, or the first of all.
+    /// (PState of the formal specification)
     pub fn next(&self, after: Option<&PoolId>) -> Option<(PoolId, Pool)>
         ensures value { result ≡ entry_after pool_cmp (option_map (λ p. p.now) after.entry) self.now }
         ensures in_order { IsMap pool_cmp self.now }
@@ -183,7 +193,7 @@ impl PoolBook {
         Some((*p, *pool))
     }
 
-    /// The ids of the pools in their order, in one walk. (PState of the formal specification)
+    /// The ids of the pools, in order. (PState of the formal specification)
     pub fn ids(&self, alloc: Global) -> Result<Vec<PoolId>, NoMemory>
         ensures value { IfOk result (λ l. l.items ≡ keys_of self.now) }
         ensures in_order { IsMap pool_cmp self.now }
@@ -191,7 +201,7 @@ impl PoolBook {
         Ok(self.pools.keys().copied().collect(alloc)?)
     }
 
-    // A pool in place of what the id had.
+    // Sets the pool of an id.
     fn put(&mut self, p: PoolId, pool: Pool) -> Result<(), NoMemory>
         ensures ok { OnOk result (self.new ≡ with_value pool_cmp p pool self.old) }
         ensures err { OnErr result (self.new ≡ self.old) }
@@ -222,7 +232,7 @@ impl PoolBook {
         Ok(reaped)
     }
 
-    // How many have each key of the pools that do not retire with the epoch, by the terms that take effect then.
+    // The counts of keys of the pools that stay at the epoch, by the terms then in force.
     fn keys_left(&self, epoch: u64) -> Result<KeyCounts, NoMemory>
         ensures { IfOk result (λ counts. AreCounted (left_of epoch self.now) counts) }
     {
@@ -236,7 +246,9 @@ impl PoolBook {
     }
 }
 
-/// What a registration with its terms and its deposit, in lovelace, makes of what the id had: a new pool, or the known one with these as its future terms and no retirement. (POOL of the formal specification)
+/// The pool after a registration; the deposit is in lovelace. A new pool has these terms.
+/// A known pool gets them as future terms, no longer retires, and keeps its deposit.
+/// (POOL of the formal specification)
 pub fn registered(known: Option<Pool>, terms: PoolTerms, deposit: u64) -> Pool
     ensures { result ≡ pool_after deposit terms known }
 {
@@ -255,7 +267,7 @@ pub fn registered(known: Option<Pool>, terms: PoolTerms, deposit: u64) -> Pool
     }
 }
 
-// One where there is a pool that has the key, in its terms or its future terms, and else none.
+// One if there is a pool that has the key, in its terms or its future terms; otherwise none.
 fn count_in(pool: Option<Pool>, key: &[u8; 32]) -> u64
     ensures { result ≡ count_in_option key.now pool }
 {
@@ -272,7 +284,7 @@ fn uses_key(pool: &Pool, key: &[u8; 32]) -> bool
     has_key(&pool.terms, key) || pool.future.is_some_and(|terms| has_key(&terms, key))
 }
 
-// Whether the key stands in the terms.
+// Whether the terms have the key.
 fn has_key(terms: &PoolTerms, key: &[u8; 32]) -> bool
     ensures { result ≡ is_key_of key.now terms.now }
 {

@@ -1,4 +1,5 @@
--- The text of a certificate: what was frozen, the stakes of DReps, and for each proposal who counted for what and what came of it. (Own)
+-- The text of a certificate: the frozen parts, the stakes of DReps,
+-- and for each proposal the parts of its counts and its verdict. (Own)
 use Rattle.std.specs.Prelude.{ℕ, List, [], ◌∷◌, ◌++◌, codes, decimal, flat_map, map, zip}
 use Rattle.gov_ids.specs.declared.PoolId.{PoolId}
 use Rattle.gov_ids.specs.Spelling.{action_id_text, pool_text}
@@ -18,7 +19,7 @@ use Rattle.certificate_model.specs.Parts.{part_words, parts_of}
 
 -- ---- the snapshot
 
--- the epoch that ends, with the version and the treasury of its beginning
+-- the epoch that ends, with the version and the treasury at its beginning
 abbrev pub certificate_words : Snapshot → List Text
 certificate_words f =
     codes "certificate" ∷ codes "epoch" ∷ decimal f.epoch ∷ codes "version" ∷ version_text f.start.version ∷
@@ -46,7 +47,7 @@ snapshot_lines f =
     ++ map account_words f.entries
     ++ flat_map whole_proposal_lines f.proposals
 
--- ---- what is made of it
+-- ---- the results
 
 -- the counts, the needs and the verdict of a proposal
 abbrev pub verdict_words : Tally → List Text
@@ -55,7 +56,7 @@ verdict_words t =
     ++ flat_map (λ x. role_words (x.0, x.1.0, x.1.1)) (zip role_texts (zip t.counts t.needs))
     ++ verdict_text t.verdict ∷ []
 
--- who counts for what on a proposal, and what comes of it
+-- the parts of the counts of a proposal, and its verdict
 abbrev pub claim_of_proposal : Snapshot → Proposal × Tally → List (List Text)
 claim_of_proposal f (a, t) = map (part_words a) (parts_of f a) ++ verdict_words t ∷ []
 

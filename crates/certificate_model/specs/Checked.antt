@@ -1,4 +1,4 @@
--- The certificates of a run, and what a checker answers to certificates. (Own)
+-- The certificates of a run, and the answers of a checker. (Own)
 use Rattle.std.specs.Prelude.{◌≡◌, ℕ, ◌+◌, ◌↔◌, Bool, true, false, List, [], ◌∷◌, ◌++◌, Option, Some, None, bytes_eq, codes, if◌then◌else◌}
 use Rattle.std.specs.List.{onto_first}
 use Rattle.tx_records.specs.declared.genesis.Genesis.{Genesis}
@@ -29,12 +29,12 @@ abbrev pub certificate_by : Option Rule → World → Record → Text
 certificate_by None w (records.Block slot pulse) = certificate_of_block w slot
 certificate_by _ w r = []
 
--- what a reading gives
+-- the certificate of a reading
 abbrev pub certificate_of_reading : World → Reading → Text
 certificate_of_reading w (Read r) = certificate_by (refusal_of w r) w r
 certificate_of_reading w _ = []
 
--- what readings give
+-- the certificates of readings
 abbrev pub certificates_from : World → List (ℕ × Reading) → Text
 certificates_from w [] = []
 certificates_from w (r ∷ rs) = certificate_of_reading w r.1 ++ certificates_from (world_after_reading w r.1) rs
@@ -44,7 +44,8 @@ abbrev pub certificates_by : Option GenesisRule → Genesis → List (ℕ × Rea
 certificates_by (Some rule) g rs = None
 certificates_by None g rs = Some (certificates_from (world_of_genesis g) rs)
 
--- the certificates of a run, one a boundary, where the run begins with a genesis that breaks no genesis rule
+-- the certificates of a run, one a boundary
+-- none, unless the run begins with a genesis that breaks no genesis rule
 abbrev pub certificates_of_readings : List (ℕ × Reading) → Option Text
 certificates_of_readings ((n, Read (records.Genesis g)) ∷ rs) = certificates_by (genesis_fault g) g rs
 certificates_of_readings _ = None
@@ -66,7 +67,7 @@ pub record IsCertificate (lines : List Text) : Type 0 where
   pub fits : Fits snapshot
   pub text : lines ≡ joined_lines (certificate_lines snapshot)
 
--- the answer is yes exactly where they are one
+-- the answer is yes if and only if the lines are a certificate
 abbrev pub Answers : List Text → Bool → Type 0
 Answers lines answer = (answer ≡ true) ↔ IsCertificate lines
 

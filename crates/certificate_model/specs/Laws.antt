@@ -21,11 +21,11 @@ use Rattle.certificate_model.specs.Parts.{Part, committee_parts, drep_parts, poo
 abbrev pub yes_of : List Part → ℕ
 yes_of ps = sum_by (λ (p : Part). p.weight) (filter (λ (p : Part). is_yes p.side) ps)
 
--- and those that are not on Abstain
+-- the weights of parts that are not on Abstain
 abbrev pub total_of : List Part → ℕ
 total_of ps = sum_by (λ (p : Part). p.weight) (filter (λ (p : Part). not (is_abstain p.side)) ps)
 
--- the parts that are printed of each role add up to what the role counts: yes and total
+-- the printed parts of each role add up to the role's counts: yes and total
 abbrev pub PartsAreTheCounts : Type 0
 PartsAreTheCounts = (f : Snapshot) (a : Proposal) →
     ((yes_of (weighty (committee_parts f a)), total_of (weighty (committee_parts f a))) ≡ vote_count role.Committee f a)
@@ -37,7 +37,8 @@ abbrev pub VerdictsAreOfOneList : Type 0
 VerdictsAreOfOneList = (f : Snapshot) → Fits f →
     IsRatified f (ratified_of f) × ((others : List ActionId) → IsRatified f others → others ≡ ratified_of f)
 
--- a checker answers yes to the certificate of what is frozen of every World that records reach, where that has the form of the formats and no line is too long
+-- a checker answers yes to the certificate of the frozen parts of every World that records reach,
+-- if these have the form of the formats and no line is too long
 abbrev pub ReachedIsCertified : Type 0
 ReachedIsCertified = (w : World) → IsReached w → is_snapshot w.frozen ≡ true → are_short_lines (certificate_lines w.frozen) ≡ true →
     (answer : Bool) → Answers (joined_lines (certificate_lines w.frozen)) answer → answer ≡ true

@@ -1,4 +1,5 @@
--- What each voter brings to the count of a proposal: its weight and its side. (Own; weights and sides are those of the count)
+-- What each voter adds to the count of a proposal: its weight and its side.
+-- (Own; weights and sides are those of the count)
 use Rattle.std.specs.Prelude.{ℕ, List, [], ◌∷◌, ◌++◌, codes, decimal, filter, filter_map, map, nat_le, nat_lt, option_map, unwrap_or}
 use Rattle.gov_ids.specs.declared.Credential.{Credential}
 use Rattle.gov_ids.specs.declared.Drep.{Drep}
@@ -15,7 +16,7 @@ use Rattle.gov_model.specs.Stake.{drep_stake, pool_stake}
 use Rattle.text_model.specs.ActionWords.{vote_text}
 use Rattle.text_model.specs.Words.{Text}
 
--- what a voter brings: the role and the name as they are printed, the weight, and the side
+-- a voter's part: the role and the name as printed, the weight, and the side
 pub record Part : Type 0 where
   pub role : Text
   pub name : Text
@@ -55,14 +56,14 @@ pool_part f a p = record { role = codes "pool"; name = pool_text p; weight = poo
 abbrev pub pool_parts : Snapshot → Proposal → List Part
 pool_parts f a = map (λ m. pool_part f a m.0) f.mark
 
--- those that weigh
+-- the parts with a weight above 0
 abbrev pub weighty : List Part → List Part
 weighty ps = filter (λ (p : Part). nat_lt 0 p.weight) ps
 
--- all that weigh, role after role
+-- all parts with a weight above 0, role after role
 abbrev pub parts_of : Snapshot → Proposal → List Part
 parts_of f a = weighty (committee_parts f a) ++ weighty (drep_parts f a) ++ weighty (pool_parts f a)
 
--- the words of one
+-- the words of a part
 abbrev pub part_words : Proposal → Part → List Text
 part_words a p = codes "part" ∷ action_id_text a.id ∷ p.role ∷ p.name ∷ decimal p.weight ∷ vote_text p.side ∷ []

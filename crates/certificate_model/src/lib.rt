@@ -1,2 +1,2 @@
-//! Certificates: the text of what an epoch froze with all that its pass made of it, which snapshots one may be of, and what a checker answers.
+//! Certificates: the text of a frozen epoch and its pass, which snapshots fit, checkers' answers.
 #![tactic(auto)]

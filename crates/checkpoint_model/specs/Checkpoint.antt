@@ -1,4 +1,4 @@
--- The text of a World and a line: the state, the used ids, the live actions, and what is frozen. (Own)
+-- The text of a World and a line: state, used ids, live actions and frozen parts. (Own)
 use Rattle.std.specs.Prelude.{ℕ, List, [], ◌∷◌, ◌++◌, codes, decimal, flat_map, map}
 use Rattle.gov_ids.specs.declared.TxId.{TxId}
 use Rattle.gov_ids.specs.Spelling.{action_id_text, hash_text}
@@ -10,7 +10,7 @@ use Rattle.text_forms.specs.Snapshots.{action_words, expiry_words, pool_account_
 use Rattle.text_model.specs.StateLines.{account_words, hot_words, state_lines, vote_words}
 use Rattle.text_model.specs.Words.{Text}
 
--- the first line: the version of the text, the line that was read last, what never changes, and the count
+-- the first line: version of the text, number of the last line read, constants, and the count
 abbrev pub checkpoint_words : World → ℕ → List Text
 checkpoint_words w line =
     codes "checkpoint" ∷ codes "1" ∷ codes "line" ∷ decimal line ∷ codes "network" ∷ decimal w.ledger.network ∷
@@ -21,15 +21,15 @@ checkpoint_words w line =
 abbrev pub used_words : TxId → List Text
 used_words t = codes "used" ∷ hash_text t.0 ∷ []
 
--- a line of what is frozen
+-- a line of a frozen part
 abbrev pub frozen : List Text → List Text
 frozen words = codes "frozen" ∷ words
 
--- a frozen proposal with its votes; what else it has is that of the live one
+-- a frozen proposal with its votes; the rest of it is as in the live one
 abbrev pub frozen_proposal_lines : Proposal → List (List Text)
 frozen_proposal_lines p = (codes "proposal" ∷ action_id_text p.id ∷ []) ∷ map (vote_words p) p.votes
 
--- what is frozen, but for what the live state shows
+-- the frozen parts, except what the live state shows
 abbrev pub frozen_lines : Snapshot → List (List Text)
 frozen_lines f = map frozen (
     (codes "treasury" ∷ decimal f.start.treasury ∷ []) ∷ []

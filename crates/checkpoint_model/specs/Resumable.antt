@@ -1,4 +1,5 @@
--- When a World is sound to be resumed: what every World that records reach keeps, said of what its checkpoint shows. (Own)
+-- When a World is sound to be resumed: what every World that records reach keeps.
+-- It is said of what the checkpoint shows. (Own)
 use Rattle.std.specs.Prelude.{◌≡◌, ℕ, ◌+◌, ◌/◌, ◌^◌, ◌==◌, Bool, true, ◌&&◌, ◌||◌, List, [], filter, is_some, map, nat_le, nat_lt}
 use Rattle.std.specs.List.{list_all}
 use Rattle.maps.specs.Maps.{has_member, sum_values}
@@ -18,7 +19,7 @@ use Rattle.gov_model.specs.Lineage.{may_follow}
 use Rattle.gov_model.specs.Proposals.{deposits_of}
 use Rattle.gov_model.specs.Ratified.{ids_of, is_one_of}
 use Rattle.gov_model.specs.Snapshot.{entry_count}
-use Rattle.tx_records.specs.declared.limits.TheConstants.{SUPPLY_LIMIT}
+use Rattle.coin_frac.specs.declared.TheConstants.{SUPPLY_LIMIT}
 use Rattle.tx_records.specs.declared.record.Rewards.{Rewards}
 use Rattle.tx_records.specs.Limits.{is_network, is_slot, is_u32, is_u64}
 use Rattle.ledger_model.specs.Ledger.{Ledger, is_drep, is_pool}
@@ -42,7 +43,7 @@ has_plain_form l =
     is_network l.network && nat_lt 0 l.epoch_length && is_u32 l.epoch_length && is_u64 l.supply && is_slot l.slot
     && is_u64 l.dormant && is_u64 l.reserves && is_u64 l.fees && is_u64 l.donations
 
--- its lists stand in order, each name once, and what they hold has the form of the formats
+-- its lists are in order, each name once, and their contents have the form of the formats
 abbrev pub has_book_form : Ledger → Bool
 has_book_form l =
     is_map outref_cmp l.outputs && list_all books.is_output l.outputs
@@ -69,7 +70,8 @@ has_form w =
 abbrev pub is_timed : Ledger → Bool
 is_timed l = l.epoch == l.slot / l.epoch_length
 
--- dormant epochs are none while a proposal is live, and no more than the epochs; each expiry is within its bound
+-- no epoch is dormant while a proposal is live, nor are more dormant than epochs ended;
+-- each expiry is within its bound
 abbrev pub is_within_dormant_bound : Ledger → Bool
 is_within_dormant_bound l =
     (l.dormant == 0 || is_empty l.proposals) && nat_le l.dormant l.epoch
@@ -96,7 +98,7 @@ uses_ids l =
     list_all (λ (o : OutRef × Output). has_member txid_cmp l.used o.0.tx) l.outputs
     && list_all (λ (p : Proposal). has_member txid_cmp l.used p.id.tx) l.proposals
 
--- each proposal with a purpose names the last enacted action of it, or an earlier live proposal of it
+-- each proposal with a purpose names its last enacted action or an earlier live proposal of it
 abbrev pub are_chained : Ledger → Bool
 are_chained l = list_all (λ p. may_follow p.0 l.state.last p.1.action) (with_fronts l.proposals)
 
@@ -107,11 +109,12 @@ abbrev pub is_covered : Ledger → Rewards → Bool
 is_covered l u =
     u.epoch == l.epoch && rewards_in u == rewards_out u && nat_le u.from_reserves l.reserves && nat_le u.from_fees l.fees
 
--- the stakes of a snapshot of pools are together at most the supply
+-- the stakes of a snapshot of pools add up to at most the supply
 abbrev pub are_within : ℕ → List (PoolId × ℕ) → Bool
 are_within supply stakes = nat_le (sum_values (λ n. n) stakes) supply
 
--- so are the snapshots of pools, each by itself, the noted fees, and what frozen entries hold with the deposits of the frozen proposals
+-- each is at most the supply: each snapshot of pools, the noted fees,
+-- and what frozen entries hold with the deposits of the frozen proposals
 abbrev pub is_within_supply : World → Bool
 is_within_supply w =
     are_within w.ledger.supply w.mark && are_within w.ledger.supply w.set && are_within w.ledger.supply w.go
@@ -145,12 +148,13 @@ pub record IsResumable (w : World) : Type 0 where
   pub within : is_within_supply w ≡ true
   pub entries : list_all is_counted_entry w.frozen.entries ≡ true
   pub counted : nat_le w.counted (entry_count w.frozen) ≡ true
-  -- what is frozen is of this epoch, with its mark, and still stands: what can be enacted but for the treasury, which has not lost
+  -- the frozen parts are of this epoch, with its mark
+  -- the frozen state is the current one, except for the treasury, which has not lost
   pub epoch : w.frozen.epoch ≡ w.ledger.epoch
   pub mark : w.frozen.mark ≡ w.mark
   pub state : w.frozen.start ≡ record w.ledger.state { treasury = w.frozen.start.treasury }
   pub treasury : nat_le w.frozen.start.treasury w.ledger.state.treasury ≡ true
-  -- the frozen proposals are live, in the same order, and at most their votes have changed
+  -- the frozen proposals are live and in the same order; at most their votes have changed
   pub proposals : map unvoted (live_of w.frozen.proposals w.ledger.proposals) ≡ map unvoted w.frozen.proposals
-  -- no line of a checkpoint is too long; the number of the line is on the first one alone
+  -- no line of a checkpoint is too long; only the first one has the number of the line
   pub short : are_short_lines (checkpoint_lines w 0) ≡ true

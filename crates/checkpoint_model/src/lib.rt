@@ -1,2 +1,2 @@
-//! Checkpoints: the text of a World and a line, when a World is sound to be resumed, and the text of what a resume writes.
+//! Checkpoints: their text, when a World is sound to be resumed, and the text of a resume.
 #![tactic(auto)]

@@ -1,4 +1,3 @@
 pub mod Fraction
-pub mod Memory
 pub mod Reaches
 pub mod Totals

@@ -1,4 +1,4 @@
--- When a part of a total reaches a threshold. (CIP-1694, Ratification; the accepted ratio of RATIFY)
+-- Whether a part of a total reaches a threshold. (CIP-1694, Ratification; accepted ratio of RATIFY)
 use Rattle.std.specs.Prelude.{ℕ, ◌*◌, ◌≡◌, ◌⊎◌, ◌<◌, ◌≤◌, Bool, ◌||◌, ◌&&◌, ◌==◌, nat_lt, nat_le}
 use Rattle.coin_frac.specs.Fraction.{Fraction}
 
@@ -6,6 +6,6 @@ use Rattle.coin_frac.specs.Fraction.{Fraction}
 abbrev pub Reaches : ℕ → ℕ → Fraction → Type 0
 Reaches part total t = (t.num ≡ 0) ⊎ ((0 < total) × (t.num * total ≤ part * t.den))
 
--- the same as a test
+-- `Reaches` as a test
 abbrev pub reaches : ℕ → ℕ → Fraction → Bool
 reaches part total t = (t.num == 0) || (nat_lt 0 total && nat_le (t.num * total) (part * t.den))

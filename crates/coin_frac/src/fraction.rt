@@ -5,7 +5,8 @@ ghost use Rattle.coin_frac.specs.Reaches.{Reaches, reaches};
 use std::marker::Model;
 use thiserror::Error;
 
-/// A fraction from 0 to 1, as a threshold or a margin: `num / den`, not reduced. (UnitInterval of the formal specification)
+/// A fraction from 0 to 1, for thresholds and margins: `num / den`, not reduced.
+/// (UnitInterval of the formal specification)
 #[derive(Clone, Copy, Debug, PartialEq, Eq)]
 pub struct Unit {
     num: u64,
@@ -25,7 +26,7 @@ impl Model for Unit {
     ghost inverse = { λ f. record { num = f.num; den = f.den } };
 }
 
-/// Any fraction: `num / den`, not reduced. (ℚ of the formal specification, kept as it is written)
+/// Any fraction: `num / den`, not reduced. (ℚ of the formal specification)
 #[derive(Clone, Copy, Debug, PartialEq, Eq)]
 pub struct Ratio {
     num: u64,
@@ -45,13 +46,13 @@ impl Model for Ratio {
     ghost inverse = { λ f. record { num = f.num; den = f.den } };
 }
 
-/// Why two numbers make no fraction. (Own)
+/// Why two numbers are no fraction.
 #[derive(Clone, Copy, Debug, PartialEq, Eq, Error)]
 pub enum FracFault {
     /// The denominator is 0.
     #[error("the denominator is 0")]
     ZeroDen,
-    /// The fraction is above 1, where one from 0 to 1 is asked for.
+    /// The fraction is above 1, and the type allows 0 to 1.
     #[error("the fraction is above 1")]
     AboveOne,
 }
@@ -72,14 +73,14 @@ impl Unit {
         Ok(Unit { num, den })
     }
 
-    /// The number above the line.
+    /// The numerator.
     pub fn num(&self) -> u64
         ensures { result ≡ self.now.num }
     {
         self.num
     }
 
-    /// The number below the line.
+    /// The denominator.
     pub fn den(&self) -> u64
         ensures value { result ≡ self.now.den }
         ensures positive { 1 ≤ result }
@@ -102,14 +103,14 @@ impl Ratio {
         Ok(Ratio { num, den })
     }
 
-    /// The number above the line.
+    /// The numerator.
     pub fn num(&self) -> u64
         ensures { result ≡ self.now.num }
     {
         self.num
     }
 
-    /// The number below the line.
+    /// The denominator.
     pub fn den(&self) -> u64
         ensures value { result ≡ self.now.den }
         ensures positive { 1 ≤ result }
@@ -118,7 +119,8 @@ impl Ratio {
     }
 }
 
-/// Whether `yes` of `total` reaches the threshold. (CIP-1694, Ratification; RATIFY of the formal specification)
+/// Whether `yes` of `total` reaches the threshold.
+/// (CIP-1694, Ratification; RATIFY of the formal specification)
 pub fn reaches(yes: u64, total: u64, threshold: Unit) -> bool
     ensures fact { IsTrue result ↔ Reaches yes total threshold }
     ensures test { result ≡ reaches yes total threshold }

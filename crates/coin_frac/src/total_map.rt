@@ -7,7 +7,8 @@ use std::alloc::Global;
 use std::collections::BTreeMap;
 use std::marker::Model;
 
-/// Amounts by key, with a running total. Contracts see it as the list of its entries in the order of keys. (Own)
+/// Amounts by key, with a running total.
+/// Contracts see the list of its entries in the order of keys.
 #[derive(Debug, Drop)]
 pub struct TotalMap<K: Ord> {
     amounts: BTreeMap<K, u64>,
@@ -27,7 +28,7 @@ impl<K: Ord> Model for TotalMap<K> {
 }
 
 impl<K: Copy + Ord> TotalMap<K> {
-    /// A map with no entries. (Own)
+    /// A map with no entries.
     pub fn new(alloc: Global) -> TotalMap<K>
         ensures { result ≡ [] }
     {
@@ -37,7 +38,7 @@ impl<K: Copy + Ord> TotalMap<K> {
         }
     }
 
-    /// The same entries once more. (Own)
+    /// A copy of the map.
     pub fn copied(&self, alloc: Global) -> Result<TotalMap<K>, NoMemory>
         ensures { IfOk result (λ copy. copy ≡ self.now) }
     {
@@ -51,7 +52,7 @@ impl<K: Copy + Ord> TotalMap<K> {
         })
     }
 
-    /// The amount at a key, 0 where there is none. (Own)
+    /// The amount at a key, 0 without an entry.
     pub fn get(&self, k: &K) -> u64
         ensures value { result ≡ unwrap_or (value_at K.cmp self.now k.now) 0 }
         ensures in_order { IsMap K.cmp self.now }
@@ -59,7 +60,8 @@ impl<K: Copy + Ord> TotalMap<K> {
         self.amounts.get(k).copied().unwrap_or(0)
     }
 
-    /// Puts an amount at a key, in place of what was there; a 0 is kept as any other amount. Want of memory changes nothing. (Own)
+    /// Inserts an amount at a key, or replaces it; an entry may hold 0.
+    /// `NoMemory` leaves the map unchanged.
     pub fn put(&mut self, k: K, v: u64) -> Result<(), NoMemory>
         requires fits { total_of (with_value K.cmp k v self.old) < 2 ^ 64 }
         ensures ok { OnOk result (self.new ≡ with_value K.cmp k v self.old) }
@@ -70,7 +72,7 @@ impl<K: Copy + Ord> TotalMap<K> {
         Ok(())
     }
 
-    /// Changes the amount of a key that is there. It takes no memory. (Own)
+    /// Replaces the amount of a key that has an entry. It takes no memory.
     pub fn set(&mut self, k: &K, v: u64)
         requires present { has_key K.cmp self.old k.now ≡ true }
         requires fits { total_of (with_value K.cmp k.now v self.old) < 2 ^ 64 }
@@ -83,7 +85,7 @@ impl<K: Copy + Ord> TotalMap<K> {
         }
     }
 
-    /// Takes the entry at a key away and gives its amount, 0 where there is none. (Own)
+    /// Removes the entry at a key and returns its amount, 0 without an entry.
     pub fn take(&mut self, k: &K) -> u64
         ensures value { result ≡ unwrap_or (value_at K.cmp self.old k.now) 0 }
         ensures rest { self.new ≡ without_key K.cmp k.now self.old }
@@ -93,7 +95,7 @@ impl<K: Copy + Ord> TotalMap<K> {
         taken
     }
 
-    /// The sum of the amounts. (Own)
+    /// The sum of the amounts.
     pub fn total(&self) -> u64
         ensures sum { result ≡ total_of self.now }
         ensures in_order { IsMap K.cmp self.now }

@@ -36,7 +36,7 @@ held_at kept h = held_in (value_at credential_cmp kept h)
 abbrev pub AreHeld : List (Credential × HotState) → List (Credential × BTreeSet Credential) → Type 0
 AreHeld hot kept = (h : Credential) → held_at kept h ≡ holders_of hot h
 
--- the entries stand in order, and each hot key has its cold keys
+-- the entries are in order, and each hot key has its cold keys
 pub record IsIndexed (hot : List (Credential × HotState)) (kept : List (Credential × BTreeSet Credential)) : Type 0 where
   pub in_order : IsMap credential_cmp hot
   pub held : AreHeld hot kept

@@ -7,14 +7,14 @@ ghost use Rattle.maps.specs.Maps.{with_key, without_member};
 ghost use Rattle.maps.specs.Words.{some_and};
 ghost use Rattle.committee_book.specs.Holders.{held_at, held_in, is_left};
 
-use coin_frac::NoMemory;
 use gov_actions::HotState;
 use gov_ids::Credential;
+use no_memory::NoMemory;
 use std::alloc::Global;
 use std::collections::{BTreeMap, BTreeSet};
 use std::marker::Model;
 
-/// The cold keys that have each hot key; one that none has stands in no entry. (Own)
+/// The cold keys of each hot key; a hot key without any has no entry.
 #[derive(Debug, Drop)]
 pub(crate) struct Holders {
     alloc: Global,
@@ -59,7 +59,7 @@ impl Holders {
         }
     }
 
-    /// A cold key has this. Want of memory changes nothing.
+    /// The cold key gets this entry. `NoMemory`: unchanged.
     pub fn add(&mut self, cold: Credential, s: HotState) -> Result<(), NoMemory>
         ensures ok { OnOk result ((h : Credential) → held_at self.new h ≡
             (if is_hot_key h s then with_key credential_cmp cold (held_at self.old h) else held_at self.old h)) }
@@ -71,7 +71,7 @@ impl Holders {
         }
     }
 
-    /// A cold key has this hot key. Want of memory changes nothing.
+    /// The cold key gets this hot key. `NoMemory`: unchanged.
     fn put(&mut self, hot: Credential, cold: Credential) -> Result<(), NoMemory>
         ensures ok { OnOk result ((h : Credential) → held_at self.new h ≡
             (if same_credential hot h then with_key credential_cmp cold (held_at self.old h) else held_at self.old h)) }

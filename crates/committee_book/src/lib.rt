@@ -14,23 +14,25 @@ ghost use Rattle.committee_book.specs.Holders.{AreHeld, IsIndexed, entries_besid
 
 mod holders;
 
-use coin_frac::NoMemory;
 use gov_actions::{Committee, HotState};
 use gov_ids::Credential;
 use holders::{Holders, is_hot_key};
 use maps::keys_past;
+use no_memory::NoMemory;
 use std::alloc::Global;
 use std::collections::BTreeMap;
 use std::marker::Model;
 
-/// The hot key or the resignation of each cold key that has one, in the order of cold keys. Which cold keys have each hot key is kept beside them, so that no other entry is walked for it. (GState of the formal specification: ccHotKeys; that they are kept is own)
+/// The hot key or the resignation of each cold key that has one, in the order of cold keys.
+/// An index of the cold keys of each hot key saves a scan of the entries.
+/// (GState of the formal specification: ccHotKeys; the index is own)
 #[derive(Debug)]
 pub struct HotBook {
     entries: BTreeMap<Credential, HotState>,
     holders: Holders,
 }
 
-// What lets it go stands here once: a derived one is proved again, part by part, in each crate above.
+// The drop is proved here once; a derived one is proved again, part by part, in each crate above.
 impl Drop for HotBook {
     fn drop(self) {
         let HotBook {
@@ -64,7 +66,7 @@ impl HotBook {
         }
     }
 
-    /// What a cold key has authorized, none where there is nothing. (GState of the formal specification)
+    /// What a cold key has authorized, if anything. (GState of the formal specification)
     pub fn get(&self, cold: &Credential) -> Option<HotState>
         ensures value { result ≡ value_at credential_cmp self.now cold.now }
         ensures in_order { IsMap credential_cmp self.now }
@@ -72,7 +74,8 @@ impl HotBook {
         self.entries.get(cold).copied()
     }
 
-    /// A hot key or a resignation in place of what the cold key had. Want of memory changes nothing. (GOVCERT of the formal specification)
+    /// A hot key or a resignation replaces what the cold key had. `NoMemory`: unchanged.
+    /// (GOVCERT of the formal specification)
     pub fn set(&mut self, cold: Credential, s: HotState) -> Result<(), NoMemory>
         ensures ok { OnOk result (self.new ≡ with_value credential_cmp cold s self.old) }
         ensures err { OnErr result (self.new ≡ self.old) }
@@ -86,7 +89,7 @@ impl HotBook {
         Ok(())
     }
 
-    /// What a cold key authorized is forgotten. It takes no memory. (EPOCH of the formal specification)
+    /// Forgets what a cold key authorized. It takes no memory. (EPOCH of the formal specification)
     pub fn forget(&mut self, cold: &Credential)
         ensures { self.new ≡ without_key credential_cmp cold.now self.old }
     {
@@ -94,7 +97,7 @@ impl HotBook {
         self.holders.take(cold, forgotten);
     }
 
-    /// What the cold key has becomes `to`. Want of memory changes nothing. (Own)
+    /// What the cold key has becomes `to`. `NoMemory`: unchanged.
     pub fn restore(&mut self, cold: Credential, to: Option<HotState>) -> Result<(), NoMemory>
         ensures ok { OnOk result (self.new ≡ with_option credential_cmp cold to self.old) }
         ensures err { OnErr result (self.new ≡ self.old) }
@@ -108,7 +111,7 @@ impl HotBook {
         }
     }
 
-    /// With each entry of another book in place of what its cold key had. (Own)
+    /// Each entry of another book replaces what its cold key had.
     pub fn with_all(self, changed: HotBook) -> Result<HotBook, NoMemory>
         ensures { IfOk result (λ after. after ≡ with_values credential_cmp changed self) }
     {
@@ -123,7 +126,7 @@ impl HotBook {
         Ok(book)
     }
 
-    /// Whether a cold key has this hot key: it may vote for the committee. (GOV of the formal specification)
+    /// Whether a cold key has this hot key, so that it may vote. (GOV of the formal specification)
     pub fn names_hot(&self, hot: &Credential) -> bool
         ensures named { result ≡ is_named self.now hot.now }
         ensures in_order { IsMap credential_cmp self.now }
@@ -131,7 +134,7 @@ impl HotBook {
         self.holders.count(hot) > 0
     }
 
-    /// How many cold keys have this hot key. (Own)
+    /// How many cold keys have this hot key.
     pub fn count_of(&self, hot: &Credential) -> u64
         ensures count { result ≡ count_of self.now hot.now }
         ensures in_order { IsMap credential_cmp self.now }
@@ -139,7 +142,9 @@ impl HotBook {
         self.holders.count(hot)
     }
 
-    /// Whether a member has this hot key, where the entries of cold keys that have one among the changed do not count. It walks the cold keys that have it or the members, whichever are fewer. (GOV of the formal specification; the changed are own)
+    /// Whether a member has this hot key; entries of cold keys with one in `changed` do not count.
+    /// It scans the cold keys that have it or the members, whichever are fewer.
+    /// (GOV of the formal specification; `changed` is own)
     pub fn seats(&self, hot: &Credential, c: Option<&Committee>, changed: Option<&HotBook>) -> bool
         ensures seated { result ≡ is_named (of_members (option_map (λ c. c.now) c.entry)
             (entries_beside (option_map (λ b. b.now) changed.entry) self.now)) hot.now }
@@ -178,7 +183,8 @@ impl HotBook {
         }
     }
 
-    /// Only members keep their entries, and none where there is no committee. (EPOCH of the formal specification)
+    /// Only members keep their entries; without a committee none is left.
+    /// (EPOCH of the formal specification)
     pub fn keep_members(&mut self, c: Option<&Committee>)
         ensures { self.new ≡ of_members (option_map (λ c. c.now) c.entry) self.old }
     {
@@ -186,7 +192,8 @@ impl HotBook {
         self.entries.retain(|cold, _| is_member(c, cold));
     }
 
-    /// The first entry past a cold key, or the first of all, in the order of cold keys; none at the end. (GState of the formal specification)
+    /// The next entry after a cold key, or the first, in the order of cold keys; none at the end.
+    /// (GState of the formal specification)
     pub fn next(&self, after: Option<&Credential>) -> Option<(Credential, HotState)>
         ensures value { result ≡ entry_after credential_cmp (option_map (λ c. c.now) after.entry) self.now }
         ensures in_order { IsMap credential_cmp self.now }
@@ -195,7 +202,7 @@ impl HotBook {
         Some((*cold, *s))
     }
 
-    /// Each cold key with its hot key or its resignation, in the order of cold keys, in one walk. (GState of the formal specification)
+    /// All entries in the order of cold keys, in one scan. (GState of the formal specification)
     pub fn listed(&self, alloc: Global) -> Result<Vec<(Credential, HotState)>, NoMemory>
         ensures value { IfOk result (λ l. l.items ≡ self.now) }
         ensures in_order { IsMap credential_cmp self.now }
@@ -242,7 +249,7 @@ fn has_entry(changed: Option<&HotBook>, cold: &Credential) -> bool
     book.get(cold).is_some()
 }
 
-// The members of the committee, none where there is no committee.
+// The members of the committee; none without a committee.
 fn members_of(c: Option<&Committee>) -> &[(Credential, u64)]
     ensures { result.now ≡ members_of (option_map (λ c. c.now) c.entry) }
 {
@@ -252,7 +259,8 @@ fn members_of(c: Option<&Committee>) -> &[(Credential, u64)]
     }
 }
 
-/// Whether a cold key is a member of the committee, none being one where there is no committee. (CIP-1694, The constitutional committee)
+/// Whether a cold key is a member of the committee; without a committee none is.
+/// (CIP-1694, The constitutional committee)
 pub fn is_member(c: Option<&Committee>, cold: &Credential) -> bool
     ensures { result ≡ is_member (option_map (λ c. c.now) c.entry) cold.now }
 {

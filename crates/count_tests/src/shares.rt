@@ -1,4 +1,4 @@
-//! Any number of workers, from any cursor, gives the stakes that one gives, and each enters the gate once.
+//! From any cursor, any number of workers gets the stakes that one gets; each enters the gate once.
 ghost use Rattle.std.specs.Prelude.{◌≡◌, ◌<◌, ◌≤◌, IfOk};
 ghost use Rattle.gov_ids.specs.Orders.{credential_cmp};
 ghost use Rattle.view_map.specs.View.{frozen_of};
@@ -177,8 +177,7 @@ fn seen(counted: &Counted) -> [u64; 3] {
     ]
 }
 
-// How many accounts there are and are visited before, the workers of `begin` and those that are wanted, those that enter, and
-// what is seen.
+// Accounts, visits before, workers of `begin`, workers wanted, those that enter, and what is seen.
 type Row = (usize, u32, u32, u32, u32, [u64; 3]);
 
 // What one worker alone sees after so many visits.
@@ -197,7 +196,7 @@ fn done(alloc: Global, counting: &Counting) -> Result<u64, NoMemory> {
     Ok(counting.copied(alloc)?.done())
 }
 
-// What these workers see after so many visits, for which so many were reserved, and who entered the gate.
+// What these workers see after so many visits, with so many reserved, and who entered the gate.
 fn shared<R: Threads + Abort + Sync>(
     rt: &R,
     alloc: Global,

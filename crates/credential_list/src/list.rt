@@ -2,17 +2,18 @@ ghost use Rattle.std.specs.Prelude.{◌≡◌, [], IsTrue, ◌↔◌, IfOk, leng
 ghost use Rattle.gov_ids.specs.Same.{same_credential};
 ghost use Rattle.maps.specs.Words.{among};
 
-use coin_frac::NoMemory;
 use gov_ids::Credential;
 use maps::set_of;
+use no_memory::NoMemory;
 use std::alloc::Global;
 use std::collections::BTreeSet;
 use std::marker::Model;
 
-/// The most credentials that are walked: a longer list has a set beside it.
+// The longest list that is searched item by item. A longer one has a set beside it.
 const SHORT: usize = 8;
 
-/// A list of credentials that contracts see as the list of its items. A long one has a set of them from the day it is made, so whether a credential is among them is no walk. (Own)
+/// A list of credentials. Contracts see the list of its items.
+/// A list of more than eight has a set of them, so that `contains` is fast.
 #[derive(Debug, Drop)]
 pub struct CredentialList {
     items: Vec<Credential>,
@@ -33,7 +34,7 @@ impl Model for CredentialList {
 }
 
 impl CredentialList {
-    /// The empty list, which takes no memory. (Own)
+    /// The empty list. It takes no memory.
     pub fn new(alloc: Global) -> Self
         ensures { result ≡ [] }
     {
@@ -43,7 +44,8 @@ impl CredentialList {
         }
     }
 
-    /// The list of these credentials. `NoMemory` may come where there are more than eight; a shorter list takes none. (Own)
+    /// The list of these credentials.
+    /// `NoMemory`: only with more than eight; a shorter list takes no memory.
     pub fn from_vec(alloc: Global, items: Vec<Credential>) -> Result<Self, NoMemory>
         ensures { IfOk result (λ list. list ≡ items.items) }
     {
@@ -57,28 +59,28 @@ impl CredentialList {
         })
     }
 
-    /// The credentials as a slice. (Own)
+    /// The credentials as a slice.
     pub fn as_slice(&self) -> &[Credential]
         ensures { result.now ≡ self.now }
     {
         self.items.as_slice()
     }
 
-    /// How many credentials there are. (Own)
+    /// How many credentials there are.
     pub fn len(&self) -> usize
         ensures { result ≡ length self.now }
     {
         self.items.len()
     }
 
-    /// Whether there is none. (Own)
+    /// Whether the list is empty.
     pub fn is_empty(&self) -> bool
         ensures { IsTrue result ↔ (self.now ≡ []) }
     {
         self.items.is_empty()
     }
 
-    /// Whether a credential is among them. It walks at most eight. (Own)
+    /// Whether a credential is in the list. It compares at most eight, or asks the set.
     pub fn contains(&self, key: &Credential) -> bool
         ensures { result ≡ among same_credential key.now self.now }
     {
@@ -88,7 +90,7 @@ impl CredentialList {
         }
     }
 
-    /// The same list, in memory of its own. (Own)
+    /// A copy in memory of its own.
     pub fn copied(&self, alloc: Global) -> Result<Self, NoMemory>
         ensures { IfOk result (λ copy. copy ≡ self.now) }
     {
@@ -96,7 +98,7 @@ impl CredentialList {
     }
 }
 
-/// Whether a credential is one of these.
+// Whether a credential is one of these.
 fn is_among(items: &[Credential], key: &Credential) -> bool
     ensures { result ≡ among same_credential key.now items.now }
 {

@@ -1,4 +1,4 @@
--- What is kept of the accounts that a draft changed: what a registration that is written, and a DRep that leaves, make of what stands.
+-- The accounts that a draft changed, after a registration is written or a DRep leaves.
 use Rattle.std.proofs.Common.{◌≡◌, ℕ, ◌<◌, ◌≤◌, List, [], ◌∷◌, Bool, true, false, ◌||◌, cond, is_some, map, Option, Some, None, option_map, refl, ap, subst, sym, ◌∙◌}
 use Rattle.std.specs.Prelude.{nat_lt}
 use Rattle.std.specs.declared.cmp.Ordering.{Ordering}
@@ -23,7 +23,7 @@ use Rattle.gov_ids.specs.Same.{same_drep}
 use Rattle.gov_ids.proofs.Exacts.{credential_exact}
 use Rattle.gov_ids.proofs.Totals.{credential_total}
 use Rattle.book_records.specs.declared.Registered.{Registered}
-use Rattle.ledger_model.specs.Changes.{delegates_to_drep, without_drep}
+use Rattle.book_records.specs.Delegations.{delegates_to_drep, without_drep}
 use Rattle.stake_book.specs.Stakes.{delegates_to_dreps}
 use Rattle.stake_book.proofs.Ended.{delegates_named, names_one}
 use Rattle.draft_changes.specs.ChangedAccounts.{ended, has_left_after, standing, standing_of}
@@ -101,7 +101,7 @@ module _ (n : ℕ) where
   late left (Some drep.Abstain) h = refl
   late left (Some drep.NoConfidence) h = refl
 
-  -- what is written after all that left stands
+  -- what is written after all that left remains as written
   pub standing_new : (left : List (Credential × ℕ)) (to : Option Registered) → ((c : Credential) (m : ℕ) → value_at credential_cmp left c ≡ Some m → m ≤ n) → option_map (standing left n) to ≡ to
   standing_new left None h = refl
   standing_new left (Some r) h = ap (λ b. Some (cond b (without_drep r) r)) (late left r.drep h)
@@ -147,7 +147,7 @@ pub standing_first : (left : List (Credential × ℕ)) (to : Option Registered) 
 standing_first left None h = refl
 standing_first left (Some r) h = ap (λ b. Some (cond b (without_drep r) r)) (left_at_all left r.drep h ∙ sym (delegates_named (keys_of left) r))
 
--- ---- all that stands
+-- ---- all registrations without what ended later
 
 abbrev pub stands : List (Credential × ℕ) → Written → Option Registered
 stands left w = option_map (standing left w.number) w.to

@@ -17,12 +17,12 @@ use Rattle.maps.proofs.Ties.{all_tied, is_equal}
 use Rattle.maps.specs.Maps.{IsMap, value_at, with_value, with_values}
 use Rattle.maps.specs.Replaced.{with_option}
 
--- a change that stands decides, and beside it what was there
+-- a change at a key decides there, and elsewhere what was there
 decides : {X : Type 0} (b : Bool) (r : Option X) (s : Option (Option X)) (v : Option X) → unwrap_or (cond b (Some r) s) v ≡ cond b r (unwrap_or s v)
 decides true r s v = refl
 decides false r s v = refl
 
--- a value that is put in decides, and beside it what stands first
+-- a value that is put in decides at its key, and elsewhere what was there first
 put_first : {X : Type 0} (b : Bool) (v : X) (s t : Option X) → option_or (cond b (Some v) s) t ≡ cond b (Some v) (option_or s t)
 put_first true v s t = refl
 put_first false v s t = refl

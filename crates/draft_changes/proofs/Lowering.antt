@@ -21,7 +21,7 @@ use Rattle.book_records.specs.declared.Registered.{Registered}
 use Rattle.book_records.specs.Outputs.{lovelace_in}
 use Rattle.stake_book.specs.Stakes.{HasRoom, Stakes, accounts_of, balances_in}
 use Rattle.utxo_set.specs.Utxos.{Utxos}
-use Rattle.tx_records.specs.declared.limits.TheConstants.{SUPPLY_LIMIT}
+use Rattle.coin_frac.specs.declared.TheConstants.{SUPPLY_LIMIT}
 use Rattle.view_map.specs.View.{frozen_of}
 use Rattle.draft_changes.specs.Balances.{KeepsOutputs, NoneRises, balance_in}
 use Rattle.draft_changes.specs.Changed.{with_registered, with_registrations}
@@ -33,7 +33,7 @@ use Rattle.draft_changes.proofs.Laid.{IsMap-with_option, value_at-with_option, v
 -- ---- maps of which each value is at most that of another at its key
 
 module _ {K X : Type 0} {cmp : K → K → Ordering} (o : IsTotalOrder cmp) (f : X → ℕ) where
-  -- what stands at a key
+  -- the value at a key
   abbrev at : List (K × X) → K → ℕ
   at es q = amount f (value_at cmp es q)
 
@@ -110,7 +110,8 @@ module _ (e : Credential × Option Registered) (changes : List (Credential × Op
 
 -- ---- the book with changes so far
 
--- what is left of the changes, as it stands, laid over the book so far is all laid over the first book; it raises no balance, and there is room
+-- the rest of the changes, laid over the book so far, is all laid over the first book
+-- it raises no balance, and there is room
 pub record IsLaying (left : List (Credential × ℕ)) (all rest : List (Credential × Written)) (first now : Stakes) : Type 0 where
   pub ordered : IsMap credential_cmp rest
   pub in_order : IsMap credential_cmp (accounts_of now)
@@ -126,7 +127,7 @@ laying_begins left all rest first is ordered in_order room lower =
     subst (λ (es : List (Credential × Written)). IsLaying left all es first first) (sym is)
     (record { ordered = ordered; in_order = in_order; room = room; lower = lower; same = refl; kept = record { outputs = refl; frozen = refl } })
 
--- behind the first change they stand in order
+-- after the first change they are in order
 behind_first : (e : Credential × Written) (es : List (Credential × Written)) → IsMap credential_cmp (e ∷ es) → IsMap credential_cmp es
 unfolding IsStrictlySortedBy
 behind_first e es g = g.1

@@ -13,7 +13,7 @@ use Rattle.gov_ids.proofs.Totals.{credential_total, pool_total, voter_total}
 use Rattle.book_records.specs.declared.DrepState.{DrepState}
 use Rattle.book_records.specs.declared.Registered.{Registered}
 use Rattle.book_records.specs.Dormancy.{extended, is_kept_active}
-use Rattle.ledger_model.specs.Changes.{without_drep}
+use Rattle.book_records.specs.Delegations.{without_drep}
 use Rattle.maps.proofs.Kept.{IsMap-changed_where}
 use Rattle.maps.proofs.Lookups.{value_at-changed_where, value_at-entries_where}
 use Rattle.maps.proofs.Several.{value_at-with_values_other}

@@ -10,7 +10,7 @@ use Rattle.maps.specs.Maps.{value_at, with_value}
 use Rattle.draft_changes.specs.Numbered.{AreNumbered}
 use Rattle.draft_changes.specs.declared.account_changes.Written.{Written}
 
--- what stands at a key passes where what was put and what stood there do
+-- the value at a key passes if what was put and the value before do
 passes : {X : Type 0} (P : X → Type 0) (b : Bool) (put x : X) (was : Option X) → P put → (was ≡ Some x → P x) → cond b (Some put) was ≡ Some x → P x
 passes P true put x was p f e = let is : put ≡ x = cc in subst P is p
 passes P false put x was p f e = f e

@@ -80,7 +80,7 @@ module _ {K X : Type 0} (p : K → X → Bool) where
   count-cons : (e : K × X) (es : List (K × X)) → count (e ∷ es) ≡ cond (p e.0 e.1) 1 0 + count es
   count-cons e es = by_test (p e.0 e.1) e (filter (λ (x : K × X). p x.0 x.1) es)
 
-  -- one passes exactly where the count is above 0
+  -- one passes if and only if the count is above 0
   any_counted : (es : List (K × X)) → any p es ≡ nat_lt 0 (count es)
   any_counted [] = refl
   any_counted (e ∷ es) =

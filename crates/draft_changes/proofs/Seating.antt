@@ -1,4 +1,4 @@
--- That a member has a hot key exactly where it is found among what the members have.
+-- A member has a hot key if and only if it is found among what the members have.
 use Rattle.std.proofs.Common.{◌≡◌, List, [], ◌∷◌, Bool, true, false, ◌&&◌, ◌||◌, cond, Option, Some, None, refl, ap, sym, ◌∙◌}
 use Rattle.std.specs.declared.cmp.Ordering.{Ordering}
 use Rattle.std.specs.Ordering.{eq_by_cmp}
@@ -57,7 +57,7 @@ module _ {K X : Type 0} {cmp : K → K → Ordering} (o : IsTotalOrder cmp) (p :
     abbrev is_among : K → Bool
     is_among k = list_any (λ (m : K × M). eq_by_cmp cmp m.0 k) ms
 
-    -- an entry passes whose key is among these, exactly where what one of these has passes
+    -- an entry whose key is among these passes if and only if what one of these has passes
     pub any_among : (es : List (K × X)) → IsMap cmp es
         → list_any (λ (h : K × X). p h.1) (entries_where (λ k x. is_among k) es) ≡ list_any (λ (m : K × M). some_and p (value_at cmp es m.0)) ms
     unfolding IsStrictlySortedBy

@@ -1,4 +1,5 @@
--- What a draft changes, and what changes make of a ledger. (CERTS of the formal specification; that changes are laid over a ledger is own)
+-- What a draft changes, and a ledger with these changes.
+-- (CERTS of the formal specification; that changes are laid over a ledger: Own)
 use Rattle.std.specs.Prelude.{ℕ, Bool, true, false, List, Option, fold, map}
 use Rattle.maps.specs.Maps.{with_values}
 use Rattle.maps.specs.Replaced.{with_option}
@@ -16,18 +17,19 @@ use Rattle.stake_book.specs.Stakes.{without_dreps}
 
 -- what a draft changed
 pub record Changed : Type 0 where
-  -- the registrations, none where an account left
+  -- the registrations; none if an account left
   pub accounts : List (Credential × Option Registered)
-  -- the DReps that left: their votes left, and the delegations to them that are not among these registrations ended
+  -- the DReps that left: their votes left
+  -- and the delegations to them ended, except those of the registrations above
   pub left : List Credential
   pub pools : List (PoolId × Pool)
-  -- the DReps, none where one left, and whether the dormant epochs were added to those before
+  -- the DReps, none if one left; and whether the dormant epochs were added to the others
   pub dreps : List (Credential × Option DrepState)
   pub refreshed : Bool
   -- the hot entries
   pub hot : List (Credential × HotState)
 
--- the registrations with that one for c, or without one
+-- the registrations with that one for c, or without any for c
 abbrev pub with_registered : Credential → Option Registered → List (Credential × Registered) → List (Credential × Registered)
 with_registered c to accounts = with_option credential_cmp c to accounts
 
@@ -39,12 +41,12 @@ with_registrations changes accounts = fold (λ es p. with_registered p.0 p.1 es)
 abbrev pub with_dreps : List (Credential × Option DrepState) → List (Credential × DrepState) → List (Credential × DrepState)
 with_dreps changes dreps = fold (λ es p. with_option credential_cmp p.0 p.1 es) dreps changes
 
--- by whether they were added to the DReps, the dormant epochs that are left
+-- the dormant epochs that remain, by whether they were added to the DReps
 abbrev pub dormant_by : Bool → ℕ → ℕ
 dormant_by true dormant = 0
 dormant_by false dormant = dormant
 
--- and the DReps
+-- the DReps, by the same
 abbrev pub dreps_by : Bool → ℕ → ℕ → List (Credential × DrepState) → List (Credential × DrepState)
 dreps_by true epoch dormant dreps = with_dormant_added epoch dormant dreps
 dreps_by false epoch dormant dreps = dreps

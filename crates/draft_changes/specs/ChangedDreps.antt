@@ -11,27 +11,27 @@ use Rattle.book_records.specs.Dormancy.{extended, is_kept_active}
 use Rattle.drep_book.specs.Dreps.{Dreps}
 use Rattle.draft_changes.specs.Changed.{dormant_by, dreps_by, with_dreps}
 
--- the DReps that changed, none where one left, and whether the dormant epochs were added to those before
+-- the changed DReps, none if one left, and whether the dormant epochs were added to those before
 pub record ChangedDreps : Type 0 where
   pub dreps : List (Credential × Option DrepState)
   pub refreshed : Bool
 
--- with that DRep for c, or without one
+-- adds that DRep for c, or takes c out
 abbrev pub with_change : Credential → Option DrepState → ChangedDreps → ChangedDreps
 with_change c to a = record a { dreps = with_value credential_cmp c to a.dreps }
 
--- a DRep with the dormant epochs added, if it has not expired with them
+-- a DRep with the dormant epochs added, unless it has expired with them
 abbrev pub awakened : ℕ → ℕ → DrepState → DrepState
 awakened epoch dormant s = if is_kept_active epoch dormant s then extended dormant s else s
 
--- with the dormant epochs added, if they are not yet
+-- adds the dormant epochs, if they were not added before
 abbrev pub with_refresh : ℕ → ℕ → ChangedDreps → ChangedDreps
 with_refresh epoch dormant a = if a.refreshed then a else record {
   dreps = each_value (λ c to. option_map (awakened epoch dormant) to) a.dreps;
   refreshed = true;
 }
 
--- each changed expiry with the dormant epochs is a number of 64 bits
+-- each changed expiry with the dormant epochs fits into 64 bits
 abbrev pub AllAddable : ℕ → List (Credential × Option DrepState) → Type 0
 AllAddable dormant dreps =
     AllByRecursion (λ (to : Option DrepState). ForSome to (λ (s : DrepState). s.expiry + dormant < 2 ^ 64)) (values_of dreps)

@@ -1,4 +1,4 @@
--- What the parts of changes come to. (Own)
+-- The changes that parts make together. (Own)
 use Rattle.std.specs.Prelude.{List}
 use Rattle.gov_ids.specs.declared.Credential.{Credential}
 use Rattle.gov_ids.specs.declared.PoolId.{PoolId}
@@ -8,7 +8,7 @@ use Rattle.draft_changes.specs.Changed.{Changed}
 use Rattle.draft_changes.specs.ChangedAccounts.{ChangedAccounts}
 use Rattle.draft_changes.specs.ChangedDreps.{ChangedDreps}
 
--- the changes that these parts are
+-- the changes with these parts
 abbrev pub changed_of : ChangedAccounts → List (PoolId × Pool) → ChangedDreps → List (Credential × HotState) → Changed
 changed_of accounts pools dreps hot = record {
   accounts = accounts.accounts;

@@ -5,7 +5,7 @@ use Rattle.gov_ids.specs.Orders.{pool_cmp}
 use Rattle.book_records.specs.declared.pool.Pool.{Pool}
 use Rattle.draft_changes.specs.Covered.{covered_entries}
 
--- the pools that changed, and those of the ledger that they cover
+-- the changed pools, and the pools of the ledger that they cover
 pub record ChangedPools : Type 0 where
   pub entries : List (PoolId × Pool)
   pub covered : List (PoolId × Pool)
@@ -14,10 +14,10 @@ pub record ChangedPools : Type 0 where
 abbrev pub none_changed : ChangedPools
 none_changed = record { entries = []; covered = [] }
 
--- the pools whose id is among the changed
+-- the pools whose id is among the changed ones
 abbrev pub covered_by : List (PoolId × Pool) → List (PoolId × Pool) → List (PoolId × Pool)
 covered_by changed pools = covered_entries pool_cmp changed pools
 
--- what is covered are pools of this ledger
+-- the covered pools are pools of this ledger
 abbrev pub IsOver : List (PoolId × Pool) → ChangedPools → Type 0
 IsOver pools a = a.covered ≡ covered_by a.entries pools

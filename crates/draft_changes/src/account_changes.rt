@@ -1,7 +1,7 @@
 ghost use Rattle.std.specs.Prelude.{◌≡◌, ◌<◌, ◌^◌, [], true, IfOk, OnOk, OnErr, if◌then◌else◌, option_map, unwrap_or};
 ghost use Rattle.std.specs.Map.{keys_of};
 ghost use Rattle.gov_ids.specs.Orders.{credential_cmp};
-ghost use Rattle.ledger_model.specs.Changes.{without_drep};
+ghost use Rattle.book_records.specs.Delegations.{without_drep};
 ghost use Rattle.draft_changes.specs.Balances.{KeepsOutputs, NoneRises};
 ghost use Rattle.draft_changes.specs.ChangedAccounts.{has_left_after, none_changed, standing, standing_of, with_change, with_leaving};
 ghost use Rattle.draft_changes.specs.Changed.{with_registrations};
@@ -17,16 +17,18 @@ use std::alloc::Global;
 use std::collections::BTreeMap;
 use std::marker::Model;
 
-/// What a change wrote, and its number among the changes, from 1. (Own)
+/// What a change wrote, and its number among the changes, from 1.
 #[derive(Clone, Copy)]
 pub struct Written {
     /// The number of the change.
     pub number: u64,
-    /// The registration, none where it was ended.
+    /// The registration, none if it was ended.
     pub to: Option<Registered>,
 }
 
-/// The accounts that a draft changed. A DRep that leaves ends the delegations to it that were made before, and none that is made later; the numbers of the changes tell these apart, so that no account is walked. (Own)
+/// The accounts that a draft changed.
+/// A DRep that leaves ends the earlier delegations to it, and no later one.
+/// The numbers of the changes distinguish these, without a scan of the accounts.
 #[derive(Drop)]
 pub struct AccountChanges {
     entries: BTreeMap<Credential, Written>,
@@ -64,7 +66,7 @@ fn has_left_after(left: &BTreeMap<Credential, u64>, number: u64, drep: &Option<D
     }
 }
 
-/// A registration that the change of this number wrote, as it stands: without its delegation to a DRep that left later.
+/// What the change of this number wrote, without a delegation to a DRep that left later.
 fn standing(
     left: &BTreeMap<Credential, u64>,
     number: u64,
@@ -91,7 +93,7 @@ impl AccountChanges {
         }
     }
 
-    /// The registration of a credential, which had this one before.
+    /// The registration of a credential that had this one before the draft.
     pub fn latest(&self, c: &Credential, before: Option<Registered>) -> Option<Registered>
         ensures value { result ≡ unwrap_or (value_at credential_cmp self.now.accounts c.now)
             (option_map (λ r. if delegates_to_dreps self.now.left r then without_drep r else r) before) }
@@ -103,7 +105,7 @@ impl AccountChanges {
         }
     }
 
-    /// The registration of a credential becomes `to`. Want of memory changes nothing.
+    /// Sets the registration of a credential to `to`. `NoMemory`: nothing changed.
     pub fn set(&mut self, c: Credential, to: Option<Registered>) -> Result<(), NoMemory>
         requires few { self.old.changes < 2 ^ 32 }
         ensures ok { OnOk result (self.new ≡ with_change c to self.old) }
@@ -116,7 +118,7 @@ impl AccountChanges {
         Ok(())
     }
 
-    /// The DRep of a credential leaves: the delegations to it end. Want of memory changes nothing.
+    /// The DRep of a credential leaves: delegations to it end. `NoMemory`: nothing changed.
     pub fn leave(&mut self, c: Credential) -> Result<(), NoMemory>
         requires few { self.old.changes < 2 ^ 32 }
         ensures ok { OnOk result (self.new ≡ with_leaving c self.old) }
@@ -129,7 +131,7 @@ impl AccountChanges {
         Ok(())
     }
 
-    /// Whether no registration was changed and no DRep left. (Own)
+    /// Whether no registration was changed and no DRep left.
     pub(crate) fn is_none(&self) -> bool
         ensures accounts { result ≡ true → self.now.accounts ≡ [] }
         ensures left { result ≡ true → self.now.left ≡ [] }
@@ -153,7 +155,9 @@ impl AccountChanges {
         names_in(alloc, &self.left)
     }
 
-    /// Lays these changes over the book, none of which raises a balance; `left` are the DReps that left. It walks the accounts of the book where there are any, and else the changed ones alone. After want of memory the caller drops the book.
+    /// Lays these changes over the book; none raises a balance. `left`: the DReps that left.
+    /// It scans the accounts of the book if any DRep left, otherwise the changed ones only.
+    /// After `NoMemory` the caller drops the book.
     pub fn lay_over(self, stake: &mut StakeBook, left: &[Credential]) -> Result<(), NoMemory>
         requires in_order { IsMap credential_cmp (accounts_of stake.old) }
         requires room { HasRoom 0 stake.old }
@@ -181,12 +185,12 @@ fn take_left(stake: &mut StakeBook, left: &[Credential]) -> Result<(), NoMemory>
         return Ok(());
     }
     stake.clear_dreps(left)?;
-    // its accounts stand in order, and there is room
+    // its accounts are in order, and there is room
     let _kept = stake.book();
     Ok(())
 }
 
-/// Puts these registrations as they stand, none of which raises a balance.
+/// Puts these registrations without what ended later; none raises a balance.
 fn put_accounts(
     stake: &mut StakeBook,
     changed: BTreeMap<Credential, Written>,

@@ -7,7 +7,7 @@ use listed::Listed;
 use std::alloc::Global;
 use std::collections::BTreeMap;
 
-/// The names that changes touch, each list in the order of its keys. (Own)
+/// The names that changes touch, each list in the order of its keys.
 #[derive(Drop)]
 pub struct ChangedNames {
     /// The accounts that were registered, changed or left.

@@ -24,7 +24,7 @@ use stake_book::StakeBook;
 use std::alloc::Global;
 use std::marker::Model;
 
-/// What a draft changes. (Own)
+/// What a draft changes.
 #[derive(Drop)]
 pub struct Changes {
     accounts: AccountChanges,
@@ -41,7 +41,7 @@ impl Model for Changes {
 }
 
 impl Changes {
-    /// The changes of these parts. (Own)
+    /// The changes of these parts.
     pub fn of_parts(
         accounts: AccountChanges,
         pools: PoolChanges,
@@ -56,7 +56,7 @@ impl Changes {
         }
     }
 
-    /// The names that these changes touch. (Own)
+    /// The names that these changes touch.
     pub fn names(&self, alloc: Global) -> Result<ChangedNames, NoMemory>
         ensures names { IfOk result (λ names. names ≡ names_of self.now) }
         ensures in_order { OnOk result (AreInOrder (names_of self.now)) }
@@ -72,7 +72,8 @@ impl Changes {
         })
     }
 
-    /// Lays these changes over the books. No change raises a balance, so there is room for all. After want of memory the caller drops the books. (Own)
+    /// Lays these changes over the books. None raises a balance, so there is room for all.
+    /// After `NoMemory` the caller drops the books.
     pub fn lay_over(self, alloc: Global, b: &mut Books) -> Result<(), NoMemory>
         requires stake { IsMap credential_cmp (accounts_of b.old.stake) × HasRoom 0 b.old.stake }
         requires lower { NoneRises self.accounts (without_dreps self.left (accounts_of b.old.stake)) }
@@ -99,7 +100,7 @@ impl Changes {
     }
 }
 
-/// Lays what changed of the accounts over their book, and takes the votes of the DReps that left from the proposals.
+/// Lays the accounts' changes over their book, and removes the votes of the DReps that left.
 fn lay_accounts_over(
     alloc: Global,
     accounts: AccountChanges,

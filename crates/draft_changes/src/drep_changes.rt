@@ -16,7 +16,8 @@ use std::alloc::Global;
 use std::collections::BTreeMap;
 use std::marker::Model;
 
-/// The DReps that a draft changed, and whether it added the dormant epochs. Those of the book before are read with them added, so that no DRep is walked. (Own)
+/// The DReps that a draft changed, and whether it added the dormant epochs.
+/// Reads of the book add these epochs, so that no scan of the DReps is needed.
 #[derive(Drop)]
 pub struct DrepChanges {
     entries: BTreeMap<Credential, Option<DrepState>>,
@@ -35,7 +36,7 @@ impl Model for DrepChanges {
     ghost invariant = { λ a. IsMap credential_cmp a.entries.entries };
 }
 
-/// A DRep with the dormant epochs added, if they are and it has not expired with them.
+/// A DRep with the dormant epochs added, if they are and unless it has expired with them.
 fn awakened(refreshed: bool, drep: Option<DrepState>, epoch: u64, dormant: u64) -> Option<DrepState>
     ensures { ForSome drep (λ s. s.expiry + dormant < 2 ^ 64) →
         result ≡ (if refreshed then option_map (awakened epoch dormant) drep else drep) }
@@ -47,7 +48,7 @@ fn awakened(refreshed: bool, drep: Option<DrepState>, epoch: u64, dormant: u64) 
 }
 
 impl DrepChanges {
-    /// No DRep is changed; where no epoch is dormant, none is left to be added.
+    /// No DRep is changed; `refreshed` if no dormant epoch is left to add.
     pub fn new(alloc: Global, refreshed: bool) -> DrepChanges
         ensures { result ≡ record { dreps = []; refreshed = refreshed } }
     {
@@ -82,14 +83,14 @@ impl DrepChanges {
         self.refreshed
     }
 
-    /// The dormant epochs that are left, over this book.
+    /// The dormant epochs that remain, over this book.
     pub fn dormant(&self, book: &DrepBook) -> u64
         ensures { result ≡ dormant_by self.now.refreshed book.now.dormant }
     {
         if self.refreshed { 0 } else { book.dormant() }
     }
 
-    /// The DRep of a credential becomes `to`. Want of memory changes nothing.
+    /// Sets the DRep of a credential to `to`. `NoMemory`: nothing changed.
     pub fn set(&mut self, c: Credential, to: Option<DrepState>) -> Result<(), NoMemory>
         ensures ok { OnOk result (self.new ≡ with_change c to self.old) }
         ensures err { OnErr result (self.new ≡ self.old) }
@@ -98,7 +99,8 @@ impl DrepChanges {
         Ok(())
     }
 
-    /// The dormant epochs of this book are added to the expiry of each DRep that with them has not expired by the epoch, if they are not yet. It walks the changed DReps alone.
+    /// Adds the book's dormant epochs, if they are not yet added, to the expiry of each DRep
+    /// that with them has not expired by the epoch. It scans the changed DReps only.
     pub fn refresh(&mut self, book: &DrepBook, epoch: u64)
         requires fit { AllAddable (dormant_by self.old.refreshed book.now.dormant) self.old.dreps }
         ensures { self.new ≡ with_refresh epoch book.now.dormant self.old }
@@ -114,7 +116,8 @@ impl DrepChanges {
         self.refreshed = true;
     }
 
-    /// Lays these changes over the book, in an epoch. It walks the DReps of the book where dormant epochs were added, and else the changed ones alone. After want of memory the caller drops the book.
+    /// Lays these changes over the book, in an epoch. After `NoMemory` the caller drops the book.
+    /// It scans the DReps of the book if dormant epochs were added, else the changed ones only.
     pub fn lay_over(self, book: &mut DrepBook, epoch: u64) -> Result<(), NoMemory>
         requires fit { AllFit book.old.dormant book.old.dreps }
         ensures { OnOk result (book.new ≡ laid_over self epoch book.old) }
@@ -126,7 +129,7 @@ impl DrepChanges {
     }
 }
 
-/// Puts these DReps into the book, and takes those out that left.
+/// Puts these DReps into the book, and removes those that left.
 fn put_dreps(
     book: &mut DrepBook,
     changed: BTreeMap<Credential, Option<DrepState>>,

@@ -15,7 +15,8 @@ use std::alloc::Global;
 use std::marker::Model;
 use std::mem;
 
-/// The hot entries that a draft changed, and those of the book before that they cover: counts of both tell whether a hot key is named, so that no entry is walked. (Own)
+/// The hot entries that a draft changed, and those of the book before that they cover.
+/// Counts of both tell whether a hot key is named, without a scan of the entries.
 #[derive(Drop)]
 pub struct HotChanges {
     entries: HotBook,
@@ -51,7 +52,8 @@ impl HotChanges {
         self.entries.get(cold).or(before)
     }
 
-    /// Whether a cold key has this hot key, over this book: a changed one has it, or more of the book have it than are covered.
+    /// Whether a cold key has this hot key, over this book:
+    /// a changed one has it, or more of the book have it than are covered.
     pub fn names(&self, hot: &Credential, book: &HotBook) -> bool
         requires over { IsOver book.now self.now }
         ensures { result ≡ is_named (with_values credential_cmp self.now.entries book.now) hot.now }
@@ -61,7 +63,8 @@ impl HotChanges {
         self.entries.names_hot(hot) || covered < before
     }
 
-    /// Whether a member of the committee has this hot key, over this book. It walks the cold keys that have it, or the members where they are fewer, and no other entry.
+    /// Whether a member of the committee has this hot key, over this book.
+    /// It scans the cold keys that have it, or the members if they are fewer, and no other entry.
     pub fn seats(&self, hot: &Credential, book: &HotBook, c: Option<&Committee>) -> bool
         ensures { result ≡ is_named (of_members (option_map (λ c. c.now) c.entry)
             (with_values credential_cmp self.now.entries book.now)) hot.now }
@@ -80,7 +83,7 @@ impl HotChanges {
         self.entries.seats(hot, c, None) || book.seats(hot, c, Some(&self.entries))
     }
 
-    /// Whether one of these members has this hot key, over this book: a walk over them.
+    /// Whether one of these members has this hot key, over this book: it scans them.
     fn is_of_member(&self, hot: &Credential, book: &HotBook, members: &[(Credential, u64)]) -> bool
         ensures { result ≡ list_any (λ m. some_and (is_hot_key hot.now)
             (value_at credential_cmp (with_values credential_cmp self.now.entries book.now) m.0)) members.now }
@@ -100,7 +103,8 @@ impl HotChanges {
         Ok(names)
     }
 
-    /// A hot key or a resignation in place of what the cold key had, over this book. Want of memory changes nothing.
+    /// Replaces the cold key's entry, over this book, by a hot key or a resignation.
+    /// `NoMemory`: nothing changed.
     pub fn set(&mut self, cold: Credential, s: HotState, book: &HotBook) -> Result<(), NoMemory>
         requires over { IsOver book.now self.old }
         ensures ok { OnOk result (self.new.entries ≡ with_value credential_cmp cold s self.old.entries) }
@@ -119,7 +123,7 @@ impl HotChanges {
         put
     }
 
-    /// Lays these entries over the book. After want of memory the caller drops the book.
+    /// Lays these entries over the book. After `NoMemory` the caller drops the book.
     pub fn lay_over(self, alloc: Global, book: &mut HotBook) -> Result<(), NoMemory>
         ensures { OnOk result (book.new ≡ with_values credential_cmp self.entries book.old) }
     {

@@ -1,4 +1,4 @@
-//! What a draft changes of accounts, pools, DReps and hot keys, and the books with these changes.
+//! The changes of a draft to accounts, pools, DReps and hot keys, and the books with them.
 #![tactic(auto)]
 
 mod account_changes;

@@ -13,12 +13,13 @@ use std::alloc::Global;
 use std::marker::Model;
 use std::mem;
 
-/// The pools that a draft changed, and those of the book before that they cover: counts of both tell whether a pool has a key, so that no pool is walked. (Own)
+/// The pools that a draft changed, and those of the book before that they cover.
+/// Counts of both tell whether a pool has a key, without a scan of the pools.
 #[derive(Drop)]
 pub struct PoolChanges {
     entries: PoolBook,
     covered: PoolBook,
-    // whether a pool was ever put, so that a book that none changed is not walked
+    // whether a pool was ever put: an unchanged book is not scanned
     changed: bool,
 }
 
@@ -58,7 +59,8 @@ impl PoolChanges {
         }
     }
 
-    /// Whether a pool other than `p` has this key, over this book: a changed one has it, or more of the book have it than are covered.
+    /// Whether a pool other than `p` has this key, over this book:
+    /// a changed one has it, or more of the book have it than are covered.
     pub fn key_of_other(&self, key: &[u8; 32], p: &PoolId, book: &PoolBook) -> bool
         requires over { IsOver book.now self.now }
         ensures { result ≡ is_key_of_other key.now p.now (with_values pool_cmp self.now.entries book.now) }
@@ -76,7 +78,7 @@ impl PoolChanges {
         self.entries.ids(alloc)
     }
 
-    /// A pool in place of what the id had, over this book. Want of memory changes nothing.
+    /// Replaces the pool of the id, over this book. `NoMemory`: nothing changed.
     pub fn set(&mut self, p: PoolId, pool: Pool, book: &PoolBook) -> Result<(), NoMemory>
         requires over { IsOver book.now self.old }
         ensures ok { OnOk result (self.new.entries ≡ with_value pool_cmp p pool self.old.entries) }
@@ -96,7 +98,7 @@ impl PoolChanges {
         put
     }
 
-    /// Lays these pools over the book. After want of memory the caller drops the book.
+    /// Lays these pools over the book. After `NoMemory` the caller drops the book.
     pub fn lay_over(self, alloc: Global, book: &mut PoolBook) -> Result<(), NoMemory>
         ensures { OnOk result (book.new ≡ with_values pool_cmp self.entries book.old) }
     {

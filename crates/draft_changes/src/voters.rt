@@ -13,7 +13,7 @@ use committee_book::HotBook;
 use drep_book::DrepBook;
 use std::alloc::Global;
 
-/// What a draft changes of all who can vote.
+/// The changes of a draft to all who can vote.
 #[derive(Drop)]
 pub(crate) struct VoterChanges {
     pub(crate) pools: PoolChanges,
@@ -22,7 +22,8 @@ pub(crate) struct VoterChanges {
 }
 
 impl VoterChanges {
-    /// Lays these changes over the pools, the DReps and the hot keys of an epoch. After want of memory the caller drops them.
+    /// Lays these changes over the pools, DReps and hot keys of an epoch.
+    /// After `NoMemory` the caller drops them.
     pub(crate) fn lay_over(
         self,
         alloc: Global,

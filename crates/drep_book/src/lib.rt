@@ -9,14 +9,16 @@ ghost use Rattle.book_records.specs.Dormancy.{is_kept_active, extended, with_dor
 ghost use Rattle.drep_book.specs.Dreps.{Dreps};
 
 pub use book_records::DrepState;
-use coin_frac::NoMemory;
 use gov_ids::Credential;
 use maps::keys_past;
+use no_memory::NoMemory;
 use std::alloc::Global;
 use std::collections::BTreeMap;
 use std::marker::Model;
 
-/// The registered DReps with their deposits and expiries, and the dormant count: how many epochs ended without a proposal since a transaction proposed last. (GState of the formal specification; how the count acts is own)
+/// The registered DReps with their deposits and expiries, and the dormant count:
+/// how many epochs ended without a proposal since a transaction last proposed.
+/// (GState of the formal specification; how the count acts is own)
 #[derive(Debug, Drop)]
 pub struct DrepBook {
     dreps: BTreeMap<Credential, DrepState>,
@@ -46,7 +48,7 @@ impl DrepBook {
         }
     }
 
-    /// The DRep of a credential, none where it is not registered. (GState of the formal specification)
+    /// The DRep of a credential, if it is registered. (GState of the formal specification)
     pub fn get(&self, c: &Credential) -> Option<DrepState>
         ensures value { result ≡ value_at credential_cmp self.now.dreps c.now }
         ensures in_order { IsMap credential_cmp self.now.dreps }
@@ -54,7 +56,8 @@ impl DrepBook {
         self.dreps.get(c).copied()
     }
 
-    /// A DRep in place of what the credential had. Want of memory changes nothing. (GOVCERT of the formal specification)
+    /// Sets the DRep of a credential. `NoMemory` leaves the book unchanged.
+    /// (GOVCERT of the formal specification)
     pub fn put(&mut self, c: Credential, s: DrepState) -> Result<(), NoMemory>
         ensures ok { OnOk result (self.new ≡ record self.old { dreps = with_value credential_cmp c s self.old.dreps }) }
         ensures err { OnErr result (self.new ≡ self.old) }
@@ -63,7 +66,8 @@ impl DrepBook {
         Ok(())
     }
 
-    /// Removes the DRep of a credential and gives it, none where it is not registered. (GOVCERT of the formal specification)
+    /// Removes and returns the DRep of a credential, if it is registered.
+    /// (GOVCERT of the formal specification)
     pub fn take(&mut self, c: &Credential) -> Option<DrepState>
         ensures value { result ≡ value_at credential_cmp self.old.dreps c.now }
         ensures rest { self.new ≡ record self.old { dreps = without_key credential_cmp c.now self.old.dreps } }
@@ -71,7 +75,7 @@ impl DrepBook {
         self.dreps.remove(c)
     }
 
-    /// The DRep of the credential becomes `to`. Want of memory changes nothing. (Own)
+    /// Sets the DRep of a credential, or removes it. `NoMemory` leaves the book unchanged.
     pub fn restore(&mut self, c: Credential, to: Option<DrepState>) -> Result<(), NoMemory>
         ensures ok { OnOk result (self.new ≡
             record self.old { dreps = with_option credential_cmp c to self.old.dreps }) }
@@ -86,14 +90,15 @@ impl DrepBook {
         }
     }
 
-    /// How many epochs ended without a proposal since a transaction proposed last. (Own)
+    /// How many epochs ended without a proposal since a transaction last proposed.
     pub fn dormant(&self) -> u64
         ensures { result ≡ self.now.dormant }
     {
         self.dormant
     }
 
-    /// The dormant epochs are added to the expiry of each DRep that with them has not expired by the epoch, and none are left. It walks the DReps, but for a dormant count of 0. (Own)
+    /// Adds the dormant epochs to each expiry that with them is not before the epoch.
+    /// Then the dormant count is 0. It visits all DReps, except when the count is 0 already.
     pub fn refresh(&mut self, epoch: u64)
         requires fit { AllFit self.old.dormant self.old.dreps }
         ensures dreps { self.new.dreps ≡ with_dormant_added epoch self.old.dormant self.old.dreps }
@@ -110,7 +115,7 @@ impl DrepBook {
         self.dormant = 0;
     }
 
-    /// One more epoch ended without a proposal. (Own)
+    /// One more epoch ended without a proposal.
     pub fn grow_dormant(&mut self)
         requires fits { self.old.dormant + 1 < 2 ^ 64 }
         ensures { self.new ≡ record self.old { dormant = self.old.dormant + 1 } }
@@ -118,14 +123,15 @@ impl DrepBook {
         self.dormant += 1;
     }
 
-    /// The dormant count becomes `n` epochs; the expiries stay. (Own)
+    /// Sets the dormant count to `n` epochs; the expiries stay.
     pub fn set_dormant(&mut self, n: u64)
         ensures { self.new ≡ record self.old { dormant = n } }
     {
         self.dormant = n;
     }
 
-    /// The first DRep past a credential, or the first of all, in the order of credentials; none at the end. (GState of the formal specification)
+    /// The next DRep in order of credentials after this one, or the first of all.
+    /// (GState of the formal specification)
     pub fn next(&self, after: Option<&Credential>) -> Option<(Credential, DrepState)>
         ensures value { result ≡ entry_after credential_cmp (option_map (λ c. c.now) after.entry) self.now.dreps }
         ensures in_order { IsMap credential_cmp self.now.dreps }
@@ -134,7 +140,8 @@ impl DrepBook {
         Some((*c, *s))
     }
 
-    /// Each DRep with the epoch of its expiry, in the order of credentials, in one walk. (GState of the formal specification)
+    /// Each DRep with the epoch of its expiry, in order of credentials.
+    /// (GState of the formal specification)
     pub fn expiries(&self, alloc: Global) -> Result<Vec<(Credential, u64)>, NoMemory>
         ensures value { IfOk result (λ l. l.items ≡ map (λ e. (e.0, e.1.expiry)) self.now.dreps) }
         ensures in_order { IsMap credential_cmp self.now.dreps }
@@ -148,7 +155,8 @@ impl DrepBook {
     }
 }
 
-/// A DRep with the dormant epochs added, if by the epoch it has not expired with them. A sum that does not fit stops at the last number. (Own)
+/// A DRep with the dormant epochs added, if with them it has not expired by the epoch.
+/// A sum above 64 bits becomes 2^64 - 1.
 pub fn with_dormant(d: DrepState, epoch: u64, dormant: u64) -> DrepState
     ensures fits { d.expiry + dormant < 2 ^ 64 →
         result ≡ (if is_kept_active epoch dormant d then extended dormant d else d) }

@@ -103,7 +103,7 @@ module _ (sums : List (Drep × ℕ)) (deposits : List (Credential × ℕ)) where
   fits true s w rest front all most p q m n = omega arith
   fits false s w rest front all most p q m n = omega arith
 
-  -- how a part stands while its worker walks: these entries are left of all that come past its first bound
+  -- a part during its worker's scan: these are left of the entries past its first bound
   pub record IsOnTheWay (until : Option Credential) (es all left : List (Credential × Entry)) (part : List ℕ) : Type 0 where
     pub long : length part ≡ length sums
     pub way : AreOnTheWay until all left part

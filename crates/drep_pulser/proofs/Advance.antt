@@ -9,7 +9,7 @@ use Rattle.drep_pulser.specs.Count.{Count}
 use Rattle.drep_pulser.specs.Facts.{IsCountIn}
 use Rattle.drep_pulser.proofs.Walking.{rest_at, copied_is, get_drop, cut_at, past_end}
 
--- past the cursor stand the entries that are not visited yet
+-- the entries past the cursor are those not visited yet
 pub left_of : (es : List (Credential × Entry)) (k : Count) (after : Option (Bor Credential)) → IsCountIn es k → option_copied after ≡ k.cursor
     → entries_past credential_cmp (option_map (λ k. k.now) after) es ≡ drop k.done es
 left_of es k after c a =

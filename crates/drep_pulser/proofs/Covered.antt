@@ -33,7 +33,7 @@ none_at k n (e ∷ es) above =
     let here : cond (eq_by_cmp credential_cmp e.0 k) n 0 ≡ 0 = ap (λ b. cond b n 0) other in
     omega (arith, here, none_at k n es above.1, sum_by-cons (λ (e : Credential × Entry). cond (eq_by_cmp credential_cmp e.0 k) n 0) e es)
 
--- one entry at most stands at a key
+-- at most one entry is at a key
 one_at : (k : Credential) (n : ℕ) (es : List (Credential × Entry)) → IsMap credential_cmp es
     → sum_by (λ (e : Credential × Entry). cond (eq_by_cmp credential_cmp e.0 k) n 0) es ≤ n
 unfolding IsStrictlySortedBy
@@ -73,7 +73,7 @@ no_deposits : (es : List (Credential × Entry)) → sum_by (λ (e : Credential �
 no_deposits [] = refl
 no_deposits (e ∷ es) = no_deposits es
 
--- the deposits of accounts that stand once each are within all deposits
+-- the deposits of accounts, each listed once, are within all deposits
 pub covered : (es : List (Credential × Entry)) (deposits : List (Credential × ℕ)) → IsMap credential_cmp es → sum_by (λ (e : Credential × Entry). at deposits e.0) es ≤ total_of deposits
 covered es [] h = omega (arith, no_deposits es)
 covered es (d ∷ deposits) h =

@@ -79,7 +79,7 @@ built_sums ds listed registered one two h l r p q =
     ∙ ap (λ (es : List (Drep × ℕ)). es ++ (drep.Abstain, 0) ∷ (drep.NoConfidence, 0) ∷ []) (r ∙ ap (λ (es : List (Credential × ℕ)). map (λ e. (drep.Registered e.0, 0)) es) l)
     ∙ listed_sums ds h
 
--- what a search by halves tells
+-- what a binary search finds
 pub found_place : (es : List (Drep × ℕ)) (d : Drep) (r : Result ℕ ℕ) → IsMap drep_cmp es → IsSearchInRange r (length es) → IsBinarySearchResult (λ (e : Drep × ℕ). drep_cmp e.0 d) es r
     → IfSome (result_ok r) (IsPlaceOf es d) × IfNone (result_ok r) (value_at drep_cmp es d ≡ None)
 found_place es d (Ok i) h within equal = ((within, equal), tt)
@@ -96,7 +96,7 @@ pub more_there : (es : List (Drep × ℕ)) (d : Drep) (i n : ℕ) (e : Drep × �
 more_there es d i n e h there is =
     ap (λ (x : Drep × ℕ). slice_set es i (x.0, x.1 + n)) is ∙ written_at drep_total d (λ s. s + n) es i e h there.0 (there.1 e)
 
--- the sums stand in order
+-- the sums are in order
 pub ordered_sums : (ds : List (Credential × DrepState)) → IsMap drep_cmp (no_sums ds)
 unfolding IsStrictlySortedBy
 ordered_sums ds = IsMap-with_values drep_total (map at_none ds) predefined ((refl, tt), (tt, tt))

@@ -64,7 +64,7 @@ none_by sums part d long none =
     elim (value_at drep_cmp (by_drep sums part) d) as (λ v. is_some v ≡ false → v ≡ None) [ None ↦ λ e. refl | Some n ↦ λ e. cc ]
     (same_keys sums part d long ∙ ap (λ (v : Option ℕ). is_some v) none)
 
--- a number written in a part stands beside its DRep
+-- a number written in a part is beside its DRep
 zip_set : {K : Type 0} (ks : List K) (vs : List ℕ) (i n : ℕ) (k : K) → i < length ks → length vs ≡ length ks → zip ks (slice_set vs i n) ≡ slice_set (zip ks vs) i (slice_index_or ks i k, n)
 zip_set [] vs i n k lt long = absurd (omega arith)
 zip_set (q ∷ ks) [] i n k lt long = absurd (omega arith)

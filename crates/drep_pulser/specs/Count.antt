@@ -1,4 +1,5 @@
--- A count of the frozen entries as plain data: between two pulses, and once it has ended. (the DRep pulser of cardano-ledger; how it is kept is own)
+-- A count of the frozen entries as plain data: between two pulses, and after it has ended.
+-- (the DRep pulser of cardano-ledger; the representation is own)
 use Rattle.std.specs.Prelude.{ℕ, List, [], ◌∷◌, Option, map, unwrap_or}
 use Rattle.gov_ids.specs.declared.Credential.{Credential}
 use Rattle.gov_ids.specs.declared.Drep.{Drep}
@@ -9,17 +10,17 @@ use Rattle.maps.specs.Maps.{value_at, with_values}
 
 -- a count that goes on
 pub record Count : Type 0 where
-  -- the credential of the entry that was visited last, none before the first
+  -- the credential of the last visited entry, none before the first
   pub cursor : Option Credential
   -- how many entries are visited
   pub done : ℕ
   -- how many there are
   pub total : ℕ
-  -- how many workers may share those that are left
+  -- how many workers may share the entries that are left
   pub workers : ℕ
-  -- the sum of each DRep over the entries visited, in the order of DReps
+  -- the sum of each DRep over the visited entries, in the order of DReps
   pub sums : List (Drep × ℕ)
-  -- the deposits of proposals by the credential that they go back to
+  -- the deposits of proposals, by the credential to which they return
   pub deposits : List (Credential × ℕ)
 
 -- a count that has ended

@@ -1,4 +1,5 @@
--- What a count has to do with the entries that it counts, and with their snapshot. (CIP-1694, Changes to the stake snapshot; the DRep distribution of cardano-ledger's DRep pulser)
+-- How a count relates to the entries that it counts, and to their snapshot.
+-- (CIP-1694, Changes to the stake snapshot; the DRep distribution of cardano-ledger's DRep pulser)
 use Rattle.std.specs.Prelude.{ℕ, zero, suc, ◌≡◌, ◌+◌, ◌^◌, ◌<◌, ◌≤◌, List, Option, None, filter, if◌then◌else◌, length, option_map, slice_get, sum_by, take, unwrap_or}
 use Rattle.gov_ids.specs.declared.Credential.{Credential}
 use Rattle.gov_ids.specs.declared.Drep.{Drep}
@@ -21,25 +22,25 @@ abbrev pub cursor_at : {X : Type 0} → ℕ → List (Credential × X) → Optio
 cursor_at zero es = None
 cursor_at (suc c) es = option_map (λ e. e.0) (slice_get es c)
 
--- the output stake and the reward balances of entries
+-- the output stake and the reward balances of entries, in lovelace
 abbrev pub held_by : List (Credential × Entry) → ℕ
 held_by es = sum_by (λ e. e.1.stake + amount (λ (r : Registered). r.rewards) e.1.registered) es
 
--- what an entry weighs by these deposits
+-- the weight of an entry with these deposits
 abbrev pub weight_by : List (Credential × ℕ) → Credential × Entry → ℕ
 weight_by deposits e = e.1.stake + amount (λ (r : Registered). r.rewards) e.1.registered + unwrap_or (value_at credential_cmp deposits e.0) 0
 
--- the entries stand in order, and what they hold is with the deposits an amount of 64 bits
+-- the entries are in order; what they hold and the deposits fit together in 64 bits
 pub record IsCountable (es : List (Credential × Entry)) (deposits : List (Credential × ℕ)) : Type 0 where
   pub in_order : IsMap credential_cmp es
   pub room : held_by es + total_of deposits < 2 ^ 64
 
--- the sum of each of these DReps is the weight by these deposits of those of the entries that delegate to it
+-- the sum of each of these DReps is the weight, with these deposits, of its delegators' entries
 abbrev pub AreSums : List (Credential × Entry) → List (Credential × ℕ) → List (Drep × ℕ) → Type 0
 AreSums es deposits sums =
     (d : Drep) → sum_for sums d ≡ (if has_key drep_cmp sums d then sum_by (weight_by deposits) (filter (votes_by d) es) else 0)
 
--- the count is one of these entries: so many are visited, up to its cursor
+-- the count is over these entries: it has visited the first `done`, the last at its cursor
 pub record IsCountIn (es : List (Credential × Entry)) (c : Count) : Type 0 where
   pub total : c.total ≡ length es
   pub done : c.done ≤ c.total
@@ -55,14 +56,15 @@ AreDeposits f deposits = (c : Credential) → unwrap_or (value_at credential_cmp
 abbrev pub AreDreps : Snapshot → List (Credential × DrepState) → Type 0
 AreDreps f dreps = (c : Credential) → has_key credential_cmp f.dreps c ≡ has_key credential_cmp dreps c
 
--- the snapshot has the frozen entries of these accounts, these DReps and these deposits, and they can be counted
+-- the snapshot has the frozen entries of these accounts, these DReps and these deposits,
+-- and its entries can be counted
 pub record HasFrozen (f : Snapshot) (a : Accounts) (d : Dreps) (amounts : List (Credential × ℕ)) : Type 0 where
   pub entries : f.entries ≡ frozen_of credential_cmp a
   pub dreps : AreDreps f d.dreps
   pub deposits : AreDeposits f amounts
   pub room : held_by f.entries + total_of amounts < 2 ^ 64
 
--- the count is one of the snapshot's entries, for its DReps and with its deposits
+-- the count is over the snapshot's entries, for its DReps and with its deposits
 pub record IsCountOf (f : Snapshot) (c : Count) : Type 0 where
   pub counts : IsCountIn f.entries c
   pub dreps : (d : Drep) → has_key drep_cmp c.sums d ≡ is_frozen_drep f d
@@ -73,6 +75,6 @@ pub record IsCountedOf (f : Snapshot) (c : Ended) : Type 0 where
   pub total : c.total ≡ entry_count f
   pub sums : (d : Drep) → sum_for c.sums d ≡ drep_stake f d
 
--- P holds of each snapshot with these entries that the count is of
+-- P holds of each snapshot with these entries to which the count belongs
 abbrev pub ForSnapshotOf : List (Credential × Entry) → Count → (Snapshot → Type 0) → Type 0
 ForSnapshotOf es c P = (f : Snapshot) → f.entries ≡ es → IsCountOf f c → P f

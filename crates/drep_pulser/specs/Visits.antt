@@ -1,4 +1,4 @@
--- What a visit changes in a count. (Own)
+-- How a visit changes a count. (Own)
 use Rattle.std.specs.Prelude.{ℕ, ◌≡◌, ◌+◌, List, Option, Some, None, option_and_then, slice_get}
 use Rattle.gov_ids.specs.declared.Credential.{Credential}
 use Rattle.gov_ids.specs.declared.Drep.{Drep}
@@ -13,7 +13,7 @@ use Rattle.drep_pulser.specs.Facts.{IsCountIn, weight_by}
 abbrev pub drep_of : Entry → Option Drep
 drep_of e = option_and_then (λ (r : Registered). r.drep) e.registered
 
--- the sums with n more for a DRep
+-- the sums, with n more for a DRep
 abbrev pub with_more : Option Drep → ℕ → List (Drep × ℕ) → List (Drep × ℕ)
 with_more None n sums = sums
 with_more (Some d) n sums = changed_at drep_cmp d (λ s. s + n) sums
@@ -29,6 +29,6 @@ visited e c = record {
   deposits = c.deposits;
 }
 
--- the entry is the next one of some entries that the count is of
+-- the entry is the next one among some entries that the count is over
 abbrev pub IsNextIn : Credential × Entry → Count → Type 0
 IsNextIn e c = (es : List (Credential × Entry)) × IsCountIn es c × (slice_get es c.done ≡ Some e)

@@ -6,7 +6,7 @@ ghost use Rattle.drep_pulser.specs.Parts.{is_beyond};
 
 use gov_ids::Credential;
 
-// What comes past it comes past both; none is no bound.
+// The later of two bounds; none is no bound.
 pub(crate) fn later(a: Option<Credential>, b: Option<&Credential>) -> Option<Credential>
     ensures { (c : Credential) → comes_past credential_cmp result c
         ≡ (comes_past credential_cmp a c && comes_past credential_cmp (option_map (λ k. k.now) b.entry) c) }
@@ -20,7 +20,7 @@ pub(crate) fn later(a: Option<Credential>, b: Option<&Credential>) -> Option<Cre
     if y.cmp(&x).is_lt() { Some(x) } else { Some(*y) }
 }
 
-// Whether a credential comes past the last one that is meant; none does where all are.
+// Whether a credential comes after the last one of a range; none is no bound.
 pub(crate) fn is_beyond(until: Option<&Credential>, c: &Credential) -> bool
     ensures { result ≡ is_beyond (option_map (λ k. k.now) until.entry) c.now }
 {

@@ -26,7 +26,7 @@ impl Model for Counted {
 }
 
 impl Counted {
-    /// The same count once more. (Own)
+    /// A copy.
     pub fn copied(&self, alloc: Global) -> Result<Counted, NoMemory>
         ensures { IfOk result (λ copy. copy ≡ self.now) }
     {
@@ -36,7 +36,8 @@ impl Counted {
         })
     }
 
-    /// The stake of a DRep in lovelace, 0 of one that was not registered. (the DRep distribution of cardano-ledger's DRep pulser)
+    /// The stake of a DRep in lovelace, 0 for one that was not registered.
+    /// (the DRep distribution of cardano-ledger's DRep pulser)
     pub fn stake(&self, d: &Drep) -> u64
         ensures sum { result ≡ sum_for self.now.sums d.now }
         ensures stake { (f : Snapshot) → IsCountedOf f self.now → result ≡ drep_stake f d.now }
@@ -44,7 +45,7 @@ impl Counted {
         self.sums.get(d)
     }
 
-    /// How many entries were visited. (Own)
+    /// How many entries were visited.
     pub fn total(&self) -> u64
         ensures { result ≡ self.now.total }
     {

@@ -22,8 +22,9 @@ use std::alloc::Global;
 use std::marker::Model;
 use std::sync::ledger::Ledger;
 
-/// A count of the frozen entries that goes on. It keeps no list of them: they stay in the book. It keeps the sums of
-/// its workers, all 0. (the DRep pulser of cardano-ledger; how it is kept is own)
+/// A count of the frozen entries that goes on. The entries stay in the book.
+/// It holds the sums of its workers, all 0.
+/// (the DRep pulser of cardano-ledger; the representation is own)
 #[derive(Debug, Drop)]
 pub struct Counting {
     walk: Walk,
@@ -43,8 +44,9 @@ impl Model for Counting {
         × All (λ part. part ≡ no_part a.walk.sums) a.parts.items };
 }
 
-/// A count of the book's frozen entries with none visited, for the DReps of `dreps`; the deposits of proposals are by
-/// the credential that they go back to. It takes all memory of the count. (the DRep pulser of cardano-ledger)
+/// Begins a count of the book's frozen entries, for the DReps of `dreps`; none is visited yet.
+/// The deposits of proposals are by the credential to which they return.
+/// It takes all memory of the count. (the DRep pulser of cardano-ledger)
 pub fn begin(
     alloc: Global,
     book: &AccountBook,
@@ -67,7 +69,7 @@ pub fn begin(
 }
 
 impl Counting {
-    // A walk with the sums of its workers.
+    // A walk, with the sums of its workers.
     fn of(alloc: Global, walk: Walk) -> Result<Counting, NoMemory>
         requires { 1 ≤ walk.workers }
         ensures { IfOk result (λ c. c ≡ walk) }
@@ -76,14 +78,14 @@ impl Counting {
         Ok(Counting { walk, parts })
     }
 
-    /// The same count once more. (Own)
+    /// A copy.
     pub fn copied(&self, alloc: Global) -> Result<Counting, NoMemory>
         ensures { IfOk result (λ copy. copy ≡ self.now) }
     {
         Counting::of(alloc, self.walk.copied(alloc)?)
     }
 
-    /// The count, and a part with nothing in it for each worker. It takes no memory: `begin` took it. (Own)
+    /// The count, and an empty part for each worker. It takes no memory: `begin` took it.
     pub fn split(self) -> (Walk, Vec<Part>)
         ensures walk { result.0 ≡ self }
         ensures each { length result.1.items ≡ self.workers }
@@ -93,8 +95,9 @@ impl Counting {
         (self.walk, self.parts)
     }
 
-    /// Visits the next `n` entries, or all that are left; each visit is a step. The book's frozen entries are those of
-    /// `begin`. It takes no memory. (the DRep pulser of cardano-ledger)
+    /// Visits the next `n` entries, or all that are left; each visit is a step.
+    /// The book's frozen entries are those of `begin`. It takes no memory.
+    /// (the DRep pulser of cardano-ledger)
     pub fn pulse<L: Ledger>(mut self, book: &AccountBook, n: u32, steps: &mut Steps<L>) -> Pulser
         requires some { 1 ≤ n }
         requires counts { IsCountIn (frozen_of credential_cmp book.now) self }
@@ -114,8 +117,9 @@ impl Counting {
         }
     }
 
-    /// Visits all entries that are left; each visit is a step. The book's frozen entries are those of `begin`. It takes
-    /// no memory. (the DRep pulser of cardano-ledger)
+    /// Visits all entries that are left; each visit is a step.
+    /// The book's frozen entries are those of `begin`. It takes no memory.
+    /// (the DRep pulser of cardano-ledger)
     pub fn finish<L: Ledger>(mut self, book: &AccountBook, steps: &mut Steps<L>) -> Counted
         requires counts { IsCountIn (frozen_of credential_cmp book.now) self }
         requires fits { steps.old + (self.total - self.done) < 2 ^ 64 }
@@ -128,21 +132,22 @@ impl Counting {
         self.walk.ended()
     }
 
-    /// How many entries are visited. (Own)
+    /// How many entries are visited.
     pub fn done(&self) -> u64
         ensures { result ≡ self.now.done }
     {
         self.walk.done()
     }
 
-    /// How many frozen entries there are. (Own)
+    /// How many frozen entries there are.
     pub fn total(&self) -> u64
         ensures { result ≡ self.now.total }
     {
         self.walk.total()
     }
 
-    /// The stake of a DRep over the entries visited, in lovelace. (the DRep pulser of cardano-ledger)
+    /// The stake of a DRep over the visited entries, in lovelace.
+    /// (the DRep pulser of cardano-ledger)
     pub fn partial(&self, d: &Drep) -> u64
         ensures sum { result ≡ sum_for self.now.sums d.now }
         ensures stake { (f : Snapshot) → IsCountOf f self.now → result ≡ drep_stake_of_first self.now.done f d.now }

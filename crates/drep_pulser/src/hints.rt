@@ -5,12 +5,12 @@ use coin_frac::NoMemory;
 use gov_ids::Drep;
 use std::alloc::Global;
 
-// At most so many DReps have eight slots each.
+// Up to this many DReps have eight slots each.
 const MOST: usize = 8192;
 
-// A slot for the last two bytes of a hash, of which those bits count that `mask` has, and one for each predefined option. It
-// tells where a DRep may stand in a list in order: the place of the last that came to the slot. No clause rests on it, since who
-// looks there compares the DRep that stands there.
+// Hints for the index of a DRep in a list in order: a slot has the last index hashed to it.
+// The slot is the last two bytes of a hash, masked; each predefined option has its own.
+// No clause rests on a hint: the reader compares the DRep at the index.
 #[derive(Debug, Drop)]
 pub(crate) struct Hints {
     places: Vec<u32>,
@@ -18,7 +18,7 @@ pub(crate) struct Hints {
 }
 
 impl Hints {
-    // Of DReps with their sums.
+    // Hints for DReps with their sums.
     pub(crate) fn of(alloc: Global, amounts: &[(Drep, u64)]) -> Result<Hints, NoMemory> {
         let slots = (amounts.len().min(MOST) * 8).next_power_of_two();
         let mask = u16::try_from(slots.saturating_sub(1)).unwrap_or(u16::MAX);
@@ -31,7 +31,7 @@ impl Hints {
         Ok(Hints { places, mask })
     }
 
-    // The same once more.
+    // A copy.
     pub(crate) fn copied(&self, alloc: Global) -> Result<Hints, NoMemory> {
         Ok(Hints {
             places: self.places.iter().copied().collect(alloc)?,
@@ -39,7 +39,7 @@ impl Hints {
         })
     }
 
-    // Where the sum of a DRep stands, none where it does not stand where its hint says.
+    // The index of a DRep's sum; none where it is not at the hinted index.
     pub(crate) fn place(&self, amounts: &[(Drep, u64)], d: &Drep) -> Option<usize>
         ensures { IfSome result (IsPlaceOf amounts.now d.now) }
     {

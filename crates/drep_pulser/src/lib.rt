@@ -29,7 +29,7 @@ pub enum Pulser {
 }
 
 impl Pulser {
-    /// The same count once more. (Own)
+    /// A copy.
     pub fn copied(&self, alloc: Global) -> Result<Pulser, NoMemory>
         ensures { IfOk result (λ copy. copy ≡ self.now) }
     {

@@ -10,7 +10,7 @@ use gov_ids::Drep;
 use std::alloc::Global;
 use std::marker::Model;
 
-/// The sums of one worker, in lovelace, in the order of the DReps of its count. (Own)
+/// The sums of one worker, in lovelace, in the order of the DReps of its count.
 #[derive(Debug, Drop)]
 pub struct Part {
     amounts: Vec<u64>,
@@ -34,7 +34,7 @@ impl Part {
         })
     }
 
-    // More for a DRep, where there is a sum for it. It takes no memory.
+    // Adds to the sum of a DRep, if it has one. It takes no memory.
     pub(crate) fn add(&mut self, sums: &Sums, d: &Drep, n: u64)
         requires length { length self.old ≡ length sums.now }
         requires fits { sum_for (by_drep sums.now self.old) d.now + n < 2 ^ 64 }

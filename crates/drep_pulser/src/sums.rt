@@ -14,7 +14,7 @@ use gov_ids::{Credential, Drep};
 use std::alloc::Global;
 use std::marker::Model;
 
-// The sum of each DRep, in lovelace, in the order of DReps: one is found where a hint says, or by halves.
+// The sum of each DRep, in lovelace, in the order of DReps. It finds one by hint or binary search.
 #[derive(Debug, Drop)]
 pub(crate) struct Sums {
     amounts: Vec<(Drep, u64)>,
@@ -35,7 +35,7 @@ impl Model for Sums {
 }
 
 impl Sums {
-    // 0 for each DRep of the book and the predefined ones.
+    // 0 for each DRep of the book and each predefined one.
     pub(crate) fn of(alloc: Global, dreps: &DrepBook) -> Result<Sums, NoMemory>
         ensures { IfOk result (λ s. s ≡ no_sums dreps.now.dreps) }
     {
@@ -47,7 +47,7 @@ impl Sums {
         Ok(Sums { amounts, hints })
     }
 
-    // The same sums once more.
+    // A copy.
     pub(crate) fn copied(&self, alloc: Global) -> Result<Sums, NoMemory>
         ensures { IfOk result (λ copy. copy ≡ self.now) }
     {
@@ -64,7 +64,7 @@ impl Sums {
         Ok(self.amounts.iter().map(|_| 0).collect(alloc)?)
     }
 
-    // Where the sum of a DRep stands, none where there is none.
+    // The index of a DRep's sum, if it has one.
     pub(crate) fn place(&self, d: &Drep) -> Option<usize>
         ensures there { IfSome result (IsPlaceOf self.now d.now) }
         ensures absent { IfNone result (value_at drep_cmp self.now d.now ≡ None) }
@@ -87,7 +87,7 @@ impl Sums {
         }
     }
 
-    // More for a DRep that has a sum. It takes no memory.
+    // Adds to the sum of a DRep that has one. It takes no memory.
     pub(crate) fn add(&mut self, d: &Drep, n: u64)
         requires { sum_for self.old d.now + n < 2 ^ 64 }
         ensures { self.new ≡ changed_at drep_cmp d.now (λ s. s + n) self.old }
@@ -97,7 +97,7 @@ impl Sums {
         }
     }
 
-    // Each sum with that of a part, in order. It takes no memory.
+    // Adds a part to the sums, in order. It takes no memory.
     pub(crate) fn gather(&mut self, part: &[u64])
         requires length { length part.now ≡ length self.old }
         requires fits { (d : Drep) → sum_for self.old d + sum_for (by_drep self.old part.now) d < 2 ^ 64 }
@@ -121,7 +121,7 @@ fn zeros(alloc: Global, dreps: &[(Credential, u64)]) -> Result<Vec<(Drep, u64)>,
     )
 }
 
-// Where the sum of a DRep stands among these, which are in order.
+// The index of a DRep's sum in a list in order.
 fn place_of(amounts: &[(Drep, u64)], d: &Drep) -> Option<usize>
     requires { IsMap drep_cmp amounts.now }
     ensures there { IfSome result (IsPlaceOf amounts.now d.now) }

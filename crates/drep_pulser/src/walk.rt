@@ -21,7 +21,7 @@ use std::alloc::Global;
 use std::marker::Model;
 use std::sync::ledger::Ledger;
 
-/// A count whose workers have their sums given out, to share what is left of the frozen entries. (Own)
+/// A count that has given out its workers' sums; they share the frozen entries left.
 #[derive(Debug, Drop)]
 pub struct Walk {
     cursor: Option<Credential>,
@@ -51,7 +51,7 @@ impl Model for Walk {
 }
 
 impl Walk {
-    // With none visited.
+    // A count with no entry visited.
     pub(crate) fn new(total: u64, workers: u32, sums: Sums, deposits: TotalMap<Credential>) -> Walk
         ensures { result ≡ record {
           cursor = None;
@@ -72,7 +72,7 @@ impl Walk {
         }
     }
 
-    // The same once more.
+    // A copy.
     pub(crate) fn copied(&self, alloc: Global) -> Result<Walk, NoMemory>
         ensures { IfOk result (λ copy. copy ≡ self.now) }
     {
@@ -86,7 +86,7 @@ impl Walk {
         })
     }
 
-    // A part with nothing in it for each worker.
+    // An empty part for each worker.
     pub(crate) fn parts(&self, alloc: Global) -> Result<Vec<Part>, NoMemory>
         ensures each { IfOk result (λ parts. length parts.items ≡ self.now.workers) }
         ensures empty { IfOk result (λ parts. All (λ part. part ≡ no_part self.now.sums) parts.items) }
@@ -98,8 +98,9 @@ impl Walk {
         Ok(parts)
     }
 
-    /// Adds to a part, for each DRep, its stake among the frozen accounts past the count's cursor, past `after` and not
-    /// past `until`; none is no bound. The book's frozen entries are those of `begin`. It takes no memory. (Own)
+    /// Adds to a part each DRep's stake among the frozen accounts after the count's cursor and
+    /// after `after`, but not after `until`; none is no bound. The book's frozen entries are those
+    /// of `begin`. It takes no memory.
     pub fn add(
         &self,
         book: &AccountBook,
@@ -126,7 +127,7 @@ impl Walk {
         }
     }
 
-    /// The count that all parts together come to. It takes no memory. (Own)
+    /// The ended count, from all parts together. It takes no memory.
     pub fn close(mut self, parts: Vec<Part>) -> Counted
         requires each { All (λ part. length part ≡ length self.sums) parts.items }
         requires shared { (es : List (Credential × Entry)) × IsSharedIn es self parts.items }
@@ -155,14 +156,14 @@ impl Walk {
         self.total
     }
 
-    // The sum of a DRep over the entries visited.
+    // The sum of a DRep over the visited entries.
     pub(crate) fn partial(&self, d: &Drep) -> u64
         ensures { result ≡ sum_for self.now.sums d.now }
     {
         self.sums.get(d)
     }
 
-    // Visits the next entries, `most` at most.
+    // Visits at most `most` of the next entries.
     pub(crate) fn advance<L: Ledger>(&mut self, book: &AccountBook, most: u64, steps: &mut Steps<L>)
         requires counts { IsCountIn (frozen_of credential_cmp book.now) self.old }
         requires fits { steps.old + min most (self.old.total - self.old.done) < 2 ^ 64 }
@@ -196,7 +197,7 @@ impl Walk {
         }
     }
 
-    // Adds what an entry weighs to a part.
+    // Adds the weight of an entry to a part.
     fn weigh(&self, c: &Credential, entry: &Entry, part: &mut Part)
         requires length { length part.old ≡ length self.now.sums }
         requires weight { weight_by self.now.deposits (c.now, entry.now) < 2 ^ 64 }
@@ -221,7 +222,7 @@ impl Walk {
     }
 }
 
-// The DRep that an entry delegates to, and what the entry weighs with the deposits that go back to its account.
+// The DRep to which an entry delegates, and its weight with the deposits that return to it.
 fn weighed<'a>(
     deposits: &TotalMap<Credential>,
     c: &Credential,

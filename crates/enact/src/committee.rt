@@ -10,8 +10,8 @@ use gov_ids::Credential;
 use std::alloc::Global;
 use std::collections::BTreeMap;
 
-// The committee without the members that are removed, then with those that are added or get another term. Those that
-// stay are put into a tree first, so no list of a committee is walked for each that is added.
+// The committee without the removed members, then with those that are added or get another term.
+// Those that stay are put into a tree first, so that no addition scans a list.
 pub(crate) fn updated(
     alloc: Global,
     old: Option<Committee>,
@@ -32,7 +32,7 @@ pub(crate) fn updated(
     })
 }
 
-// The members that are not among some keys; none where there is no committee.
+// The members that are not among some keys; none without a committee.
 fn without(alloc: Global, old: Option<Committee>, keys: &CredentialList) -> Vec<(Credential, u64)>
     ensures { result.items ≡ without_keys credential_cmp keys.now (members_of old) }
 {
@@ -44,7 +44,7 @@ fn without(alloc: Global, old: Option<Committee>, keys: &CredentialList) -> Vec<
     members
 }
 
-// Each of these in turn with its term, in its place in the order or in place of an earlier term.
+// Each of these in turn with its term, in key order; it replaces an earlier term.
 fn with(
     mut members: BTreeMap<Credential, u64>,
     come: &[(Credential, u64)],

@@ -16,12 +16,13 @@ use gov_actions::{Action, EnactState, LastIds, Purpose};
 use gov_ids::{Account, ActionId};
 use std::alloc::Global;
 
-/// A state that actions change when they are enacted. (CIP-1694, Enactment; ENACT of the formal specification)
+/// A state that enacted actions change. (CIP-1694, Enactment; ENACT of the formal specification)
 pub trait Enact {
     ghost state: { Self → EnactState };
 
-    /// The state after an action with its id was enacted. Withdrawals leave the treasury here; who gets them is the
-    /// caller's. Want of memory drops the state. (CIP-1694, Enactment; ENACT of the formal specification)
+    /// The state after an action with its id was enacted. Withdrawals leave the treasury;
+    /// the caller decides who gets them. `NoMemory`: the state is gone.
+    /// (CIP-1694, Enactment; ENACT of the formal specification)
     fn apply(self, alloc: Global, id: ActionId, a: &Action) -> Result<EnactState, NoMemory>
         requires affordable { withdrawn_by a.now ≤ (state self).treasury }
         requires in_order { IsMap credential_cmp (members_of (state self).committee) }

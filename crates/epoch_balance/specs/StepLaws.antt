@@ -1,4 +1,4 @@
--- The laws on the steps of a boundary: each moves the pots by its flows. src/steps.rt has a function for each, whose contract is the law.
+-- Each step of a boundary moves the pots by its flows; src/steps.rt has a function for each law.
 use Rattle.std.specs.Prelude.{◌≡◌, ℕ, ◌≤◌, List, [], ◌∷◌, Some, map}
 use Rattle.maps.specs.Maps.{IsMap}
 use Rattle.gov_ids.specs.declared.ActionId.{ActionId}
@@ -19,7 +19,7 @@ use Rattle.run_model.specs.BoundaryFlows.{payment, flows_of_update, flows_of_tar
 use Rattle.run_model.specs.Laws.{IsCoveredUpdate}
 use Rattle.run_model.specs.World.{World}
 
--- the accounts stand in order, each once
+-- the accounts are in order, each once
 abbrev pub HasAccounts : Ledger → Type 0
 HasAccounts l = IsMap credential_cmp l.accounts
 
@@ -60,7 +60,7 @@ RemovalsBalance = (w : World) → HasAccounts w.ledger → HaveDistinctIds w.led
     IsMovedBy (map (payment deposits w.ledger) (proposal_refunds w))
     (pots_of w.ledger) (pots_of (removals_made w).ledger)
 
--- 6: the same by any lists of those that are enacted and of those that have expired
+-- 6: removals by any lists of enacted and of expired proposals
 abbrev pub CutsBalance : Type 0
 CutsBalance = (l : Ledger) (enacted expired : List ActionId) → HasAccounts l → HaveDistinctIds l.proposals →
     let kept : List Proposal = kept_of l.proposals enacted expired l.state.last in

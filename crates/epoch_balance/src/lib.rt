@@ -1,4 +1,4 @@
-//! The balance of a boundary: each of its steps, and all of them together, move the pots by their flows.
+//! The balance of a boundary: each step, and all together, move the pots by their flows.
 #![tactic(auto)]
 
 mod boundary;

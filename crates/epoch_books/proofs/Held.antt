@@ -7,7 +7,7 @@ use Rattle.ledger_model.specs.Flows.{Flow}
 use Rattle.ledger_model.specs.Moves.{IsMovedBy}
 use Rattle.ledger_model.specs.Supply.{pots_of}
 use Rattle.tx_balance.proofs.Supplies.{moves_keep_supply}
-use Rattle.tx_records.specs.declared.limits.TheConstants.{SUPPLY_LIMIT}
+use Rattle.coin_frac.specs.declared.TheConstants.{SUPPLY_LIMIT}
 
 pub held_after : (b r : Books) (flows : List Flow) → HoldsSupply b → r.supply ≡ b.supply → IsMovedBy flows (pots_of (ledger_of_books b)) (pots_of (ledger_of_books r)) → HoldsSupply r
 held_after b r flows h same m = record {

@@ -1,4 +1,4 @@
--- What the reaping of pools comes to, in the words of run_model's boundary and report. (POOLREAP of the formal specification)
+-- The reaping of pools, in terms of run_model. (POOLREAP of the formal specification)
 use Rattle.std.specs.Prelude.{ℕ, ◌+◌, List, map}
 use Rattle.gov_actions.specs.declared.state.EnactState.{EnactState}
 use Rattle.gov_ids.specs.declared.Credential.{Credential}
@@ -14,11 +14,11 @@ use Rattle.run_model.specs.World.{World, on_ledger}
 use Rattle.run_model.specs.Boundary.{terms_turned, reaped, reaped_pools}
 use Rattle.run_model.specs.Report.{goes_to}
 
--- 3: future terms take effect, and pools are reaped: run_model's `after_pools`, over the World that step 2 leaves
+-- step 3: future terms take effect, pools are reaped; run_model's `after_pools` after step 2
 abbrev pub after_reaping : World → World
 after_reaping w = on_ledger reaped (on_ledger terms_turned w)
 
--- each pool that a ledger reaps, in order: run_model's `retired_of`, over the ledger that the turn of the terms leaves
+-- each pool that a ledger reaps, in order: run_model's `retired_of` after future terms take effect
 abbrev pub retired_in : Ledger → List Retired
 retired_in l = map (λ e. record { pool = e.0; amount = e.1.deposit; to = goes_to l e.1.terms.account }) (reaped_pools l)
 
@@ -34,7 +34,7 @@ pools_of reaped = map (λ (r : Reaped). r.pool) reaped
 abbrev pub refunds_of : List Reaped → List (Credential × ℕ)
 refunds_of reaped = map (λ (r : Reaped). (r.account.cred, r.deposit)) reaped
 
--- the delegations to them end, their deposits are paid out, and the treasury has what no account claims
+-- the delegations to them end, deposits are paid out, the treasury has what no account claims
 abbrev pub AreRefunded : List Reaped → Stakes → EnactState → Stakes → EnactState → Type 0
 AreRefunded reaped stake state after left =
     let accounts : List (Credential × Registered) = without_pools (pools_of reaped) (accounts_of stake) in

@@ -1,4 +1,4 @@
--- What the pending reward update leaves of the accounts and the state. (The application of the reward update in NEWEPOCH of the formal specification)
+-- What a reward update leaves of accounts and state. (NEWEPOCH of the formal specification)
 use Rattle.std.specs.Prelude.{◌+◌}
 use Rattle.gov_actions.specs.declared.state.EnactState.{EnactState}
 use Rattle.payments.specs.Amounts.{unclaimed_of}

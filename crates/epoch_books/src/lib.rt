@@ -1,4 +1,4 @@
-//! The first three steps of a boundary, over the parts of a ledger: the pending reward update, the turn of the snapshots, and the reaping of pools.
+//! The first steps of a boundary: the pending reward update, the snapshots, the reaping of pools.
 #![tactic(auto)]
 
 mod marks;

@@ -9,7 +9,8 @@ use freeze::pool_stakes;
 use ledger_books::Books;
 use std::alloc::Global;
 
-/// The snapshots turn: mark takes the stakes that the registered pools have now, and the fee pot is noted. (SNAP of the formal specification)
+/// Rotates the snapshots and notes the fee pot. (SNAP of the formal specification)
+/// Mark takes the stakes that the registered pools have now.
 pub fn snapshots_turned(alloc: Global, mut b: Books) -> Result<Books, NoMemory>
     ensures world { IfOk result (λ r. IsStep marked b r) }
     ensures frozen { IfOk result (λ r. frozen_entries r ≡ frozen_entries b) }

@@ -22,7 +22,9 @@ use stake_book::StakeBook;
 use std::alloc::Global;
 use tx_records::Retired;
 
-/// Future terms of pools take effect, and the pools that retire with the next epoch leave: delegations to them end, and each deposit goes to the reward account of the terms that hold, or to the treasury where it is not registered. It gives the pools that left, in order of their ids. (POOLREAP of the formal specification)
+/// Applies future terms and removes the pools that retire with the next epoch; returns them by id.
+/// Delegations to them end. Each deposit goes to the reward account of the terms that hold, or, if
+/// that is not registered, to the treasury. (POOLREAP of the formal specification)
 pub fn pools_reaped(alloc: Global, mut b: Books) -> Result<(Books, Vec<Retired>), NoMemory>
     requires holds { HoldsSupply b }
     requires epoch { b.epoch + 1 < 2 ^ 64 }
@@ -37,14 +39,14 @@ pub fn pools_reaped(alloc: Global, mut b: Books) -> Result<(Books, Vec<Retired>)
     match reaped(alloc, b.stake, b.state, &mut b.pools, b.epoch + 1) {
         Ok((stake, state, retired)) => Ok((Books { stake, state, ..b }, retired)),
         Err(error) => {
-            // let go in one call: a `?` would prove it part by part
+            // dropped in one call: a `?` would prove it part by part
             drop((b.pools, b.dreps, b.hot, b.proposals, b.snapshots, b.pending));
             Err(error)
         }
     }
 }
 
-// The pools that retire with the epoch leave, and the accounts and the state are those after their deposits are paid out; each of them is reported.
+// Removes the pools that retire with the epoch, pays out their deposits and reports each pool.
 fn reaped(
     alloc: Global,
     stake: StakeBook,
@@ -64,7 +66,7 @@ fn reaped(
     Ok((stake, state, retired))
 }
 
-// The pools that retire with the epoch leave: they, and the report of each.
+// Removes the pools that retire with the epoch: they, and the report of each.
 fn leaving(
     alloc: Global,
     stake: &StakeBook,
@@ -80,7 +82,7 @@ fn leaving(
     Ok((reaped, retired))
 }
 
-// The delegations to the pools end, and their deposits are paid out.
+// Ends the delegations to the pools and pays out their deposits.
 fn refunded(
     alloc: Global,
     mut stake: StakeBook,
@@ -112,7 +114,7 @@ fn refunds_of(alloc: Global, reaped: &[Reaped]) -> Result<Vec<(Credential, u64)>
     Ok(refunds.collect(alloc)?)
 }
 
-// The pools that leave, each with its deposit and where that goes.
+// The report of the pools that leave, each with its deposit and where that goes.
 fn retired(alloc: Global, reaped: &[Reaped], stake: &StakeBook) -> Result<Vec<Retired>, NoMemory>
     ensures { IfOk result (λ v. v.items ≡ map (retired_by (accounts_of stake.now)) reaped.now) }
 {

@@ -19,7 +19,9 @@ use stake_book::StakeBook;
 use std::alloc::Global;
 use tx_records::Rewards;
 
-/// The pending reward update acts: it takes from the reserves and the fee pot, gives to the treasury, and pays the rewards; those of accounts that are not registered go to the treasury. (The application of the reward update in NEWEPOCH of the formal specification)
+/// Applies the pending reward update. (Reward update in NEWEPOCH of the formal specification)
+/// It takes from the reserves and the fee pot, gives to the treasury, and pays the rewards.
+/// Rewards of accounts that are not registered go to the treasury.
 pub fn update_applied(alloc: Global, mut b: Books) -> Result<Books, NoMemory>
     requires holds { HoldsSupply b }
     requires covered { (u : Rewards) → b.pending ≡ Some u → IsCoveredUpdate (ledger_of_books b) u }
@@ -41,14 +43,14 @@ pub fn update_applied(alloc: Global, mut b: Books) -> Result<Books, NoMemory>
             ..b
         }),
         Err(error) => {
-            // let go in one call: a `?` would prove it part by part
+            // dropped in one call: a `?` would prove it part by part
             drop((b.pools, b.dreps, b.hot, b.proposals, b.snapshots, b.pending));
             Err(error)
         }
     }
 }
 
-// The accounts and the state after the treasury has its part and the rewards are paid.
+// The accounts and the state after the treasury gets its part and the rewards are paid.
 fn rewarded(
     alloc: Global,
     stake: StakeBook,

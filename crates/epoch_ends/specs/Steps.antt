@@ -1,4 +1,4 @@
--- The number of the epoch, on its own. (NEWEPOCH of the formal specification)
+-- The number of the epoch. (NEWEPOCH of the formal specification)
 use Rattle.std.specs.Prelude.{◌+◌}
 use Rattle.ledger_model.specs.Ledger.{Ledger}
 

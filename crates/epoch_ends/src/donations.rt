@@ -6,12 +6,12 @@ ghost use Rattle.ledger_model.specs.Supply.{pots_of};
 ghost use Rattle.run_model.specs.Boundary.{donations_joined};
 ghost use Rattle.run_model.specs.World.{on_ledger};
 
-use coin_frac::NoMemory;
 use epoch_balance::donations_balance;
 use ledger_books::{Books, with_treasury};
+use no_memory::NoMemory;
 use std::alloc::Global;
 
-/// 7: the donations join the treasury. (EPOCH of the formal specification)
+/// Step 7: adds the donations to the treasury. (EPOCH of the formal specification)
 pub fn donations_joined(alloc: Global, b: Books) -> Result<Books, NoMemory>
     requires holds { HoldsSupply b }
     ensures world { IfOk result (IsStep (on_ledger donations_joined) b) }

@@ -8,7 +8,8 @@ ghost use Rattle.run_model.specs.World.{on_ledger};
 
 use ledger_books::Books;
 
-/// 8: only members of the committee keep a hot key or a resignation. It takes no memory. (EPOCH of the formal specification)
+/// Step 8: only members of the committee keep a hot key or a resignation. It takes no memory.
+/// (EPOCH of the formal specification)
 pub fn members_only(b: Books) -> Books
     ensures world { IsStep (on_ledger members_only) b result }
     ensures frozen { frozen_entries result ≡ frozen_entries b }
@@ -20,7 +21,9 @@ pub fn members_only(b: Books) -> Books
     b
 }
 
-/// 9: an epoch that leaves no proposal is dormant; a proposal past its last epoch that is still in the list counts. It takes no memory. (EPOCH of the formal specification; that such a proposal counts is own)
+/// Step 9: an epoch that leaves no proposal is dormant. It takes no memory.
+/// A proposal past its last epoch counts while it is in the list.
+/// (EPOCH of the formal specification; that such a proposal counts: Own)
 pub fn dormancy_noted(b: Books) -> Books
     requires fits { b.dreps.dormant + 1 < 2 ^ 64 }
     ensures world { IsStep (on_ledger dormancy_noted) b result }
@@ -35,7 +38,8 @@ pub fn dormancy_noted(b: Books) -> Books
     b
 }
 
-/// The number of the epoch that begins. It takes no memory. (NEWEPOCH of the formal specification)
+/// Begins the next epoch: its number grows by 1. It takes no memory.
+/// (NEWEPOCH of the formal specification)
 pub fn next_epoch(b: Books) -> Books
     requires fits { b.epoch + 1 < 2 ^ 64 }
     ensures world { IsStep (on_ledger next_epoch) b result }

@@ -1,4 +1,4 @@
-//! The last steps of a boundary before the next epoch is frozen: donations, hot keys, the dormant count and the number of the epoch.
+//! The last steps of a boundary before the freeze: donations, hot keys, dormancy, epoch number.
 #![tactic(auto)]
 
 mod donations;

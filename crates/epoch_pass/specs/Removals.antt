@@ -1,4 +1,4 @@
--- What is reported, by the accounts and by the lists of those proposals that are enacted and of those that expire. (EPOCH of the formal specification)
+-- What removals report, by accounts and lists of ids. (EPOCH of the formal specification)
 use Rattle.std.specs.Prelude.{ℕ, not, List, map, if◌then◌else◌}
 use Rattle.book_records.specs.declared.Registered.{Registered}
 use Rattle.gov_actions.specs.declared.action.Proposal.{Proposal}
@@ -17,7 +17,7 @@ use Rattle.tx_records.specs.declared.report.Removed.{Removed}
 use Rattle.tx_records.specs.declared.report.Why.{Why}
 use Rattle.tx_records.specs.declared.report.Why.TheVariants.{Enacted, Expired, Dropped}
 
--- the proposals that leave, where these are enacted and those expire
+-- the proposals that leave, if these are enacted and those expire
 abbrev pub leaving_of : List Proposal → List ActionId → List ActionId → LastIds → List Proposal
 leaving_of ps enacted expired last = others_than (ids_of (kept_of ps enacted expired last)) ps
 

@@ -1,4 +1,4 @@
--- What steps of a boundary report, by the World before the step: the words of run_model's report, of one target and one proposal. (Own)
+-- What a boundary reports of a target and of a proposal, by the World before the step. (Own)
 use Rattle.std.specs.Prelude.{◌≡◌, ℕ, not, List, map}
 use Rattle.gov_actions.specs.declared.action.Proposal.{Proposal}
 use Rattle.gov_ids.specs.declared.Account.{Account}

@@ -6,13 +6,14 @@ ghost use Rattle.ledger_model.specs.Moves.{IsMovedBy};
 ghost use Rattle.ledger_model.specs.Supply.{pots_of};
 ghost use Rattle.run_model.specs.Boundary.{enacted, enacted_proposals};
 
-use coin_frac::NoMemory;
 use gov_actions::EnactState;
 use ledger_books::Books;
 use listed::Boxed;
+use no_memory::NoMemory;
 use std::alloc::Global;
 
-/// 4: the state becomes the one that enacting what was ratified leaves, but for the treasury: that stays the live one, from which step 5 alone pays. (ENACT and EPOCH of the formal specification)
+/// Step 4: enacts what was ratified. (ENACT and EPOCH of the formal specification)
+/// The treasury stays the live one; only step 5 pays from it.
 pub fn enacted(alloc: Global, b: Books, state: EnactState) -> Result<Books, NoMemory>
     ensures world { IfOk result (λ a. (counted : ℕ) (f : Snapshot) →
         state ≡ enacted_after f (enacted_proposals (world_of_books b counted f)) →

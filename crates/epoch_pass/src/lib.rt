@@ -1,4 +1,4 @@
-//! The steps of a boundary that act on what the epoch's pass ratified: it is enacted, withdrawals are paid, and proposals are removed.
+//! The boundary steps after the pass: actions are enacted, withdrawals paid, proposals removed.
 #![tactic(auto)]
 
 mod enactment;

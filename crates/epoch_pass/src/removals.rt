@@ -15,13 +15,13 @@ ghost use Rattle.run_model.specs.BoundaryFlows.{payment};
 ghost use Rattle.stake_book.specs.Stakes.{AreKept, HasRoom, accounts_of};
 
 use crate::reports::removed_of;
-use coin_frac::NoMemory;
 use epoch_balance::cuts_balance;
 use gov_actions::{EnactState, LastIds};
 use gov_ids::{ActionId, Credential};
 use ledger_books::Books;
 use lineage::kept_after;
 use listed::Boxed;
+use no_memory::NoMemory;
 use payments::paid_out;
 use proposal_store::{LiveProposal, ProposalStore};
 use stake_book::StakeBook;
@@ -29,7 +29,9 @@ use std::alloc::Global;
 use tx_balance::moves_keep_supply;
 use tx_records::Removed;
 
-/// 6: the proposals that are enacted, those that expire and those that can no longer be enacted leave. Each deposit goes to its return account, or to the treasury if that is not registered. The report of each is beside the books, in order of submission. (EPOCH of the formal specification)
+/// Step 6: removes the enacted, the expired and the no longer enactable proposals.
+/// Each deposit goes to its return account, or to the treasury if that is not registered.
+/// Returns the report of each, in order of submission. (EPOCH of the formal specification)
 pub fn removals_made(
     alloc: Global,
     b: Books,
@@ -53,14 +55,14 @@ pub fn removals_made(
     match refunded(alloc, b.stake, b.state, &mut b.proposals, ratified, expired) {
         Ok((stake, state, removed)) => Ok((Books { stake, state, ..b }, removed)),
         Err(error) => {
-            // let go in one call: a `?` would prove it part by part
+            // dropped in one call: a `?` would prove it part by part
             drop((b.pools, b.dreps, b.hot, b.proposals, b.snapshots, b.pending));
             Err(error)
         }
     }
 }
 
-// The proposals that leave do so, and the accounts and the state are those after their deposits are paid out; each of them is reported.
+// Removes the proposals that leave, pays out their deposits and reports each.
 fn refunded(
     alloc: Global,
     stake: StakeBook,
@@ -81,7 +83,7 @@ fn refunded(
     ensures distinct { HaveDistinctIds proposals.old }
     ensures accounts { AreKept stake }
 {
-    // each account stands once
+    // each account occurs once
     let _accounts = stake.balances();
     let last = &state.get().last;
     let (refunds, removed) = leaving(alloc, &stake, last, proposals, ratified, expired)?;
@@ -89,7 +91,7 @@ fn refunded(
     Ok((stake, state, removed))
 }
 
-// The proposals that leave do so; their deposits, each with its return account, and the report of each.
+// Removes the proposals that leave; gives their deposits with return accounts, and their reports.
 fn leaving(
     alloc: Global,
     stake: &StakeBook,
@@ -111,7 +113,7 @@ fn leaving(
     Ok((refunds, removed))
 }
 
-// Only the proposals stay that are to stay; the others are given, in order of submission.
+// Keeps the proposals that stay, and gives the others in order of submission.
 fn cut(
     alloc: Global,
     proposals: &mut ProposalStore,
@@ -123,7 +125,7 @@ fn cut(
     ensures removed { IfOk result (λ l. l.items ≡ leaving_of proposals.old ratified.now expired.now last.now) }
     ensures distinct { HaveDistinctIds proposals.old }
 {
-    // (the contract of `len` tells that no two have one id)
+    // the contract of `len` says that no two have one id
     let _distinct = proposals.len();
     let kept = kept_after(alloc, proposals, ratified, expired, last)?;
     proposals.retain_listed(kept.as_slice())

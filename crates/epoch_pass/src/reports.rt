@@ -2,9 +2,9 @@ ghost use Rattle.std.specs.Prelude.{◌≡◌, map, IfOk};
 ghost use Rattle.epoch_pass.specs.Removals.{paid_by, removed_by, why_by};
 ghost use Rattle.stake_book.specs.Stakes.{accounts_of};
 
-use coin_frac::NoMemory;
 use gov_ids::{Account, ActionId};
 use maps::set_of;
+use no_memory::NoMemory;
 use payments::goes_to;
 use proposal_store::LiveProposal;
 use stake_book::StakeBook;
@@ -55,7 +55,7 @@ pub(crate) fn removed_of(
     removed_beside(alloc, stake, proposals, &enacted, &expired)
 }
 
-// The same, by the sets of the ids.
+// Each removed proposal, by the sets of the ids.
 fn removed_beside(
     alloc: Global,
     stake: &StakeBook,

@@ -12,19 +12,21 @@ ghost use Rattle.run_model.specs.World.{on_ledger};
 ghost use Rattle.stake_book.specs.Stakes.{AreKept, HasRoom, accounts_of};
 
 use crate::reports::paid_of;
-use coin_frac::NoMemory;
 use epoch_balance::payments_balance;
 use gov_actions::EnactState;
 use gov_ids::{Account, Credential};
 use ledger_books::{Books, with_treasury};
 use listed::Boxed;
+use no_memory::NoMemory;
 use payments::pay_registered;
 use stake_book::StakeBook;
 use std::alloc::Global;
 use tx_balance::moves_keep_supply;
 use tx_records::Paid;
 
-/// 5: the treasury pays the targets of the enacted withdrawals whose accounts are registered; the amounts of the others stay there. The report of each target is beside the books, in their order. (ENACT and EPOCH of the formal specification)
+/// Step 5: the treasury pays the targets of enacted withdrawals whose accounts are registered.
+/// The amounts of the others stay there. Returns the report of each target, in their order.
+/// (ENACT and EPOCH of the formal specification)
 pub fn withdrawals_paid(
     alloc: Global,
     b: Books,
@@ -44,7 +46,7 @@ pub fn withdrawals_paid(
     match withdrawn(alloc, b.stake, b.state, targets) {
         Ok((stake, state, paid)) => Ok((Books { stake, state, ..b }, paid)),
         Err(error) => {
-            // let go in one call: a `?` would prove it part by part
+            // dropped in one call: a `?` would prove it part by part
             drop((b.pools, b.dreps, b.hot, b.proposals, b.snapshots, b.pending));
             Err(error)
         }

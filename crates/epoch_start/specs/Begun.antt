@@ -9,7 +9,7 @@ use Rattle.ledger_books.specs.declared.Books.{Books}
 use Rattle.ledger_books.specs.Parts.{world_of_books}
 use Rattle.snapshots.specs.declared.frozen.FrozenPool.{FrozenPool}
 
--- all that these books are is frozen anew, whatever was frozen before, and nothing is counted
+-- these books are frozen anew, whatever was frozen before, and nothing is counted
 abbrev pub begun_of : Books → World
 begun_of b = frozen_anew (world_of_books b 0 (no_snapshot b.state))
 

@@ -10,7 +10,8 @@ use listed::Listed;
 use snapshots::{Frozen, FrozenPool, HotList};
 use std::alloc::Global;
 
-/// What is frozen of these books when their epoch begins, in memory of its own. (CIP-1694, Changes to the stake snapshot; EPOCH of the formal specification)
+/// A copy of what is frozen of these books when their epoch begins.
+/// (CIP-1694, Changes to the stake snapshot; EPOCH of the formal specification)
 pub fn frozen_copy(alloc: Global, b: &Books) -> Result<Frozen, NoMemory>
     requires { IsSoundWorld (begun_of b.now) }
     ensures copy { IfOk result (λ f. f ≡ frozen_copy_of (begun_of b.now).frozen) }

@@ -11,7 +11,8 @@ use freeze::deposits_by_account;
 use ledger_books::Books;
 use std::alloc::Global;
 
-/// A count for so many workers, with none visited, of the entries that are frozen of these books; the live entries are the frozen ones. It takes all memory of the count. (The DRep pulser of cardano-ledger)
+/// Begins a count of the frozen entries for so many workers. (The DRep pulser of cardano-ledger)
+/// The live entries are the frozen ones. It takes all memory of the count.
 pub fn begun_count(alloc: Global, b: &Books, workers: u32) -> Result<Counting, NoMemory>
     requires some { 1 ≤ workers }
     requires few { workers ≤ 64 }

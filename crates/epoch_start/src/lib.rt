@@ -1,4 +1,4 @@
-//! What an epoch begins with, made of the books of the ledger: the copy of all that its pass reads, and the count of the frozen entries.
+//! What an epoch begins with: the copy of all that its pass reads, and the count of frozen entries.
 #![tactic(auto)]
 
 mod copies;

@@ -1,4 +1,4 @@
--- What a snapshot comes to: what is enacted and what expires, and what is reported. (CIP-1694, Ratification; RATIFY of the formal specification)
+-- What a snapshot decides and reports. (CIP-1694, Ratification; RATIFY of the formal specification)
 use Rattle.std.specs.Prelude.{◌≡◌, ℕ, List, filter}
 use Rattle.gov_actions.specs.declared.action.Proposal.{Proposal}
 use Rattle.gov_actions.specs.declared.state.EnactState.{EnactState}

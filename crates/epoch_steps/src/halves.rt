@@ -9,17 +9,19 @@ ghost use Rattle.run_model.specs.Laws.{IsCoveredUpdate};
 ghost use Rattle.run_model.specs.Report.{retired_of};
 ghost use Rattle.tx_records.specs.declared.record.Rewards.{Rewards};
 
-use coin_frac::NoMemory;
 use epoch_books::{pools_reaped, snapshots_turned, update_applied};
 use epoch_ends::{donations_joined, dormancy_noted, members_only, next_epoch};
 use epoch_pass::{enacted, removals_made, withdrawals_paid};
 use gov_actions::EnactState;
 use gov_ids::{Account, ActionId};
 use ledger_books::Books;
+use no_memory::NoMemory;
 use std::alloc::Global;
 use tx_records::{Paid, Removed, Retired};
 
-/// 1 to 3: the pending reward update acts, the snapshots turn, and pools are reaped. The report of each reaped pool is beside the books, in order of id. (NEWEPOCH, SNAP and POOLREAP of the formal specification)
+/// Steps 1 to 3: applies the pending reward update, rotates the snapshots, and reaps pools.
+/// Returns the report of each reaped pool, in order of id.
+/// (NEWEPOCH, SNAP and POOLREAP of the formal specification)
 pub fn before_pass(alloc: Global, b: Books) -> Result<(Books, Vec<Retired>), NoMemory>
     requires holds { HoldsSupply b }
     requires covered { (u : Rewards) → b.pending ≡ Some u → IsCoveredUpdate (ledger_of_books b) u }
@@ -35,7 +37,9 @@ pub fn before_pass(alloc: Global, b: Books) -> Result<(Books, Vec<Retired>), NoM
     Ok((reaped, retired))
 }
 
-/// 4 to 9, and the number of the next epoch: what was ratified is enacted, withdrawals are paid, proposals are removed, donations join the treasury, only members keep a hot key, and the dormant count follows. The reports of targets and of removed proposals are beside the books. (ENACT and EPOCH of the formal specification)
+/// Steps 4 to 9 and the next epoch's number: enacts, pays withdrawals, removes proposals, moves
+/// donations to the treasury, keeps only members' hot keys, sets the dormant count. Returns the
+/// reports of targets and of removed proposals. (ENACT and EPOCH of the formal specification)
 pub fn after_pass(
     alloc: Global,
     b: Books,

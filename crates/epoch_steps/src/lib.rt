@@ -1,4 +1,4 @@
-//! What a boundary takes from the pass over the frozen epoch that ends, and its steps one after another, over the parts of a ledger.
+//! The decisions of a boundary by the ended epoch's pass, and its steps over the parts of a ledger.
 #![tactic(auto)]
 
 mod halves;

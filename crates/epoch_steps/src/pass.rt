@@ -3,19 +3,20 @@ ghost use Rattle.epoch_steps.specs.Decisions.{decided_of};
 ghost use Rattle.tally.specs.Cells.{AreCells};
 ghost use Rattle.tally.specs.Counted.{CanBeCounted, ForSnapshot};
 
-use coin_frac::NoMemory;
 use drep_pulser::Counted;
 use frozen_reads::{enacted_targets, stakes_of};
 use gov_actions::{EnactState, Tally};
 use gov_ids::{Account, ActionId, Drep};
 use gov_model::one_list_is_ratified;
 use listed::Listed;
+use no_memory::NoMemory;
 use ratify::ratify_tallied;
 use snapshots::Frozen;
 use std::alloc::Global;
 use tally::TallyCell;
 
-/// What the epoch that ends comes to: what its pass decides, and what a boundary reports of it. (RatifyState of the formal specification; the stakes and the targets beside it are own)
+/// What the pass of the ended epoch decides, and what a boundary reports of it.
+/// (RatifyState of the formal specification; the stakes and the targets are own)
 #[derive(Drop)]
 pub struct Decided {
     /// What is enacted, in the order in which it is enacted.
@@ -24,7 +25,7 @@ pub struct Decided {
     pub expired: Listed<ActionId>,
     /// The frozen state after all that is ratified was enacted.
     pub state: EnactState,
-    /// Counts, needs and verdict of each frozen proposal, in the order in which they are looked at.
+    /// Counts, needs and verdict of each frozen proposal, in the order of the pass.
     pub tallies: Listed<Tally>,
     /// The stakes of the frozen DReps and of the two predefined ones, in lovelace.
     pub stakes: Listed<(Drep, u64)>,
@@ -32,7 +33,8 @@ pub struct Decided {
     pub targets: Listed<(Account, u64)>,
 }
 
-/// What a frozen epoch and its count come to, by cells that hold the counts of its proposals. (CIP-1694, Ratification; RATIFY of the formal specification)
+/// The decisions of a frozen epoch with its count, by cells that hold its proposals' counts.
+/// (CIP-1694, Ratification; RATIFY of the formal specification)
 pub fn decide(
     alloc: Global,
     f: &Frozen,

@@ -1,4 +1,4 @@
--- The active DReps of a frozen epoch in the order in which they are taken, and what a proposal lacks by them. (Own)
+-- The ranking of a frozen epoch's active DReps, and what a proposal lacks by it. (Own)
 use Rattle.std.specs.Prelude.{ℕ, List, filter, map, nat_le}
 use Rattle.std.specs.List.{find}
 use Rattle.coin_frac.specs.Fraction.{Fraction}
@@ -19,11 +19,11 @@ use Rattle.shortfall_model.specs.Silent.{fronts_of, is_silent, short_by, stake_c
 use Rattle.snapshots.specs.declared.frozen.Frozen.{Frozen}
 use Rattle.fewest_votes.specs.declared.ranking.Rank.{Rank}
 
--- the active DReps of a snapshot, each with its stake: the greatest first, and of equal ones by credential
+-- the active DReps of a snapshot with their stakes: the greatest first, equal ones by credential
 abbrev pub ranked_of : Snapshot → List (Credential × ℕ)
 ranked_of s = in_order stake_cmp (map (λ c. (c, drep_stake s (drep.Registered c))) (active_dreps s))
 
--- the same by an ended count
+-- the active DReps by an ended count, in the same order
 abbrev pub ranked_by : Frozen → Ended → List (Credential × ℕ)
 ranked_by f c =
     in_order stake_cmp (map (λ d. (d.0, sum_for c.sums (drep.Registered d.0))) (filter (λ d. nat_le f.epoch d.1) f.dreps))
@@ -40,11 +40,11 @@ drep_at r = (r.drep, r.stake.0)
 abbrev pub silent_among : Proposal → List (Credential × ℕ) → List (Credential × ℕ)
 silent_among a ds = filter (λ d. is_silent a d.0) ds
 
--- what a proposal lacks of a threshold, where these are its silent DReps in order
+-- what a proposal lacks of a threshold, if these are its silent DReps in order
 abbrev pub short_by_front : Fraction → ℕ × ℕ → List (Credential × ℕ) → Short
 short_by_front t count ds = short_by t count (find (suffice t count) (fronts_of ds))
 
--- what it lacks of a need
+-- what a proposal lacks of a need
 abbrev pub short_in : Need → ℕ × ℕ → List (Credential × ℕ) → Short
 short_in need.Never count ds = short.Never
 short_in need.Nothing count ds = short_by_front zero_share count ds

@@ -6,18 +6,18 @@ ghost use Rattle.shortfall_model.specs.Silent.{short_of};
 ghost use Rattle.tally.specs.Counted.{CanBeCounted, ForSnapshot};
 
 use crate::ranking::Ranking;
-use coin_frac::NoMemory;
 use drep_pulser::Counted;
 use gov_actions::Proposal;
+use no_memory::NoMemory;
 use shortfall_laws::least_is_least;
 use shortfall_model::Short;
 use snapshots::Frozen;
 use std::alloc::Global;
 use tally::drep_count;
 
-/// The fewest silent DReps whose Yes reaches what DReps need of a proposal, the greatest stakes first and of equal ones by
-/// credential, nothing being enacted before. For many proposals make one `Ranking`. (Own; the stakes, counts and needs are
-/// those of CIP-1694, Ratification)
+/// The fewest silent DReps whose Yes reaches the DReps' need, if nothing is enacted before: the
+/// greatest stakes first, equal ones by credential. For many proposals make one `Ranking`.
+/// (Own; the stakes, counts and needs are those of CIP-1694, Ratification)
 pub fn least(alloc: Global, f: &Frozen, c: &Counted, a: &Proposal) -> Result<Short, NoMemory>
     requires counted { CanBeCounted f.now c.now }
     requires voters { IsMap voter_cmp a.now.votes }

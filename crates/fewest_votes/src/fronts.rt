@@ -6,14 +6,15 @@ ghost use Rattle.maps.specs.Maps.{IsMap};
 ghost use Rattle.fewest_votes.specs.Ranked.{short_by_front, short_in, silent_among};
 
 use crate::silent::is_silent;
-use coin_frac::{NoMemory, Unit, reaches};
+use coin_frac::{Unit, reaches};
 use gov_actions::{Need, Proposal};
 use gov_ids::Credential;
 use listed::Listed;
+use no_memory::NoMemory;
 use shortfall_model::Short;
 use std::alloc::Global;
 
-// What a proposal lacks of a need, where the DReps stand in the order in which they are taken.
+// What a proposal lacks of a need, with the DReps in the order of the ranking.
 pub(crate) fn short_in(
     alloc: Global,
     need: Need,
@@ -31,7 +32,7 @@ pub(crate) fn short_in(
     }
 }
 
-// What it lacks of a threshold: silent DReps are taken until their Yes reaches it.
+// What it lacks of a threshold: takes silent DReps until their Yes reaches it.
 fn short_by(
     alloc: Global,
     need: Unit,

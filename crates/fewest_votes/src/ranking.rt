@@ -9,10 +9,10 @@ ghost use Rattle.snapshots.specs.Frozen.{frozen_copy_of};
 ghost use Rattle.tally.specs.Counted.{ForSnapshot};
 
 use crate::fronts::short_in;
-use coin_frac::NoMemory;
 use drep_pulser::Counted;
 use gov_actions::{Proposal, Role};
 use gov_ids::{Credential, Drep};
+use no_memory::NoMemory;
 use shortfall_model::Short;
 use snapshots::Frozen;
 use std::alloc::Global;
@@ -21,15 +21,15 @@ use std::collections::BTreeSet;
 use std::marker::Model;
 use tally::need;
 
-// The place of a DRep: the greater stake comes first, and of equal ones the lower credential.
+// The rank of a DRep: the greater stake first, and of equal ones the lower credential.
 #[derive(Clone, Copy, PartialEq, Eq, PartialOrd, Ord)]
 struct Rank {
     stake: Reverse<u64>,
     drep: Credential,
 }
 
-/// The active DReps of a frozen epoch, each with its stake in lovelace, the greatest first, and of equal ones by credential.
-/// It is made once for all proposals. (Own)
+/// A frozen epoch's active DReps and their stakes in lovelace, made once for all proposals.
+/// The greatest stake is first; equal ones are ordered by credential.
 #[derive(Drop)]
 pub struct Ranking {
     dreps: Vec<(Credential, u64)>,
@@ -45,7 +45,7 @@ impl Model for Ranking {
 }
 
 impl Ranking {
-    /// The ranking of what is frozen, by its count. (Own)
+    /// The ranking of what is frozen, by its count.
     pub fn of(alloc: Global, f: &Frozen, c: &Counted) -> Result<Ranking, NoMemory>
         ensures { IfOk result (λ r. ForSnapshot f.now c.now (λ s. r ≡ ranked_of s)) }
     {
@@ -54,8 +54,8 @@ impl Ranking {
         Ok(Ranking { dreps })
     }
 
-    /// What a proposal lacks of what DReps need, nothing being enacted before, by what they count on it. No walk goes past
-    /// the last DRep that is chosen. (Own; the needs are those of CIP-1694, Ratification)
+    /// What a proposal lacks of the DReps' need, by their counts, if nothing is enacted before.
+    /// The scan stops at the last chosen DRep. (Own; the needs are those of CIP-1694, Ratification)
     pub fn shortfall(
         &self,
         alloc: Global,
@@ -72,7 +72,7 @@ impl Ranking {
     }
 }
 
-// The places of the active DReps.
+// The ranks of the active DReps.
 fn ranks(alloc: Global, f: &Frozen, c: &Counted) -> Result<BTreeSet<Rank>, NoMemory>
     ensures { IfOk result (λ ranks. ranks.keys ≡ map rank_of (ranked_by f.now c.now)) }
 {
@@ -89,7 +89,7 @@ fn ranks(alloc: Global, f: &Frozen, c: &Counted) -> Result<BTreeSet<Rank>, NoMem
     Ok(ranks)
 }
 
-// The DReps at these places, each with its stake.
+// The DReps of these ranks, each with its stake.
 fn dreps_of(alloc: Global, ranks: &BTreeSet<Rank>) -> Result<Vec<(Credential, u64)>, NoMemory>
     ensures { IfOk result (λ dreps. dreps.items ≡ map drep_at ranks.now.keys) }
 {

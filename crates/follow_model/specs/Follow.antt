@@ -1,4 +1,4 @@
--- What a record of a followed stream is answered, and the chain that it leaves. (Own)
+-- The reply to a record of a followed stream, and the chain that the record leaves. (Own)
 use Rattle.std.specs.Prelude.{ℕ, not, List, [], ◌∷◌, Option, Some, None, fold}
 use Rattle.tx_records.specs.declared.reply.Reply.{Reply}
 use Rattle.tx_records.specs.declared.reply.Reply.TheVariants.{Accepted, Refused}
@@ -20,17 +20,17 @@ abbrev pub follow_refusal : World → Chain → FollowRecord → Option Rule
 follow_refusal start c (Plain r) = refusal_of (world_of_chain start c) r
 follow_refusal start c (Rollback slot) = first_among (rollback_checks (world_of_chain start c) c slot)
 
--- the chain after a record that breaks none
+-- the chain after a record that breaks no rule
 abbrev pub chain_after_accepted : Chain → FollowRecord → Chain
 chain_after_accepted c (Plain r) = with_record r c
 chain_after_accepted c (Rollback slot) = taken_back_to slot c
 
--- the reply to a record that breaks none
+-- the reply to a record that breaks no rule
 abbrev pub follow_acceptance : FollowRecord → Reply
 follow_acceptance (Plain r) = acceptance_of r
 follow_acceptance (Rollback slot) = Accepted
 
--- by the first rule that is broken
+-- the chain and the reply, by the first rule that is broken
 abbrev pub follow_step_by : Option Rule → Chain → FollowRecord → Chain × Reply
 follow_step_by (Some rule) c r = (c, Refused rule)
 follow_step_by None c r = (chain_after_accepted c r, follow_acceptance r)
@@ -43,7 +43,7 @@ follow_step start c r = follow_step_by (follow_refusal start c r) c r
 abbrev pub chain_after_all : World → Chain → List FollowRecord → Chain
 chain_after_all start c rs = fold (λ d r. (follow_step start d r).0) c rs
 
--- what they are answered
+-- the replies to these records
 abbrev pub follow_replies : World → Chain → List FollowRecord → List Reply
 follow_replies start c [] = []
 follow_replies start c (r ∷ rs) = (follow_step start c r).1 ∷ follow_replies start (follow_step start c r).0 rs

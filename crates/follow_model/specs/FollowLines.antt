@@ -23,7 +23,7 @@ use Rattle.follow_records.specs.declared.rules.TheConstants.{ROLLBACK_UNKNOWN}
 use Rattle.follow_model.specs.Chain.{Chain, no_records, world_of_chain}
 use Rattle.follow_model.specs.Follow.{follow_step}
 
--- how the rule on rollbacks is printed
+-- the text of the rule on rollbacks
 abbrev pub rollback_text : RuleText
 rollback_text = rule_text ROLLBACK_UNKNOWN (codes "RollbackUnknown") (codes "last" ∷ [])
 
@@ -31,19 +31,19 @@ rollback_text = rule_text ROLLBACK_UNKNOWN (codes "RollbackUnknown") (codes "las
 abbrev pub unknown_words : Rule → List Text
 unknown_words rule = codes "refused" ∷ decimal rule.number ∷ refusal_words rule (Some rollback_text)
 
--- an accepted rollback: where the chain is now, and how far the count is
+-- an accepted rollback: the position of the chain, and the count
 abbrev pub rolled_words : World → List Text
 rolled_words w =
     codes "rolled" ∷ codes "slot" ∷ decimal w.ledger.slot ∷ codes "epoch" ∷ decimal w.ledger.epoch ∷
     codes "counted" ∷ decimal w.counted ∷ codes "of" ∷ decimal (entry_count w.frozen) ∷
     []
 
--- the lines of a rollback, by its reply: v is the World after it
+-- the lines of a rollback, by its reply; v is the World after it
 abbrev pub rollback_lines : Reply → World → List (List Text)
 rollback_lines (Refused rule) v = unknown_words rule ∷ []
 rollback_lines reply v = rolled_words v ∷ []
 
--- the lines of a record, by its reply: w is the World before it, and v the one after it
+-- the lines of a record, by its reply; w is the World before it, and v the World after it
 abbrev pub follow_lines : Reply → FollowRecord → World → World → List (List Text)
 follow_lines reply (Plain r) w v = lines_by reply r w v
 follow_lines reply (Rollback slot) w v = rollback_lines reply v
@@ -67,14 +67,14 @@ follow_text_from start c [] = []
 follow_text_from start c (r ∷ rs) =
     text_of_lines r.0 (follow_reading_lines start c r.1) ++ follow_text_from start (chain_after_reading start c r.1) rs
 
--- by the first genesis rule that is broken
+-- the text of a followed stream, by the first genesis rule that is broken
 abbrev pub follow_text_by : ℕ → Genesis → Option GenesisRule → List (ℕ × FollowReading) → Option Text
 follow_text_by n g (Some rule) rs = None
 follow_text_by n g None rs =
     let w : World = world_of_genesis g in
     Some (text_of_lines n (pots_words (codes "genesis") (pots_of w.ledger) ∷ []) ++ follow_text_from w no_records rs)
 
--- the text of a followed stream, where it begins with a genesis that breaks no genesis rule
+-- the text of a followed stream that begins with a genesis without a broken genesis rule
 abbrev pub follow_of_readings : List (ℕ × FollowReading) → Option Text
 follow_of_readings ((n, Read (Plain (records.Genesis g))) ∷ rs) = follow_text_by n g (genesis_fault g) rs
 follow_of_readings _ = None

@@ -1,4 +1,4 @@
--- The laws over followed streams, each proved where a public call cites it. (Own)
+-- The laws over followed streams, each with a proof where a public call cites it. (Own)
 use Rattle.std.specs.Prelude.{◌≡◌, ℕ, ◌≤◌, Bool, true, List, [], ◌∷◌, ◌++◌, None, map}
 use Rattle.std.specs.List.{list_all}
 use Rattle.tx_records.specs.declared.genesis.Genesis.{Genesis}
@@ -15,7 +15,7 @@ use Rattle.follow_records.specs.declared.record.FollowRecord.TheVariants.{Plain,
 use Rattle.follow_model.specs.Chain.{no_records}
 use Rattle.follow_model.specs.Follow.{chain_after_all, follow_replies, followed_world}
 
--- a record within the limits
+-- whether a record is within the limits
 abbrev pub is_within_limits : FollowRecord → Bool
 is_within_limits (Plain r) = record_limits.is_within_limits r
 is_within_limits (Rollback slot) = is_slot slot
@@ -26,14 +26,14 @@ pub record IsFollowed (g : Genesis) (rs : List FollowRecord) : Type 0 where
   pub no_fault : genesis_fault g ≡ None
   pub all_within : list_all is_within_limits rs ≡ true
 
--- without rollbacks it is a replay: the same replies, and the same World, with its count
+-- without rollbacks following is a replay: the same replies, and the same World, with its count
 abbrev pub FollowIsReplay : Type 0
 FollowIsReplay = (g : Genesis) (rs : List Record) → IsFollowed g (map Plain rs) →
     let start : World = world_of_genesis g in
     (follow_replies start no_records (map Plain rs) ≡ replies_of start rs)
     × (followed_world start (map Plain rs) ≡ world_after_all start rs)
 
--- the records that stand break no rule where they stand, so the World is theirs but for the count
+-- the records that remain break no rule in their order, so the World is theirs except the count
 abbrev pub KeptAreAccepted : Type 0
 KeptAreAccepted = (g : Genesis) (rs : List FollowRecord) → IsFollowed g rs →
     let start : World = world_of_genesis g in
@@ -43,7 +43,7 @@ KeptAreAccepted = (g : Genesis) (rs : List FollowRecord) → IsFollowed g rs →
 abbrev pub FollowedIsSound : Type 0
 FollowedIsSound = (g : Genesis) (rs : List FollowRecord) → IsFollowed g rs → IsSoundWorld (followed_world (world_of_genesis g) rs)
 
--- one more record within the epoch leaves what is frozen, and never lowers the count
+-- one more record in the epoch leaves what is frozen, and never lowers the count
 pub record NeverFalls (v w : World) : Type 0 where
   pub frozen : w.frozen ≡ v.frozen
   pub counted : v.counted ≤ w.counted
@@ -55,7 +55,7 @@ CountNeverFalls = (g : Genesis) (rs : List FollowRecord) (r : FollowRecord) → 
     let w : World = followed_world (world_of_genesis g) (rs ++ r ∷ []) in
     w.ledger.epoch ≡ v.ledger.epoch → NeverFalls v w
 
--- and no rollback leaves the epoch
+-- no rollback leaves the epoch
 abbrev pub RollbackStaysInEpoch : Type 0
 RollbackStaysInEpoch = (g : Genesis) (rs : List FollowRecord) (slot : ℕ) → IsFollowed g (rs ++ Rollback slot ∷ []) →
     (followed_world (world_of_genesis g) (rs ++ Rollback slot ∷ [])).ledger.epoch ≡ (followed_world (world_of_genesis g) rs).ledger.epoch

@@ -1,2 +1,2 @@
-//! Streams with rollbacks: which records stand, the World that they leave, and the text of a followed stream.
+//! Streams with rollbacks: the records that remain, their World, and the text of a followed stream.
 #![tactic(auto)]

@@ -1,4 +1,4 @@
--- What a line of a followed stream reads as: a rollback, or what a replay reads it as. (Own)
+-- What a line of a followed stream reads as: a rollback, or a record of a replay. (Own)
 use Rattle.std.specs.Prelude.{ℕ, Bool, false, List, Result, Ok, Err, bytes_eq, codes, if◌then◌else◌}
 use Rattle.serde_json.specs.Data.{Data}
 use Rattle.tx_records.specs.declared.field.FieldName.TheVariants as fields

@@ -8,9 +8,9 @@ use json_tree::read_value;
 use record_read::{RecordFault, Scratch, lines_read_within_limits};
 use std::alloc::Global;
 
-/// The record of a line, or the first thing of it that is wrong: `UnknownKind` where its kind is
-/// neither one of the five nor `rollback`. One JSON value is built for the line, in a scratch that may
-/// be kept from line to line. `NoMemory` may come at any time. (Own)
+/// The record of a line, or its first fault. `NoMemory` may come at any time. (Own)
+/// `UnknownKind`: the kind is neither one of the five nor `rollback`.
+/// Builds one JSON value for the line, in a scratch that may be kept from line to line.
 pub fn read_follow(
     alloc: Global,
     scratch: &mut Scratch,

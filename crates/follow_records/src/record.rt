@@ -14,7 +14,7 @@ pub enum FollowRecord {
 pub enum FollowReading {
     /// A record.
     Read(FollowRecord),
-    /// It is no record: what of it is wrong, and the place in that list, from 0, where one entry is.
+    /// It is no record: what is wrong, and the place from 0 in that list where one entry is bad.
     Malformed { what: FieldName, place: Option<u32> },
     /// It is longer than a line may be.
     TooLong,

@@ -1,4 +1,5 @@
--- What the calls of this crate make of the books is what is frozen of a snapshot; src/laws.rt has a function whose contract is the law.
+-- Laws: what this crate's calls compute from the books is what a snapshot freezes.
+-- A function of src/laws.rt has each law as its contract.
 use Rattle.std.specs.Prelude.{◌≡◌, ℕ, List, filter_map, map, option_map, unwrap_or}
 use Rattle.maps.specs.Maps.{IsMap, value_at}
 use Rattle.gov_ids.specs.declared.Credential.{Credential}
@@ -12,7 +13,7 @@ use Rattle.snapshots.specs.Frozen.{frozen_copy_of}
 use Rattle.freeze.specs.Deposits.{paid_by, paid_with, delegates_to}
 use Rattle.freeze.specs.Pools.{delegation_of, pool_by}
 
--- what is paid to a credential are the deposits that go back to it
+-- what is paid to a credential is the sum of the deposits that return to it
 abbrev pub PaidAreDeposits : Type 0
 PaidAreDeposits = (s : Snapshot) (c : Credential) → paid_by s.proposals c ≡ deposits_to s c
 
@@ -20,12 +21,13 @@ PaidAreDeposits = (s : Snapshot) (c : Credential) → paid_by s.proposals c ≡ 
 abbrev pub DelegatingAreStaked : Type 0
 DelegatingAreStaked = (s : Snapshot) (p : PoolId) (c : Credential) → delegates_to s.entries p c ≡ is_staked_with s p c
 
--- what the delegation of a pool's reward account stands for is the pool's default vote
+-- the default vote of a pool is that of its reward account's delegation
 abbrev pub DelegationsAreDefaults : Type 0
 DelegationsAreDefaults = (s : Snapshot) (p : PoolId)
     → default_of_delegation (delegation_of s.entries (value_at pool_cmp s.pool_accounts p)) ≡ default_vote s p
 
--- where the snapshot has the reward accounts of these pools, and these are the deposits by pool, the pools are those that are frozen
+-- the pools are the frozen ones, where the snapshot has the reward accounts of these pools
+-- and these are the deposits by pool
 abbrev pub PoolsAreFrozen : Type 0
 PoolsAreFrozen = (s : Snapshot) (pools : List (PoolId × Pool)) (deposits : List (PoolId × ℕ)) → IsMap pool_cmp s.mark
     → s.pool_accounts ≡ filter_map (λ m. option_map (λ (p : Pool). (m.0, p.terms.account)) (value_at pool_cmp pools m.0)) s.mark

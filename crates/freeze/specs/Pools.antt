@@ -1,4 +1,4 @@
--- The pools of mark as they are frozen. (RatifyEnv of the formal specification)
+-- The pools of mark as the freeze takes them. (RatifyEnv of the formal specification)
 use Rattle.std.specs.Prelude.{ℕ, ◌+◌, List, Option, option_and_then, option_map, unwrap_or}
 use Rattle.maps.specs.Maps.{value_at}
 use Rattle.gov_ids.specs.declared.Account.{Account}
@@ -22,7 +22,7 @@ abbrev pub delegation_of : List (Credential × Entry) → Option Account → Opt
 delegation_of entries account =
     option_and_then (λ (r : Registered). r.drep) (option_and_then (λ (a : Account). registered_at entries a.cred) account)
 
--- a pool of mark with its stake, by the pools, the entries and the deposits that stand
+-- a pool of mark with its stake, from the current pools, entries and deposits
 abbrev pub pool_by : List (PoolId × Pool) → List (Credential × Entry) → List (PoolId × ℕ) → PoolId × ℕ → FrozenPool
 pool_by pools entries deposits m =
     let account : Option Account = reward_account pools m.0 in

@@ -14,7 +14,8 @@ use gov_ids::{Credential, PoolId};
 use proposal_store::ProposalStore;
 use std::alloc::Global;
 
-/// The deposits of the live proposals by the credential that they go back to, in lovelace. (The DRep pulser of cardano-ledger)
+/// The deposits of the live proposals, in lovelace, by the credential to which they return.
+/// (The DRep pulser of cardano-ledger)
 pub fn deposits_by_account(
     alloc: Global,
     store: &ProposalStore,
@@ -34,7 +35,8 @@ pub fn deposits_by_account(
     Ok(deposits)
 }
 
-/// The deposits of the live proposals whose return account delegates to a pool, by that pool, in lovelace. (Own)
+/// The deposits of the live proposals, in lovelace, by the pool to which the return account
+/// delegates.
 pub fn deposits_by_pool(
     alloc: Global,
     store: &ProposalStore,
@@ -63,7 +65,7 @@ fn pool_of(accounts: &AccountBook, c: &Credential) -> Option<PoolId>
     accounts.get(c)?.registered?.pool
 }
 
-// More at a key.
+// Adds to the amount at a key.
 fn add<K: Copy + Ord>(deposits: &mut TotalMap<K>, k: K, n: u64) -> Result<(), NoMemory>
     requires fits { total_of deposits.old + n < 2 ^ 64 }
     ensures amounts { OnOk result (deposits.new ≡

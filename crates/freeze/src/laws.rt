@@ -1,11 +1,12 @@
 ghost use Rattle.freeze.specs.Laws.{PaidAreDeposits, DelegatingAreStaked, DelegationsAreDefaults, PoolsAreFrozen};
 
-/// The pools that `frozen_pools` makes of the books are those that are frozen of the snapshot of these books. (Own)
+/// What `frozen_pools` makes of the books is the frozen pools of these books' snapshot.
 pub fn pools_are_frozen()
     ensures { PoolsAreFrozen }
 {}
 
-/// The words of the clauses of this crate, over proposals, entries and reward accounts, are those of the snapshot that has these: what is paid to a credential, which credentials delegate to a pool, and what a pool's delegation stands for. (Own)
+/// What this crate's clauses say of proposals, entries and reward accounts holds of their snapshot:
+/// what is paid to a credential, who delegates to a pool, and a pool's default vote.
 pub fn words_are_of_snapshots()
     ensures paid { PaidAreDeposits }
     ensures delegating { DelegatingAreStaked }

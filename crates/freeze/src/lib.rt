@@ -1,4 +1,4 @@
-//! What is frozen when an epoch begins, made of the books of the ledger.
+//! What a boundary freezes when an epoch begins, from the books of the ledger.
 #![tactic(auto)]
 
 mod deposits;

@@ -12,7 +12,8 @@ use listed::Listed;
 use snapshots::FrozenPool;
 use std::alloc::Global;
 
-/// The pools of mark as they are frozen, in its order. (RatifyEnv of the formal specification)
+/// The pools of mark as the freeze takes them, in the order of mark.
+/// (RatifyEnv of the formal specification)
 pub fn frozen_pools(
     alloc: Global,
     mark: &[(PoolId, u64)],
@@ -30,7 +31,7 @@ pub fn frozen_pools(
     Ok(Listed::from_vec(frozen))
 }
 
-// A pool of mark as it is frozen.
+// A pool of mark as the freeze takes it.
 fn frozen_pool(
     pool: PoolId,
     stake: u64,
@@ -65,7 +66,7 @@ fn delegation_of(accounts: &AccountBook, account: Option<Account>) -> Option<Dre
     accounts.get(&account?.cred)?.registered?.drep
 }
 
-// What a vote delegation stands for.
+// The default vote of a vote delegation.
 fn default_of(drep: Option<Drep>) -> DefaultVote
     ensures { result ≡ default_of_delegation drep }
 {

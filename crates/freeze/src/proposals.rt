@@ -6,7 +6,8 @@ use listed::Listed;
 use proposal_store::ProposalStore;
 use std::alloc::Global;
 
-/// The live proposals with their votes, in order of submission, in memory of their own. (The proposals of EPOCH's snapshot in the formal specification)
+/// A copy of the live proposals with their votes, in order of submission.
+/// (The proposals of EPOCH's snapshot in the formal specification)
 pub fn copied_proposals(alloc: Global, store: &ProposalStore) -> Result<Listed<Proposal>, NoMemory>
     ensures { IfOk result (λ l. l ≡ store.now) }
 {

@@ -7,7 +7,8 @@ use gov_ids::PoolId;
 use stake_book::StakeBook;
 use std::alloc::Global;
 
-/// The stake of each registered pool, in lovelace and in the order of pool ids: what mark takes at a boundary. (SNAP of the formal specification)
+/// The stake of each registered pool, in lovelace, in the order of pool ids: the new mark.
+/// (SNAP of the formal specification)
 pub fn pool_stakes(
     alloc: Global,
     stake: &StakeBook,

@@ -1,13 +1,14 @@
-//! Three proposals, whose deposits go back to two accounts, and a pool of mark to which one of these delegates.
+//! Three proposals with deposits from two accounts, and a pool of mark.
+//! One account delegates to the pool.
 ghost use Rattle.std.specs.Prelude.{◌≡◌, []};
 
 use accounts::{AccountBook, Entry, Registered};
 use cert_pool::PoolBook;
-use coin_frac::NoMemory;
 use freeze::{copied_proposals, deposits_by_account, deposits_by_pool, frozen_pools};
 use gov_actions::{Action, Proposal};
 use gov_ids::{Account, ActionId, CredKind, Credential, PoolId, TxId};
 use listed::Listed;
+use no_memory::NoMemory;
 use proposal_store::ProposalStore;
 use snapshots::DefaultVote;
 use std::alloc::Global;
@@ -23,7 +24,7 @@ fn key(byte: u8) -> Credential {
     }
 }
 
-/// One that asks for nothing, whose deposit goes back to the account of a key.
+/// A proposal that asks for nothing; its deposit goes back to the account of a key.
 fn info(alloc: Global, byte: u8, deposit: u64, account: u8) -> Proposal
     ensures deposit { result.deposit ≡ deposit }
     ensures votes { result.votes ≡ [] }
@@ -44,7 +45,7 @@ fn info(alloc: Global, byte: u8, deposit: u64, account: u8) -> Proposal
     }
 }
 
-/// Adds one to a store that holds little and does not have it.
+/// Adds a proposal to a store that holds little and does not have it.
 fn add(
     rt: &impl Abort,
     alloc: Global,
@@ -82,7 +83,7 @@ fn three(rt: &impl Abort, alloc: Global) -> Result<ProposalStore, Fail> {
     Ok(store)
 }
 
-/// The two accounts, of which the first delegates to the pool.
+/// The two accounts; the first delegates to the pool.
 fn two(alloc: Global) -> Result<AccountBook, NoMemory> {
     let mut accounts = AccountBook::new(alloc);
     accounts.put(key(7), registered(Some(POOL)))?;

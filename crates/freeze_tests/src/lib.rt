@@ -1,4 +1,4 @@
-//! Tests of what an epoch freezes. It has no code, so that a test is proved alone.
+//! Tests of what an epoch freezes, without code, so that a test is proved alone.
 #![tactic(auto)]
 
 #[cfg(test)]

@@ -89,7 +89,7 @@ module _ (ids : List ActionId) where
   by_priority ps [] = refl
   by_priority ps (n ∷ ns) = found-append (of_priority n ps) (flat_map (λ n. of_priority n ps) ns) ∙ ap (λ (l : List (Account × ℕ)). found (of_priority n ps) ++ l) (by_priority ps ns)
 
-  -- in order of priority they stand in order of submission
+  -- in order of priority they are in order of submission
   pub found_in_order : (ps : List Proposal) → found ps ≡ found (in_order_of_priority ps)
   found_in_order ps =
       sym (

@@ -1,4 +1,4 @@
--- That what is frozen of a sound World can be counted; src/laws.rt has a function whose contract is the law. (Own)
+-- What is frozen of a sound World can be counted; src/laws.rt has the law as a contract. (Own)
 use Rattle.drep_pulser.specs.Count.{Ended}
 use Rattle.run_model.specs.SoundWorld.{IsSoundWorld}
 use Rattle.run_model.specs.World.{World}

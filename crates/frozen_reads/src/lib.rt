@@ -1,4 +1,4 @@
-//! What a boundary reads of the frozen epoch that ends: that it can be counted, the stakes of its DReps, and the targets of what is enacted.
+//! What a boundary reads of the frozen epoch: that it can be counted, DRep stakes, enacted targets.
 #![tactic(auto)]
 
 mod laws;

@@ -3,13 +3,14 @@ ghost use Rattle.frozen_reads.specs.Stakes.{registered, stakes_by};
 ghost use Rattle.run_model.specs.Report.{stakes_of};
 ghost use Rattle.tally.specs.Counted.{ForSnapshot};
 
-use coin_frac::NoMemory;
 use drep_pulser::Counted;
 use gov_ids::{Credential, Drep};
+use no_memory::NoMemory;
 use snapshots::Frozen;
 use std::alloc::Global;
 
-/// The stakes of the frozen DReps in the order of their credentials, then of the two predefined ones, in lovelace; those without stake are left out. (Own)
+/// Stakes of the frozen DReps by credential, then of the two predefined ones, in lovelace.
+/// DReps without stake are left out.
 pub fn stakes_of(alloc: Global, f: &Frozen, c: &Counted) -> Result<Vec<(Drep, u64)>, NoMemory>
     ensures { IfOk result (λ l. ForSnapshot f.now c.now (λ s. l.items ≡ stakes_of s)) }
 {
@@ -19,7 +20,7 @@ pub fn stakes_of(alloc: Global, f: &Frozen, c: &Counted) -> Result<Vec<(Drep, u6
     Ok(stakes)
 }
 
-// Those of the registered DReps.
+// The stakes of the registered DReps.
 fn registered_stakes(
     alloc: Global,
     dreps: &[(Credential, u64)],
@@ -34,7 +35,7 @@ fn registered_stakes(
     Ok(stakes)
 }
 
-// The stake of one more, if it has any.
+// Adds the stake of a DRep, if it has any.
 fn note(c: &Counted, d: Drep, stakes: &mut Vec<(Drep, u64)>) -> Result<(), NoMemory>
     ensures { OnOk result (stakes.new.items ≡ stakes.old.items ++ stakes_by c.now.sums (d ∷ [])) }
 {

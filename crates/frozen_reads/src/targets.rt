@@ -3,14 +3,16 @@ ghost use Rattle.frozen_reads.specs.Targets.{targets_among};
 ghost use Rattle.gov_actions.specs.Kinds.{in_order_of_priority};
 ghost use Rattle.run_model.specs.Boundary.{targets_of};
 
-use coin_frac::NoMemory;
 use gov_actions::{Action, Proposal};
 use gov_ids::{Account, ActionId};
 use maps::set_of;
+use no_memory::NoMemory;
 use std::alloc::Global;
 use std::collections::BTreeSet;
 
-/// The targets of the proposals that are enacted, with their amounts in lovelace, in the order in which they are enacted: withdrawals are of one priority, so that it is the order of submission. (CIP-1694, Enactment; ENACT of the formal specification)
+/// The targets of the enacted proposals in the order of enactment, with amounts in lovelace.
+/// Withdrawals are of one priority, so this is the order of submission.
+/// (CIP-1694, Enactment; ENACT of the formal specification)
 pub fn enacted_targets(
     alloc: Global,
     proposals: &[Proposal],
@@ -39,7 +41,7 @@ fn targets_among(
     Ok(targets)
 }
 
-// The targets of an action: none but for a withdrawal.
+// The targets of an action; only withdrawals have any.
 fn targets_of(a: &Action) -> &[(Account, u64)]
     ensures { result.now ≡ targets_of a.now }
 {

@@ -219,7 +219,7 @@ new_later used t last n (p ∷ ps) h f = (none_new used t (made_proposal last t 
 
 -- ---- the boundary: what stays is chained
 
--- what follows a proposal that stands before it
+-- what follows a proposal that is before it
 follows_parent : (front rest : List Proposal) (last : LastIds) (a b : Proposal) → HaveDistinctIds rest → ((q : Proposal) → StandsIn q front → StandsIn q rest) → StandsIn b front → is_parent a b ≡ true → may_follow front last a.action ≡ true
 follows_parent front rest last a b d inside i h =
     let parts = and_parts (holds same_action (previous_of a.action) b.id) (same_option same_purpose (purpose_of a.action) (purpose_of b.action)) h in
@@ -252,7 +252,7 @@ no_purpose : (front : List Proposal) (last : LastIds) (previous : Option ActionI
 no_purpose front last previous None e = refl
 no_purpose front last previous (Some p) e = cc
 
--- what stands in a list stands before its part or in it
+-- what is in a list is before its part or in it
 in_either : (xs ys : List Proposal) (b : Proposal) → StandsIn b (xs ++ ys) → StandsIn b xs ⊎ StandsIn b ys
 in_either [] ys b h = inr h
 in_either (x ∷ xs) ys b (inl e) = inl (inl e)

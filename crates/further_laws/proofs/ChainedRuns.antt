@@ -65,7 +65,7 @@ use Rattle.further_laws.proofs.Fronted.{passed_more}
 abbrev AreUsed : List TxId → LastIds → Type 0
 AreUsed used last = (p : Purpose) → IsUsed used (last_of last p)
 
--- what stands of the chains of a ledger
+-- what holds of the chains of a ledger
 record IsChained (l : Ledger) : Type 0 where
   chained : Chained l.state.last [] l.proposals
   later : NoneLater l.proposals

@@ -30,7 +30,7 @@ use Rattle.tx_records.specs.declared.genesis.Genesis.{Genesis}
 use Rattle.tx_records.specs.declared.genesis.GenesisPool.{GenesisPool}
 use Rattle.tx_records.specs.declared.genesis.GenesisRule.{GenesisRule}
 use Rattle.tx_records.specs.declared.genesis.GenesisRule.TheVariants.{SupplyTooLarge, Repeated, UnknownTarget, WrongNetwork, SumWrong}
-use Rattle.tx_records.specs.declared.limits.TheConstants.{SUPPLY_LIMIT}
+use Rattle.coin_frac.specs.declared.TheConstants.{SUPPLY_LIMIT}
 use Rattle.tx_records.specs.declared.record.Record.{Record}
 use Rattle.tx_records.specs.declared.record.Record.TheVariants as records
 use Rattle.tx_records.specs.declared.record.Rewards.{Rewards}
@@ -39,7 +39,8 @@ use Rattle.tx_records.specs.declared.tx.Scripts.{Scripts}
 use Rattle.tx_records.specs.declared.tx.Scripts.TheVariants.{Absent, Passed, Failed}
 use Rattle.tx_records.specs.declared.tx.Tx.{Tx}
 use Rattle.ledger_model.specs.CertRules.{is_unknown_drep, is_unknown_pool}
-use Rattle.ledger_model.specs.Changes.{changed_by, delegates_to_drep, delegating, dormant_added, emptied, has_voted, having_acted, is_withdrawn, new_account, new_drep, refreshed, voters_refreshed, withdrawn, without_drep}
+use Rattle.book_records.specs.Delegations.{delegates_to_drep, without_drep}
+use Rattle.ledger_model.specs.Changes.{changed_by, delegating, dormant_added, emptied, has_voted, having_acted, is_withdrawn, new_account, new_drep, refreshed, voters_refreshed, withdrawn}
 use Rattle.ledger_model.specs.Draft.{draft_with, is_refused, last_draft}
 use Rattle.ledger_model.specs.Ledger.{Ledger, is_drep, is_pool}
 use Rattle.ledger_model.specs.Transaction.{after_scripts}

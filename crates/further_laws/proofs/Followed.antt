@@ -1,4 +1,4 @@
--- Followed streams: without rollbacks they are replays, what stands is accepted and sound, and the count never falls within an epoch.
+-- Followed streams: replays without rollbacks; what remains is sound; the count falls in no epoch.
 use Rattle.std.proofs.Common.{◌≡◌, ℕ, ◌+◌, ◌/◌, ◌<◌, ◌≤◌, min, List, [], ◌∷◌, ◌++◌, Bool, true, false, cond, Option, Some, None, is_none, filter_map, map, nat_le, sum_by, refl, ap, sym, subst, ◌∙◌, arith, append_assoc, append-nil}
 use Rattle.std.specs.List.{cons_option, list_all}
 use Rattle.std.proofs.Math.Nat.{min-eq_left, min-le_left}
@@ -59,7 +59,7 @@ same_refusal n w (records.Print what) = refl
 after_one : (start : World) (kept : List Record) (r : Record) → world_after_all start (kept ++ r ∷ []) ≡ (step (world_after_all start kept) r).0
 after_one start kept r = fold-append (λ v q. (step v q).0) start kept (r ∷ [])
 
--- ---- what stands is accepted
+-- ---- what remains is accepted
 
 record IsGoing (start : World) (c : Chain) : Type 0 where
   all : list_all record_limits.is_within_limits c.kept ≡ true
@@ -147,7 +147,7 @@ alike_both None start w c r rs f e refused accepted =
     after_one start c.kept r ∙ ap (λ (v : World). (step v r).0) e ∙ accepted_is w r f in
     passed_by start w c r rs (accepted (world_after_accepted w r) next)
 
--- the World of the records that stand is w, and the rest follows
+-- the World of the records that remain is w, and the rest follows
 alike_all : (rs : List Record) (start w : World) (c : Chain) → world_after_all start c.kept ≡ w → IsAlike start w c rs
 alike_all [] start w c e = record { kept = sym (append-nil c.kept); accepted = sym (append-nil c.accepted); world = e; replies = refl }
 alike_all (r ∷ rs) start w c e =

@@ -1,4 +1,4 @@
--- What is frozen is the front of what is live, but for votes; so it is live in the same order.
+-- What is frozen is a prefix of what is live, except votes; so it is live in the same order.
 use Rattle.std.proofs.Common.{◌≡◌, ℕ, List, [], ◌∷◌, ◌++◌, Bool, true, false, ◌||◌, cond, Option, Some, None, filter, fold, length, map, take, refl, ap, sym, subst, ◌∙◌, append_assoc, append-nil}
 use Rattle.std.specs.List.{AllByRecursion, IsDistinct}
 use Rattle.std.proofs.lemmas.Bool.{or_left, or_right}

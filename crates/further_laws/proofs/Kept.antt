@@ -14,7 +14,7 @@ use Rattle.gov_actions.specs.declared.action.Proposal.{Proposal}
 use Rattle.gov_actions.specs.declared.state.EnactState.{EnactState}
 use Rattle.gov_model.specs.Proposals.{deposits_of}
 use Rattle.gov_model.specs.Snapshot.{entry_count}
-use Rattle.tx_records.specs.declared.limits.TheConstants.{SUPPLY_LIMIT}
+use Rattle.coin_frac.specs.declared.TheConstants.{SUPPLY_LIMIT}
 use Rattle.tx_records.specs.declared.record.Record.{Record}
 use Rattle.tx_records.specs.declared.record.Record.TheVariants as records
 use Rattle.tx_records.specs.declared.record.Rewards.{Rewards}
@@ -114,7 +114,7 @@ covered l (Some u) n f =
     let c : IsCoveredUpdate l u = f u refl in
     and_from _ _ (and_from _ _ (and_from _ _ n (eq-eqb (rewards_in u) (rewards_out u) c.balanced)) (le-leb u.from_reserves l.reserves c.reserves_cover)) (le-leb u.from_fees l.fees c.fees_cover)
 
--- ---- all that is asked but form
+-- ---- all that is required except form
 
 ids : (w : World) → IsSoundWorld w → uses_ids w.ledger ≡ true
 ids w s =

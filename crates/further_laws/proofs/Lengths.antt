@@ -51,7 +51,7 @@ use Rattle.checkpoint_model.specs.Resumable.{has_book_form, has_form, has_plain_
 use Rattle.further_laws.proofs.Followed.{all_join}
 use Rattle.further_laws.proofs.Widths.{AreLines, IsLine, IsWord, account, account_line, action_id, committee_line, constitution_line, cred, dec, drep_line, enacted_line, hash_word, hot_line, lines_flat, lines_map, member_line, network, now_line, output_lines_are, param_lines_are, pool, pool_lines_are, proposal_line, short_line, short_lines, slot, u32, u64, vote_line}
 
--- ---- what stands between
+-- ---- what is between
 
 all_filtered : {A : Type 0} (p t : A → Bool) (xs : List A) → list_all p xs ≡ true → list_all p (filter t xs) ≡ true
 all_filtered p t [] h = refl

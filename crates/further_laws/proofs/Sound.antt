@@ -30,7 +30,7 @@ use Rattle.gov_model.specs.Ratified.{ids_of, is_one_of}
 use Rattle.gov_model.specs.Sides.{members_of}
 use Rattle.gov_model.specs.Proposals.{deposits_of}
 use Rattle.gov_model.specs.Snapshot.{Snapshot, entry_count}
-use Rattle.tx_records.specs.declared.limits.TheConstants.{SUPPLY_LIMIT}
+use Rattle.coin_frac.specs.declared.TheConstants.{SUPPLY_LIMIT}
 use Rattle.tx_records.specs.declared.record.Rewards.{Rewards}
 use Rattle.tx_records.specs.Limits.{is_u32}
 use Rattle.ledger_model.specs.Ledger.{Ledger}
@@ -268,7 +268,7 @@ snapshot_sound supply f h held =
 stakes_sound : (supply : ℕ) (stakes : List (PoolId × ℕ)) → are_stakes stakes ≡ true → are_within supply stakes ≡ true → AreSoundStakes supply stakes
 stakes_sound supply stakes h k = record { pools = map_from pool_cmp stakes (left_of _ _ h); sum = leb-true (sum_values (λ n. n) stakes) supply k }
 
--- ---- what still stands
+-- ---- what remains
 
 covered : (l : Ledger) (u : Rewards) → is_covered l u ≡ true → IsCoveredUpdate l u
 covered l u h =
@@ -283,7 +283,7 @@ pending_covered : (l : Ledger) (o : Option Rewards) (u : Rewards) → none_or (i
 pending_covered l None u h e = absurd (none-some u e)
 pending_covered l (Some v) u h e = subst (λ (x : Rewards). IsCoveredUpdate l x) (same_Some v u e) (covered l v h)
 
--- a proposal that is the same but for its votes
+-- a proposal that is the same except its votes
 abbrev Alike : List Proposal → Proposal → Type 0
 Alike ps a = (b : Proposal) × Contains ps b × (unvoted b ≡ unvoted a)
 

@@ -24,7 +24,7 @@ use Rattle.run_laws.proofs.GoodBlock.{boundary_epoch, boundary_length}
 use Rattle.run_laws.proofs.Reach.{accepted_good, record_good}
 use Rattle.follow_model.specs.Chain.{is_block_of, up_to_block}
 
--- each record is accepted where it stands
+-- each record is accepted at its place
 abbrev pub Stand : World → List Record → Type 0
 Stand w [] = Unit {0}
 Stand w (r ∷ rs) = (refusal_of w r ≡ None) × Stand (world_after_accepted w r) rs
@@ -176,7 +176,7 @@ pub stand_past : (w : World) (xs ys : List Record) → Stand w (xs ++ ys) → St
 stand_past w [] ys h = h
 stand_past w (x ∷ xs) ys h = subst (λ (v : World). Stand v ys) (sym (after_first w x xs h.0)) (stand_past (world_after_accepted w x) xs ys h.1)
 
--- a block that stands leaves its slot
+-- a block that remains leaves its slot
 slot_of : (w : World) (slot : ℕ) (r : Record) → is_block_of slot r ≡ true → (world_after_accepted w r).ledger.slot ≡ slot
 slot_of w slot (records.Genesis g) e = absurd (false≢true e)
 slot_of w slot (records.Block s pulse) e = eqb-true s slot e

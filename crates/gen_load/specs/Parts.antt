@@ -11,7 +11,7 @@ part_text (Number n) = decimal n
 part_text (Hash28 n) = hash28 n
 part_text (Hash32 n) = hash32 n
 
--- at most how many they are
+-- a bound on the number of its bytes
 abbrev pub part_room : Part → ℕ
 part_room (Text text) = length text.now
 part_room (Number n) = 20

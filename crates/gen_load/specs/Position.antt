@@ -1,4 +1,4 @@
--- Where the program is in the stream, and the lines that are still to come. (Own)
+-- The position of the program in the stream, and the lines that are still to come. (Own)
 use Rattle.std.specs.Prelude.{◌≡◌, ℕ, ◌+◌, ◌-◌, ◌*◌, ◌<◌, ◌≤◌, List, [], ◌++◌, drop, flat_map, map, nat_lt, if◌then◌else◌, ⊤}
 use Rattle.std.specs.List.{range_with_len}
 use Rattle.text_model.specs.Words.{Text}
@@ -34,7 +34,7 @@ abbrev pub after_registration : ℕ → ℕ → NextLine
 after_registration accounts j =
     if nat_lt (j + 1) (registration_count accounts) then Registration (j + 1) else Epoch 0 FirstBlock
 
--- how many lines of its epoch stand before it
+-- how many lines of its epoch are before it
 abbrev pub lines_before : EpochLine → ℕ
 lines_before FirstBlock = 0
 lines_before Proposal = 1
@@ -58,7 +58,7 @@ lines_from x (Epoch e line) = drop (lines_before line) (lines_of_epochs x e)
 abbrev pub bytes_from : Load → NextLine → List ℕ
 bytes_from x next = bytes_of_lines (lines_from x next)
 
--- how many registrations were given
+-- how many registrations were written before
 abbrev pub registered : Load → NextLine → ℕ
 registered x Genesis = 0
 registered x (Registration j) = j
@@ -70,20 +70,20 @@ IsWithin x Genesis = ⊤
 IsWithin x (Registration j) = j < registration_count x.accounts
 IsWithin x (Epoch e line) = e ≤ x.epochs
 
--- what a stream is made from
+-- the bounds of a stream's parameters
 pub record IsLoad (x : Load) : Type 0 where
   pub some : 0 < x.accounts
   pub accounts : x.accounts ≤ 1000000
   pub epochs : x.epochs ≤ 100
 
--- where the program may be
+-- the positions at which the program may be
 pub record IsSoundPosition (x : Load) (p : Position) : Type 0 where
   pub load : IsLoad x
   pub next : IsWithin x p.next
   pub spent : p.spent ≡ spent_before x.seed x.accounts (registered x p.next)
   pub most : p.spent ≤ 1000501 * registered x p.next
 
--- the first of the bytes to come are a line, and it is empty at the end alone
+-- the next bytes are a line, which is empty only at the end
 pub record Gives (before line after : List ℕ) : Type 0 where
   pub bytes : before ≡ line ++ after
   pub end : line ≡ [] → after ≡ []

@@ -1,4 +1,4 @@
-//! The accounts of the stream, and what registering them takes.
+//! The accounts of the stream, and what their registrations cost.
 ghost use Rattle.std.specs.Prelude.{◌≡◌, ◌+◌, ◌*◌, ◌<◌, ◌≤◌};
 ghost use Rattle.load_model.specs.Amounts.{account_count, account_in_epoch, account_name, drep_in_epoch, first_account, first_pulse, registration_count, registration_name, spent_by_registration, weight};
 
@@ -6,10 +6,10 @@ ghost use Rattle.load_model.specs.Amounts.{account_count, account_in_epoch, acco
 pub(crate) const FEE: u64 = 1;
 /// The deposit of an account, in lovelace.
 const ACCOUNT_DEPOSIT: u64 = 2;
-/// How many accounts one transaction registers at most.
+/// The maximal number of accounts that one transaction registers.
 const AT_ONCE: u32 = 500;
 
-/// How many transactions register so many accounts.
+/// The number of transactions that register so many accounts.
 pub(crate) fn registrations_of(accounts: u32) -> u32
     requires { accounts ≤ 1000000 }
     ensures { result ≡ registration_count accounts }
@@ -53,7 +53,7 @@ pub(crate) fn registration_name_of(registration: u32) -> u64
     2 + u64::from(registration)
 }
 
-/// What an account holds in its output, in lovelace.
+/// The lovelace in an account's output.
 pub(crate) fn weight_of(seed: u64, account: u32) -> u64
     ensures weight { result ≡ weight seed account }
     ensures most { result ≤ 1999 }
@@ -62,7 +62,7 @@ pub(crate) fn weight_of(seed: u64, account: u32) -> u64
     1000 + turned as u64
 }
 
-/// What a registration takes from what is left: outputs, deposits and the fee, in lovelace.
+/// What a registration takes from the rest: outputs, deposits and the fee, in lovelace.
 pub(crate) fn spent_by(seed: u64, accounts: u32, registration: u32) -> u64
     requires accounts { accounts ≤ 1000000 }
     requires registration { registration < registration_count accounts }
@@ -76,7 +76,7 @@ pub(crate) fn spent_by(seed: u64, accounts: u32, registration: u32) -> u64
     spent
 }
 
-/// The number in the name of the account that delegates anew and gets a reward in an epoch.
+/// The number in the name of the account that changes its delegation and gets a reward in an epoch.
 pub(crate) fn account_of_epoch(seed: u64, accounts: u32, epoch: u32) -> u64
     requires { 0 < accounts }
     ensures { result ≡ account_in_epoch seed accounts epoch }

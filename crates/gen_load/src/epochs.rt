@@ -12,7 +12,7 @@ use crate::parts::Part::{Hash28, Hash32, Number, Text};
 use crate::parts::push_parts;
 use crate::position::{EpochLine, Load};
 
-/// What the output of the genesis has, in lovelace.
+/// The lovelace in the output of the genesis.
 pub(crate) const FUNDS: u64 = 10_000_000_000;
 /// The deposit of a proposal, in lovelace.
 const PROPOSAL_DEPOSIT: u64 = 10;
@@ -66,7 +66,7 @@ fn push_proposal_line(line: &mut LineBuffer, name: u64, place: u64, left: u64, a
     );
 }
 
-/// Writes the line of a transaction that delegates an account's vote, and votes on the proposal before it.
+/// Writes the line of a transaction that delegates a vote, and votes on the proposal before it.
 fn push_votes_line(line: &mut LineBuffer, name: u64, left: u64, account: u64, drep: u64)
     requires empty { line.old ≡ [] }
     requires name { 0 < name }
@@ -151,14 +151,14 @@ fn place_before(accounts: u32, epoch: u32) -> u64
     u64::from(end_of(accounts, last) - first_of(last))
 }
 
-/// What is proposed to be withdrawn in an epoch, in lovelace.
+/// The lovelace that the proposal of an epoch withdraws.
 fn amount_of(epoch: u32) -> u64
     ensures { result ≡ 10 + epoch }
 {
     10 + u64::from(epoch)
 }
 
-/// What the epochs before one take, in lovelace.
+/// The lovelace that the epochs before one take.
 fn spent_by_epochs_before(epoch: u32) -> u64
     requires { epoch ≤ 100 }
     ensures spent { result ≡ spent_by_epochs epoch }
@@ -167,7 +167,7 @@ fn spent_by_epochs_before(epoch: u32) -> u64
     (PROPOSAL_DEPOSIT + FEE + FEE) * u64::from(epoch)
 }
 
-/// What is left after the proposal of an epoch, where all registrations took `spent`, in lovelace.
+/// The lovelace left after the proposal of an epoch; all registrations took `spent`.
 fn left_after_proposal(spent: u64, epoch: u32) -> u64
     requires spent { spent ≤ 2001002000 }
     requires epoch { epoch < 100 }
@@ -176,7 +176,7 @@ fn left_after_proposal(spent: u64, epoch: u32) -> u64
     FUNDS - (spent + spent_by_epochs_before(epoch) + PROPOSAL_DEPOSIT + FEE)
 }
 
-/// What is left after the votes of an epoch, in lovelace.
+/// The lovelace left after the votes of an epoch.
 fn left_after_votes(spent: u64, epoch: u32) -> u64
     requires spent { spent ≤ 2001002000 }
     requires epoch { epoch < 100 }
@@ -219,7 +219,7 @@ fn push_votes(line: &mut LineBuffer, load: Load, epoch: u32, spent: u64)
     push_votes_line(line, name, left, account, drep);
 }
 
-/// Writes a line of an epoch, where all registrations took `spent` lovelace.
+/// Writes a line of an epoch; all registrations took `spent` lovelace.
 pub(crate) fn push_epoch_line(
     line: &mut LineBuffer,
     load: Load,

@@ -6,7 +6,7 @@ use crate::line::LineBuffer;
 use crate::parts::Part::{Hash28, Hash32, Text};
 use crate::parts::push_parts;
 
-/// Writes the genesis line: one output, no account, one pool, two DReps and a committee of one member.
+/// Writes the genesis line: one output, no account, one pool, two DReps, a committee of one member.
 pub(crate) fn push_genesis_line(line: &mut LineBuffer)
     requires { line.old ≡ [] }
     ensures text { line.new ≡ genesis_line }

@@ -1,4 +1,4 @@
-//! The stream of a measured run: a source of bytes that are made of a seed, for so many accounts and epochs.
+//! The stream of a benchmark: a source of bytes from a seed and numbers of accounts and epochs.
 #![tactic(auto)]
 
 mod accounts;

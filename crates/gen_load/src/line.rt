@@ -1,15 +1,15 @@
-//! The line that is being given.
+//! The current line.
 ghost use Rattle.std.specs.Prelude.{◌≡◌, ◌+◌, ◌≤◌, [], ◌++◌, IfOk, length};
 ghost use Rattle.gen_load.specs.declared.line.TheConstants.{LINE_MAX};
 
-use coin_frac::NoMemory;
+use no_memory::NoMemory;
 use std::alloc::Global;
 use std::marker::Model;
 
-/// No line of the stream is longer, in bytes, with its line feed.
+/// A bound on the length of a line of the stream, in bytes, with its line feed.
 pub(crate) const LINE_MAX: usize = 262_144;
 
-/// A line that is being written, with room for the longest.
+/// The line being written, with room for the longest.
 #[derive(Drop)]
 pub(crate) struct LineBuffer {
     bytes: Vec<u8>,
@@ -53,7 +53,7 @@ impl LineBuffer {
         ensures text { self.new ≡ self.old ++ text.now }
         ensures longer { length self.new ≡ length self.old + length text.now }
     {
-        // there is room, so this can not fail
+        // there is room, so this cannot fail
         let _pushed = self.bytes.extend_from_slice(text);
     }
 }

@@ -26,7 +26,7 @@ fn push_first(line: &mut LineBuffer, load: Load) -> Position
     }
 }
 
-/// What the registrations up to this one take, where those before it took `spent`, in lovelace.
+/// What the registrations up to this one take, in lovelace; those before it took `spent`.
 fn spent_with(load: Load, registration: u32, spent: u64) -> u64
     requires load { IsLoad load }
     requires registration { registration < registration_count load.accounts }
@@ -58,7 +58,7 @@ fn push_registration(line: &mut LineBuffer, load: Load, registration: u32, spent
     }
 }
 
-/// Writes a line of an epoch, where there is one.
+/// Writes a line of an epoch, if there is one.
 fn push_of_epoch(
     line: &mut LineBuffer,
     load: Load,
@@ -88,7 +88,7 @@ fn push_of_epoch(
     }
 }
 
-/// Writes the next line, where there is one, and answers where the source is then.
+/// Writes the next line, if there is one, and returns the position after it.
 pub(crate) fn push_next_line(line: &mut LineBuffer, load: Load, position: Position) -> Position
     requires empty { line.old ≡ [] }
     requires sound { IsSoundPosition load position }

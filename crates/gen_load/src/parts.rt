@@ -7,10 +7,10 @@ ghost use Rattle.gen_load.specs.declared.line.TheConstants.{LINE_MAX};
 use crate::line::LineBuffer;
 use itoa::Buffer;
 
-/// What stands before the digits of a name.
+/// Zeros, which go before the digits of a name.
 const ZEROS: [u8; 64] = [b'0'; 64];
 
-/// A part of a line, as what it is written from.
+/// A part of a line, by its source.
 #[derive(Drop)]
 pub(crate) enum Part<'a> {
     Text(&'a str),

@@ -1,11 +1,11 @@
-//! Where the source is in its stream.
+//! The position of the source in its stream.
 ghost use Rattle.std.specs.Prelude.{◌≡◌, ◌<◌, ◌≤◌};
 ghost use Rattle.load_model.specs.Amounts.{registration_count};
 ghost use Rattle.gen_load.specs.Position.{after_epoch_line, after_registration};
 
 use crate::accounts::registrations_of;
 
-/// What the stream is made from.
+/// The parameters of the stream.
 #[derive(Clone, Copy)]
 pub(crate) struct Load {
     pub(crate) seed: u64,
@@ -24,8 +24,8 @@ pub(crate) enum EpochLine {
     LastBlock,
 }
 
-/// A line of the stream: registrations and epochs are numbered from 0. The first line of the epoch after the last
-/// one stands for the end.
+/// A line of the stream: registrations and epochs are numbered from 0.
+/// The first line of the epoch after the last one is the end.
 #[derive(Clone, Copy)]
 pub(crate) enum NextLine {
     Genesis,

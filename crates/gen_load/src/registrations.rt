@@ -59,7 +59,7 @@ fn push_account_outputs(line: &mut LineBuffer, seed: u64, first: u32, end: u32)
     }
 }
 
-/// Adds to whom an account delegates its vote.
+/// Adds the DRep that an account delegates its vote to.
 fn push_drep(line: &mut LineBuffer, account: u32)
     requires room { length line.old + 57 ≤ LINE_MAX }
     ensures text { line.new ≡ line.old ++ drep_of account }
@@ -162,7 +162,7 @@ fn begin(line: &mut LineBuffer, name: u64, place: u64)
     );
 }
 
-/// Adds the output of what is left.
+/// Adds the output of the rest.
 fn push_left(line: &mut LineBuffer, left: u64)
     requires { length line.old + 100 ≤ LINE_MAX }
     ensures text { line.new ≡ line.old ++ left_output left }
@@ -180,7 +180,7 @@ fn push_left(line: &mut LineBuffer, left: u64)
     );
 }
 
-/// Goes on from the outputs to the certificates.
+/// Ends the outputs and begins the certificates.
 fn push_middle(line: &mut LineBuffer)
     requires { length line.old + 30 ≤ LINE_MAX }
     ensures text { line.new ≡ line.old ++ codes "],\"fee\":1,\"size\":0,\"certs\":[" }
@@ -189,7 +189,7 @@ fn push_middle(line: &mut LineBuffer)
     line.push(b"],\"fee\":1,\"size\":0,\"certs\":[");
 }
 
-/// Writes the line of a registration, of which `left` lovelace are left.
+/// Writes the line of a registration; `left` is the rest, in lovelace.
 pub(crate) fn push_registration_line(
     line: &mut LineBuffer,
     seed: u64,

@@ -8,18 +8,18 @@ use crate::line::LineBuffer;
 use crate::next::push_next_line;
 use crate::position::{Load, NextLine, Position};
 use byte_lines::{ReadFault, Source};
-use coin_frac::NoMemory;
+use no_memory::NoMemory;
 use std::alloc::Global;
 use std::marker::Model;
 
-/// A source of the bytes of a made stream, which never fails and takes no memory to read. (Own)
+/// A source of a benchmark stream's bytes. Reads never fail and take no memory.
 #[derive(Drop)]
 pub struct GenSource {
     load: Load,
     /// The line after `line`.
     position: Position,
     line: LineBuffer,
-    /// How many bytes of `line` were read.
+    /// The number of bytes of `line` that were read.
     offset: usize,
 }
 
@@ -36,7 +36,7 @@ impl Model for GenSource {
 }
 
 impl GenSource {
-    /// The stream of this seed, before its first byte. It takes all memory that the reads need. (Own)
+    /// The stream of this seed, before its first byte. It takes all memory that reads need.
     pub fn new(alloc: Global, seed: u64, accounts: u32, epochs: u32) -> Result<GenSource, NoMemory>
         requires accounts { (1 ≤ accounts) × (accounts ≤ 1000000) }
         requires epochs { (1 ≤ epochs) × (epochs ≤ 100) }
@@ -59,7 +59,8 @@ impl GenSource {
     }
 }
 
-/// Writes the next line where `line` is read to its end. Answers how much of the line is read, and what comes after it.
+/// Writes the next line if `line` is read to its end.
+/// Returns how much of the line is read, and the position after it.
 fn refill(line: &mut LineBuffer, offset: usize, load: Load, position: Position) -> (usize, Position)
     requires within { offset ≤ length line.old }
     requires sound { IsSoundPosition load position }
@@ -77,7 +78,7 @@ fn refill(line: &mut LineBuffer, offset: usize, load: Load, position: Position) 
     (0, position)
 }
 
-/// What of a line is not read.
+/// The unread rest of a line.
 fn rest_of(line: &[u8], offset: usize) -> &[u8]
     requires { offset ≤ length line.now }
     ensures { result.now ≡ drop offset line.now }
@@ -85,7 +86,7 @@ fn rest_of(line: &[u8], offset: usize) -> &[u8]
     &line[offset..]
 }
 
-/// Copies as many bytes from the front of `rest` as `into` has room for, and answers how many.
+/// Copies the first bytes of `rest`, as many as `into` has room for, and returns their number.
 fn copy_front(rest: &[u8], into: &mut [u8]) -> usize
     requires { 0 < length into.old }
     ensures fits { result ≤ length into.new }

@@ -38,7 +38,7 @@ use Rattle.tx_records.specs.declared.genesis.GenesisRule.{GenesisRule}
 use Rattle.genesis_balance.specs.Laws.{GenesisHoldsSupply, GenesisIsSound}
 use Rattle.run_model.specs.Genesis.{genesis_checks, genesis_fault, genesis_sum, pool_ids, drep_ids, committee_of_genesis}
 use Rattle.tx_records.specs.Limits.{genesis_members}
-use Rattle.tx_records.specs.declared.limits.TheConstants.{SUPPLY_LIMIT}
+use Rattle.coin_frac.specs.declared.TheConstants.{SUPPLY_LIMIT}
 use Rattle.maps.proofs.Fresh.{all-with_values, distinct_from_repeats}
 
 pub empty_sorted : {K : Type 0} (cmp : K → K → Ordering) → IsStrictlySortedBy cmp []

@@ -1,4 +1,4 @@
--- The laws on the ledger of a genesis; src/laws.rt has a function for each, whose contract is the law.
+-- The laws on the ledger of a genesis; src/laws.rt has a function for each law.
 use Rattle.std.specs.Prelude.{◌≡◌, None}
 use Rattle.tx_records.specs.declared.genesis.Genesis.{Genesis}
 use Rattle.ledger_model.specs.Sound.{IsSound}

@@ -1,4 +1,4 @@
-//! The ledger of a genesis: its maps are maps, and where the genesis breaks no rule its pots hold the supply.
+//! The ledger of a genesis: its maps are maps; if no rule is broken, its pots hold the supply.
 #![tactic(auto)]
 
 mod laws;

@@ -30,7 +30,7 @@ use Rattle.maps.specs.Maps.{sum_values, value_at, with_key, with_value, with_val
 use Rattle.maps.specs.Words.{repeats}
 use Rattle.tx_records.specs.declared.genesis.Genesis.{Genesis}
 use Rattle.tx_records.specs.declared.genesis.GenesisPool.{GenesisPool}
-use Rattle.tx_records.specs.declared.limits.TheConstants.{SUPPLY_LIMIT}
+use Rattle.coin_frac.specs.declared.TheConstants.{SUPPLY_LIMIT}
 use Rattle.genesis_balance.proofs.Start.{sum-started, unbroken_genesis}
 use Rattle.run_model.specs.Genesis.{genesis_fault, ledger_of_genesis}
 use Rattle.drep_book.specs.Dreps.{Dreps}

@@ -17,7 +17,7 @@ use tx_records::GenesisCommittee;
 /// A member at the start: cold key, last epoch of the term, hot key.
 type Member = (Credential, u64, Option<Credential>);
 
-/// The members at the start, none where there is no committee.
+/// The members at the start; none if there is no committee.
 pub fn members_of(committee: &Option<GenesisCommittee>) -> &[Member]
     ensures { result.now ≡ genesis_members committee.now }
 {
@@ -71,7 +71,7 @@ pub fn first_hot(alloc: Global, members: &[Member]) -> Result<HotBook, NoMemory>
     Ok(hot)
 }
 
-/// With the hot key of a member, if it has one.
+/// Adds the hot key of a member, if it has one.
 fn with_key(hot: HotBook, cold: &Credential, key: &Option<Credential>) -> Result<HotBook, NoMemory>
     ensures { IfOk result (λ after. after ≡ with_hot_key cold.now key.now hot) }
 {

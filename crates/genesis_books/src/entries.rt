@@ -64,7 +64,7 @@ impl Holding for (Credential, u64, u64) {
     }
 }
 
-/// What these entries hold, in lovelace.
+/// The lovelace that these entries hold.
 pub fn lovelace_in<T: Holding>(entries: &[T]) -> u128
     requires { length entries.now ≤ 2 ^ 24 }
     ensures sum { result ≡ sum_by T.lovelace_of entries.now }

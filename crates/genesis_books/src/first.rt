@@ -15,7 +15,7 @@ use stake_book::StakeBook;
 use std::alloc::Global;
 use tx_records::Genesis;
 
-/// The book of the accounts and outputs of a genesis, its entries frozen, and that of its pools. (Own)
+/// The book of a genesis' accounts and outputs, with frozen entries, and that of its pools.
 pub fn first_holdings(alloc: Global, genesis: &Genesis) -> Result<(StakeBook, PoolBook), NoMemory>
     requires unbroken { genesis_fault genesis.now ≡ None }
     ensures outputs { IfOk result (λ first. first.0.outputs.outputs ≡ (ledger_of_genesis genesis.now).outputs) }
@@ -30,7 +30,7 @@ pub fn first_holdings(alloc: Global, genesis: &Genesis) -> Result<(StakeBook, Po
     Ok((stake, pools))
 }
 
-/// The books of the DReps and of the hot keys of a genesis, with no dormant epoch. (Own)
+/// The books of the DReps and hot keys of a genesis, with no dormant epoch.
 pub fn first_keys(alloc: Global, genesis: &Genesis) -> Result<(DrepBook, HotBook), NoMemory>
     ensures dreps { IfOk result (λ first. first.0.dreps ≡ (ledger_of_genesis genesis.now).dreps) }
     ensures dormant { IfOk result (λ first. first.0.dormant ≡ 0) }
@@ -41,7 +41,7 @@ pub fn first_keys(alloc: Global, genesis: &Genesis) -> Result<(DrepBook, HotBook
     Ok((dreps, hot))
 }
 
-/// The book of the accounts and outputs of a genesis, its entries frozen. (Own)
+/// The book of the accounts and outputs of a genesis, with frozen entries.
 fn first_stake(alloc: Global, genesis: &Genesis) -> Result<StakeBook, NoMemory>
     requires unbroken { genesis_fault genesis.now ≡ None }
     ensures outputs { IfOk result (λ stake. stake.outputs.outputs ≡ (ledger_of_genesis genesis.now).outputs) }
@@ -75,7 +75,7 @@ fn first_accounts(alloc: Global, genesis: &Genesis) -> Result<StakeBook, NoMemor
     Ok(stake)
 }
 
-/// With the outputs of a genesis, whose transaction ids count as used, beside its accounts.
+/// Adds the outputs of a genesis to its accounts; their transaction ids count as used.
 fn with_first_outputs(
     alloc: Global,
     stake: StakeBook,
@@ -101,7 +101,7 @@ fn with_first_outputs(
     Ok(stake)
 }
 
-/// The book of the pools of a genesis. (Own)
+/// The book of the pools of a genesis.
 fn first_pools(alloc: Global, genesis: &Genesis) -> Result<PoolBook, NoMemory>
     ensures { IfOk result (λ pools. pools ≡ (ledger_of_genesis genesis.now).pools) }
 {
@@ -119,7 +119,7 @@ fn first_pools(alloc: Global, genesis: &Genesis) -> Result<PoolBook, NoMemory>
     Ok(pools)
 }
 
-/// The book of the DReps of a genesis, with no dormant epoch. (Own)
+/// The book of the DReps of a genesis, with no dormant epoch.
 fn first_dreps(alloc: Global, genesis: &Genesis) -> Result<DrepBook, NoMemory>
     ensures dreps { IfOk result (λ dreps. dreps.dreps ≡ (ledger_of_genesis genesis.now).dreps) }
     ensures dormant { IfOk result (λ dreps. dreps.dormant ≡ 0) }

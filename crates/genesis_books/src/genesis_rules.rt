@@ -17,7 +17,7 @@ use std::collections::BTreeSet;
 use tx_records::limits::SUPPLY_LIMIT;
 use tx_records::{Genesis, GenesisPool, GenesisRule};
 
-/// The first rule that a genesis breaks. (Own)
+/// The first rule that a genesis breaks.
 pub fn broken_rule(alloc: Global, genesis: &Genesis) -> Result<Option<GenesisRule>, NoMemory>
     requires { is_within_limits genesis.now ≡ true }
     ensures { IfOk result (λ rule. rule ≡ genesis_fault genesis.now) }
@@ -40,7 +40,7 @@ pub fn broken_rule(alloc: Global, genesis: &Genesis) -> Result<Option<GenesisRul
     Ok(None)
 }
 
-/// Whether a name stands twice in a list.
+/// Whether a list has a name twice.
 fn a_list_repeats(alloc: Global, genesis: &Genesis) -> Result<bool, NoMemory>
     ensures { IfOk result (λ twice. twice ≡ repeats_a_name genesis.now) }
 {
@@ -54,7 +54,7 @@ fn a_list_repeats(alloc: Global, genesis: &Genesis) -> Result<bool, NoMemory>
     Ok(repeats_a_name(alloc, genesis.dreps.as_slice())?)
 }
 
-/// Whether a pool is named that is not among these.
+/// Whether a pool is named that is not one of these.
 fn is_unknown_pool(pools: &BTreeSet<PoolId>, pool: &Option<PoolId>) -> bool
     ensures { result ≡ not (none_or (has_member pool_cmp pools.now.keys) pool.now) }
 {
@@ -64,7 +64,7 @@ fn is_unknown_pool(pools: &BTreeSet<PoolId>, pool: &Option<PoolId>) -> bool
     }
 }
 
-/// Whether a DRep is named that is neither predefined nor among these.
+/// Whether a DRep is named that is neither predefined nor one of these.
 fn is_unknown_drep(dreps: &BTreeSet<Credential>, drep: &Option<Drep>) -> bool
     ensures { result ≡ not (none_or (is_drep_among dreps.now.keys) drep.now) }
 {
@@ -88,7 +88,7 @@ fn names_an_unknown(alloc: Global, genesis: &Genesis) -> Result<bool, NoMemory>
     )
 }
 
-/// Whether an output or a pool's account is of another network.
+/// Whether an output or a pool's account is on another network.
 fn names_another_network(genesis: &Genesis) -> bool
     ensures { result ≡ names_another_network genesis.now }
 {
@@ -96,7 +96,7 @@ fn names_another_network(genesis: &Genesis) -> bool
         || pools_are_elsewhere(genesis.pools.as_slice(), genesis.network)
 }
 
-/// Whether an output is of another network than this one.
+/// Whether an output is on another network than this one.
 fn are_elsewhere(outputs: &[(OutRef, Address, u64, Assets)], network: u8) -> bool
     ensures { result ≡ list_any (λ o. not (o.1.network == network)) outputs.now }
 {
@@ -105,7 +105,7 @@ fn are_elsewhere(outputs: &[(OutRef, Address, u64, Assets)], network: u8) -> boo
         .any(|(_, address, _, _)| address.network != network)
 }
 
-/// Whether a pool's account is of another network than this one.
+/// Whether a pool's account is on another network than this one.
 fn pools_are_elsewhere(pools: &[GenesisPool], network: u8) -> bool
     ensures { result ≡ list_any (λ p. not (p.account.network == network)) pools.now }
 {

@@ -7,7 +7,7 @@ use listed::Listed;
 use std::alloc::Global;
 
 impl Action {
-    /// The same action, in memory of its own. (Own)
+    /// A copy of the action, in memory of its own.
     pub fn copied(&self, alloc: Global) -> Result<Action, NoMemory>
         ensures { IfOk result (λ copy. copy ≡ self.now) }
     {
@@ -58,7 +58,7 @@ impl Action {
 }
 
 impl EnactState {
-    /// The same state, in memory of its own, for a pass that starts from it. (Own)
+    /// A copy of the state, in memory of its own, for a pass that starts from it.
     pub fn copied(&self, alloc: Global) -> Result<EnactState, NoMemory>
         ensures { IfOk result (λ copy. copy ≡ self.now) }
     {
@@ -74,7 +74,7 @@ impl EnactState {
     }
 }
 
-/// The same committee, if there is one.
+// A copy of the committee, if there is one.
 fn copied_committee(
     alloc: Global,
     committee: &Option<Committee>,
@@ -90,7 +90,7 @@ fn copied_committee(
     }))
 }
 
-/// The same list, in memory of its own.
+// A copy of the list, in memory of its own.
 fn copied_list<T: Copy>(alloc: Global, list: &Listed<T>) -> Result<Listed<T>, NoMemory>
     ensures { IfOk result (λ copy. copy ≡ list.now) }
 {

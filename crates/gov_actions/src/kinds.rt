@@ -20,7 +20,8 @@ impl Action {
         }
     }
 
-    /// The place of its type in the order in which a pass looks at actions: 0 is looked at first. (CIP-1694, Enactment; RATIFY of the formal specification)
+    /// The place of its type in the order in which a pass looks at actions: 0 comes first.
+    /// (CIP-1694, Enactment; RATIFY of the formal specification)
     pub fn priority(&self) -> u8
         ensures { result ≡ priority_of self.now }
     {
@@ -35,7 +36,8 @@ impl Action {
         }
     }
 
-    /// Whether, once it is enacted, all others wait for the next epoch. (CIP-1694, Ratification; RATIFY of the formal specification)
+    /// Whether all others wait for the next epoch once it is enacted.
+    /// (CIP-1694, Ratification; RATIFY of the formal specification)
     pub fn delaying(&self) -> bool
         ensures { result ≡ is_delaying self.now }
     {
@@ -48,7 +50,7 @@ impl Action {
         )
     }
 
-    /// What it must follow the last action of, if anything. (CIP-1694, Governance actions: Content)
+    /// Its purpose, if it has one. (CIP-1694, Governance actions: Content)
     pub fn purpose(&self) -> Option<Purpose>
         ensures { result ≡ purpose_of self.now }
     {
@@ -63,7 +65,7 @@ impl Action {
         }
     }
 
-    /// The action that it names as the one before it. (CIP-1694, Governance actions: Content)
+    /// The previous action that it names. (CIP-1694, Governance actions: Content)
     pub fn previous(&self) -> Option<ActionId>
         ensures { result ≡ previous_of self.now }
     {

@@ -9,7 +9,8 @@ use gov_ids::Credential;
 use std::alloc::Global;
 use std::marker::Model;
 
-/// Cold keys, each with the last epoch of its term, that contracts see as the list of them. It knows from the day it is made whether the keys stand in order; where they do, one is found by halves. (Own)
+/// Cold keys, each with the last epoch of its term. Contracts see the list of them.
+/// If the keys are in order when the list is made, `contains` finds one by binary search.
 #[derive(Debug, Drop)]
 pub struct MemberList {
     members: Vec<(Credential, u64)>,
@@ -30,7 +31,7 @@ impl Model for MemberList {
 }
 
 impl MemberList {
-    /// The list of these members, without taking memory. (Own)
+    /// The list of these members. It takes no memory.
     pub fn from_vec(members: Vec<(Credential, u64)>) -> Self
         ensures { result ≡ members.items }
     {
@@ -38,14 +39,14 @@ impl MemberList {
         MemberList { members, in_order }
     }
 
-    /// The members again, without taking memory. (Own)
+    /// The members again. It takes no memory.
     pub fn into_vec(self) -> Vec<(Credential, u64)>
         ensures { result.items ≡ self }
     {
         self.members
     }
 
-    /// The members as a slice. (Own)
+    /// The members as a slice.
     pub fn as_slice(&self) -> &[(Credential, u64)]
         ensures { result.now ≡ self.now }
     {
@@ -63,7 +64,7 @@ impl MemberList {
         }
     }
 
-    /// The same list, in memory of its own. (Own)
+    /// A copy in memory of its own.
     pub fn copied(&self, alloc: Global) -> Result<Self, NoMemory>
         ensures { IfOk result (λ copy. copy ≡ self.now) }
     {
@@ -71,14 +72,14 @@ impl MemberList {
     }
 }
 
-/// Whether each cold key comes before the next.
+// Whether each cold key comes before the next.
 fn is_in_order(members: &[(Credential, u64)]) -> bool
     ensures { IsTrue result ↔ IsMap credential_cmp members.now }
 {
     members.is_sorted_by(|(cold, _), (next, _)| cold < next)
 }
 
-/// Whether a cold key is one of these, which stand in order.
+// Whether a cold key is one of these, which are in order.
 fn is_found(members: &[(Credential, u64)], cold: &Credential) -> bool
     requires { IsMap credential_cmp members.now }
     ensures { result ≡ list_any (λ m. same_credential m.0 cold.now) members.now }
@@ -88,7 +89,7 @@ fn is_found(members: &[(Credential, u64)], cold: &Credential) -> bool
         .is_ok()
 }
 
-/// Whether a cold key is one of these, in any order.
+// Whether a cold key is one of these, in any order.
 fn is_among(members: &[(Credential, u64)], cold: &Credential) -> bool
     ensures { result ≡ list_any (λ m. same_credential m.0 cold.now) members.now }
 {

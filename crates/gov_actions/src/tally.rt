@@ -20,7 +20,7 @@ pub enum Need {
     Nothing,
     /// It cannot be reached.
     Never,
-    /// The part of the role's total that must say yes.
+    /// The share of the role's total that must say yes.
     Share(Unit),
 }
 
@@ -35,7 +35,7 @@ pub enum Verdict {
     Waiting,
 }
 
-/// The counts and needs of a frozen proposal, each by role: committee, DReps, pools. (Own)
+/// The counts and needs of a frozen proposal, each by role: committee, DReps, pools.
 #[derive(Clone, Copy, Debug, PartialEq, Eq)]
 pub struct Tally {
     pub id: ActionId,

@@ -4,7 +4,8 @@ ghost use Rattle.gov_actions.specs.Voting.{committee_may_vote, may_vote, pools_m
 use crate::action::Action;
 use gov_ids::Voter;
 
-/// Whether a voter may vote on an action; DReps may vote on all. (CIP-1694, Ratification; who may vote, in GOV of the formal specification)
+/// Whether a voter may vote on an action; DReps may vote on all.
+/// (CIP-1694, Ratification; who may vote, in GOV of the formal specification)
 pub fn may_vote(voter: &Voter, action: &Action) -> bool
     ensures { result ≡ may_vote voter.now action.now }
 {
@@ -15,7 +16,7 @@ pub fn may_vote(voter: &Voter, action: &Action) -> bool
     }
 }
 
-/// Whether the committee may: it votes on all but what changes it.
+// The committee votes on all except what changes it.
 fn committee_may_vote(action: &Action) -> bool
     ensures { result ≡ committee_may_vote action.now }
 {
@@ -25,7 +26,7 @@ fn committee_may_vote(action: &Action) -> bool
     )
 }
 
-/// Whether pools may: they vote on the committee, on hard forks, on Info and on security parameters.
+// Pools vote on the committee, on hard forks, on Info and on security parameters.
 fn pools_may_vote(action: &Action) -> bool
     ensures { result ≡ pools_may_vote action.now }
 {

@@ -1,4 +1,4 @@
--- Names that are seen one after another, and the first that stands twice.
+-- Names that are seen one after another, and the first that occurs twice.
 use Rattle.std.proofs.Common.{◌≡◌, ℕ, ◌+◌, ◌<◌, List, [], ◌∷◌, Bool, true, false, not, map, length, get_or, drop, ap, sym, ◌∙◌, subst}
 use Rattle.std.specs.declared.cmp.Ordering.{Ordering}
 use Rattle.std.specs.Cmp.{IsTotalOrder}

@@ -88,7 +88,7 @@ voter_from s (voter.Committee c) w = rw (w.1, (credential_spelled w.0 c).1 w.2) 
 voter_from s (voter.Drep c) w = rw (w.1, (credential_spelled w.0 c).1 w.2) refl
 voter_from s (voter.Pool p) w = rw (w.1, (pool_spelled w.0 p).1 w.2) refl
 
--- what stands behind a role
+-- the text after a role
 behind : (s p : List ℕ) → starts_with nat_eq s p ≡ true → s ≡ p ++ drop (length p) s
 behind s p h = (starts_is Decides-eqb s p (starts_with nat_eq s p) refl).0 h
 

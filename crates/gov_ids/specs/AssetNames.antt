@@ -1,4 +1,4 @@
--- The bytes that a name is kept as: those of the name, then zeros. (Own)
+-- The stored bytes of a name: its own, then zeros. (Own)
 use Rattle.std.specs.Prelude.{ℕ, ◌-◌, ◌++◌, List, length, replicate}
 
 -- a name as 32 bytes

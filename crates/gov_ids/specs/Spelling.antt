@@ -1,4 +1,4 @@
--- How each id is written: what a text reads as, and what an id is printed as.
+-- The text of each id: what a text reads as, and what an id is printed as.
 use Rattle.std.specs.Prelude.{ℕ, ◌*◌, ◌/◌, ◌&&◌, ◌==◌, nat_le, nat_lt, if◌then◌else◌, List, [], ◌∷◌, ◌++◌, length, take, drop, codes, decimal, bytes_eq, nat_eq, Option, Some, None, option_map, option_and_then, Result, Ok, Err}
 use Rattle.std.specs.List.{starts_with}
 use Rattle.std.specs.Result.{result_ok}
@@ -21,14 +21,14 @@ use Rattle.gov_ids.specs.declared.PoolId.{PoolId}
 use Rattle.gov_ids.specs.declared.Voter.{Voter}
 use Rattle.gov_ids.specs.declared.Voter.TheVariants as voter
 
--- the next step of a reader, where there was a value
+-- the next step of a reader, after a value
 infixl 10 ◌>>=◌
 abbrev pub ◌>>=◌ : {A B : Type 0} → Option A → (A → Option B) → Option B
 o >>= f = option_and_then f o
 
 -- ---- what a text reads as
 
--- the bytes, where each digit is one
+-- the bytes, or `BadHex` if a digit is no hex digit
 abbrev pub or_bad_hex : Result (List ℕ) FromHexError → Result (List ℕ) IdFault
 or_bad_hex (Ok bytes) = Ok bytes
 or_bad_hex (Err e) = Err BadHex
@@ -54,7 +54,7 @@ abbrev pub number_of : List ℕ → Option ℕ
 number_of digits =
     if all_ascii_digits digits && nat_lt (digits_value 10 digits) 65536 then Some (digits_value 10 digits) else None
 
--- at least one digit, and no zero in front of others
+-- at least one digit, and no leading zero
 abbrev pub index_of : List ℕ → Option ℕ
 index_of [] = None
 index_of (digit ∷ []) = number_of (digit ∷ [])
@@ -136,7 +136,7 @@ voter_of text =
 abbrev pub hash_text : List ℕ → List ℕ
 hash_text h = encode_lower h
 
--- an asset's name, `-` where it is empty
+-- an asset's name, or `-` if it is empty
 abbrev pub asset_name_text : List ℕ → List ℕ
 asset_name_text [] = codes "-"
 asset_name_text (byte ∷ bytes) = hash_text (byte ∷ bytes)
@@ -175,7 +175,7 @@ action_id_text a = hash_text a.tx.0 ++ codes "#" ++ decimal a.index
 abbrev pub pool_text : PoolId → List ℕ
 pool_text p = hash_text p.0
 
--- its credential, or what it stands for
+-- its credential, or the word of its option
 abbrev pub drep_text : Drep → List ℕ
 drep_text (drep.Registered c) = credential_text c
 drep_text drep.Abstain = codes "abstain"

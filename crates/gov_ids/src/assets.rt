@@ -4,13 +4,14 @@ use crate::words::order28;
 use std::cmp::Ordering;
 use std::marker::Model;
 
-/// The most bytes of an asset's name. (AssetName of cardano-ledger)
+/// The greatest length of an asset's name, in bytes. (AssetName of cardano-ledger)
 pub const NAME_LIMIT: usize = 32;
 
-/// An asset's name: at most 32 bytes, kept in place. Contracts see it as the list of its bytes. (AssetName of cardano-ledger)
+/// An asset's name: at most 32 bytes, stored inline. Contracts see its bytes.
+/// (AssetName of cardano-ledger)
 #[derive(Clone, Copy)]
 pub struct AssetName {
-    // those behind the name are 0
+    // the bytes after the name are 0
     bytes: [u8; 32],
     used: u8,
 }
@@ -30,7 +31,7 @@ impl Model for AssetName {
 }
 
 impl AssetName {
-    /// The name of these bytes. (Own)
+    /// The name of at most 32 bytes.
     pub fn new(bytes: &[u8]) -> AssetName
         requires { length bytes.now ≤ 32 }
         ensures { result ≡ bytes.now }
@@ -43,7 +44,7 @@ impl AssetName {
         }
     }
 
-    /// Its bytes. (Own)
+    /// The bytes of the name.
     pub fn bytes(&self) -> &[u8]
         ensures value { result.now ≡ self.now }
         ensures few { length result.now ≤ 32 }
@@ -111,7 +112,8 @@ impl Ord for AssetName {
     }
 }
 
-/// A native asset: the hash of its minting policy, and its name under it. (AssetId of the formal specification; PolicyID and AssetName of cardano-ledger)
+/// A native asset: the hash of its minting policy, and its name under the policy.
+/// (AssetId of the formal specification; PolicyID and AssetName of cardano-ledger)
 #[derive(Clone, Copy, PartialEq, Eq)]
 pub struct AssetId {
     pub policy: [u8; 28],

@@ -28,7 +28,7 @@ pub fn hash32(text: &str) -> Result<[u8; 32], IdFault>
     read_hash::<32>(text.as_bytes())
 }
 
-// The `N` bytes of the digits. No step depends on which digit stands where: those of a hash follow no pattern that a processor could foresee.
+// The `N` bytes of the digits. No branch depends on a digit: a processor cannot predict them.
 pub fn read_hash<const N: usize>(digits: &[u8]) -> Result<[u8; N], IdFault>
     ensures { result ≡ hash_of N digits.now }
 {
@@ -45,7 +45,7 @@ pub fn read_hash<const N: usize>(digits: &[u8]) -> Result<[u8; N], IdFault>
     Ok(hash)
 }
 
-// Whether all of them are hex digits, in either case.
+// Whether all are hex digits, in either case.
 fn are_digits(digits: &[u8]) -> bool
     ensures { result ≡ list_all is_hex_digit digits.now }
 {

@@ -1,4 +1,4 @@
-// How the texts of ids and the ids themselves go together.
+// Laws on ids and their texts.
 ghost use Rattle.std.specs.Prelude.{◌≡◌, ◌↔◌, ℕ, List};
 ghost use Rattle.gov_ids.specs.declared.Account.{Account};
 ghost use Rattle.gov_ids.specs.declared.ActionId.{ActionId};
@@ -11,7 +11,7 @@ ghost use Rattle.gov_ids.specs.declared.Voter.{Voter};
 ghost use Rattle.gov_ids.specs.Laws.{IsHash, IsCredential, IsAccount, IsAddress, IsOutRef, IsActionId, IsPoolId, IsDrep, IsVoter, SpellsHash, SpellsCredential, SpellsAccount, SpellsAddress, SpellsOutRef, SpellsActionId, SpellsPoolId, SpellsDrep, SpellsVoter};
 ghost use Rattle.gov_ids.specs.Spelling.{hash_of, credential_of, account_of, address_of, ref_of, action_id_of, pool_of, drep_of, voter_of, hash_text, credential_text, account_text, address_text, ref_text, action_id_text, pool_text, drep_text, voter_text};
 
-/// A law: the printed text of each id reads as that id. (Own)
+/// A law: the printed text of each id reads as that id.
 pub fn printed_texts_read_back()
     ensures hash { (n : ℕ) (h : List ℕ) → IsHash n h → hash_of n (hash_text h) ≡ Ok h }
     ensures credential { (c : Credential) → IsCredential c → credential_of (credential_text c) ≡ Some c }
@@ -24,7 +24,7 @@ pub fn printed_texts_read_back()
     ensures voter { (v : Voter) → IsVoter v → voter_of (voter_text v) ≡ Some v }
 {}
 
-/// A law: exactly the texts that spell an id read as it. (Own)
+/// A law: a text reads as an id if and only if it spells that id.
 pub fn texts_that_read_are_spelled()
     ensures hash { (n : ℕ) (text h : List ℕ) → (hash_of n text ≡ Ok h) ↔ SpellsHash n text h }
     ensures credential { (text : List ℕ) (c : Credential) → (credential_of text ≡ Some c) ↔ SpellsCredential text c }

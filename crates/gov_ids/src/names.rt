@@ -2,11 +2,11 @@ ghost use Rattle.std.specs.Prelude.{◌≡◌, IfOk, map};
 ghost use Rattle.maps.specs.Words.{repeats};
 
 use crate::{Account, AssetId, Credential, OutRef, PoolId};
-use coin_frac::NoMemory;
+use no_memory::NoMemory;
 use std::alloc::Global;
 use std::collections::BTreeSet;
 
-/// An id that names an entry of a list, with the order that contracts state. (Own)
+/// An id that names an entry of a list, with an order that contracts state.
 pub trait Name: Ord + Copy + Drop {
     ghost use Rattle.std.specs.declared.cmp.Ordering.{Ordering};
 
@@ -60,14 +60,14 @@ impl Name for PoolId {
     ghost is_order = { refl };
 }
 
-/// An entry of a list that has a name: an id, or what begins with one. (Own)
+/// An entry of a list that has a name: it is an id, or begins with one.
 pub trait Named {
-    /// The id that names it.
+    /// The id of an entry.
     type Name: Name;
 
     ghost name: { Self → Self.Name };
 
-    /// Its name.
+    /// The name of the entry.
     fn name(&self) -> Self::Name
         ensures { result ≡ name self.now };
 }
@@ -122,7 +122,7 @@ impl<N: Name, A, B, C, D> Named for (N, A, B, C, D) {
     }
 }
 
-/// Whether two of the entries have the same name. (Own)
+/// Whether two entries have the same name.
 pub fn repeats_a_name<T: Named>(alloc: Global, entries: &[T]) -> Result<bool, NoMemory>
     ensures { IfOk result (λ twice. twice ≡ repeats T.Name.order (map T.name entries.now)) }
 {

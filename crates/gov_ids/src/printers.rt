@@ -1,14 +1,15 @@
-// What an id is printed as: one printer for each id.
+// The printed text of ids: one printer for each id.
 ghost use Rattle.std.specs.Prelude.{◌≡◌, ◌≤◌, ◌++◌, length, take, vec_len, decimal, OnOk, OnErr};
 ghost use Rattle.gov_ids.specs.Spelling.{hash_text, asset_name_text, kind_text, stake_text, credential_text, account_text, address_text, ref_text, action_id_text, pool_text, drep_text, voter_text};
 
 use crate::{
     Account, ActionId, Address, AssetName, CredKind, Credential, Drep, OutRef, PoolId, Voter,
 };
-use coin_frac::NoMemory;
 use itoa::Buffer;
+use no_memory::NoMemory;
 
-/// Appends a hash of at most 32 bytes, in lower case hex digits. After want of memory what stood there stands, with perhaps a part of the text behind it. (Own)
+/// Appends a hash of at most 32 bytes, in lower case hex digits. (Own)
+/// `NoMemory` keeps the old text; a part of the new text may follow it.
 pub fn push_hash(out: &mut Vec<u8>, hash: &[u8]) -> Result<(), NoMemory>
     requires { length hash.now ≤ 32 }
     ensures ok { OnOk result (out.new.items ≡ out.old.items ++ hash_text hash.now) }
@@ -21,7 +22,8 @@ pub fn push_hash(out: &mut Vec<u8>, hash: &[u8]) -> Result<(), NoMemory>
     Ok(())
 }
 
-/// Appends an asset's name in lower case hex digits, `-` where it is empty. After want of memory what stood there stands, with perhaps a part of the text behind it. (Own)
+/// Appends an asset's name in lower case hex digits, or `-` if it is empty. (Own)
+/// `NoMemory` keeps the old text; a part of the new text may follow it.
 pub fn push_asset_name(out: &mut Vec<u8>, name: &AssetName) -> Result<(), NoMemory>
     ensures ok { OnOk result (out.new.items ≡ out.old.items ++ asset_name_text name.now) }
     ensures err { OnErr result (take (vec_len out.old) out.new.items ≡ out.old.items) }
@@ -34,7 +36,8 @@ pub fn push_asset_name(out: &mut Vec<u8>, name: &AssetName) -> Result<(), NoMemo
     push_hash(out, bytes)
 }
 
-/// Appends a credential. After want of memory what stood there stands, with perhaps a part of the text behind it. (Own)
+/// Appends a credential. (Own)
+/// `NoMemory` keeps the old text; a part of the new text may follow it.
 pub fn push_credential(out: &mut Vec<u8>, c: &Credential) -> Result<(), NoMemory>
     ensures ok { OnOk result (out.new.items ≡ out.old.items ++ credential_text c.now) }
     ensures err { OnErr result (take (vec_len out.old) out.new.items ≡ out.old.items) }
@@ -47,7 +50,8 @@ pub fn push_credential(out: &mut Vec<u8>, c: &Credential) -> Result<(), NoMemory
     push_hash(out, &c.hash)
 }
 
-/// Appends an account. After want of memory what stood there stands, with perhaps a part of the text behind it. (Own)
+/// Appends an account. (Own)
+/// `NoMemory` keeps the old text; a part of the new text may follow it.
 pub fn push_account(out: &mut Vec<u8>, a: &Account) -> Result<(), NoMemory>
     ensures ok { OnOk result (out.new.items ≡ out.old.items ++ account_text a.now) }
     ensures err { OnErr result (take (vec_len out.old) out.new.items ≡ out.old.items) }
@@ -55,7 +59,8 @@ pub fn push_account(out: &mut Vec<u8>, a: &Account) -> Result<(), NoMemory>
     push_place(out, a.network, &a.cred)
 }
 
-/// Appends an address. After want of memory what stood there stands, with perhaps a part of the text behind it. (Own)
+/// Appends an address. (Own)
+/// `NoMemory` keeps the old text; a part of the new text may follow it.
 pub fn push_address(out: &mut Vec<u8>, a: &Address) -> Result<(), NoMemory>
     ensures ok { OnOk result (out.new.items ≡ out.old.items ++ address_text a.now) }
     ensures err { OnErr result (take (vec_len out.old) out.new.items ≡ out.old.items) }
@@ -64,7 +69,8 @@ pub fn push_address(out: &mut Vec<u8>, a: &Address) -> Result<(), NoMemory>
     push_stake(out, &a.stake)
 }
 
-/// Appends an output reference. After want of memory what stood there stands, with perhaps a part of the text behind it. (Own)
+/// Appends an output reference. (Own)
+/// `NoMemory` keeps the old text; a part of the new text may follow it.
 pub fn push_ref(out: &mut Vec<u8>, r: &OutRef) -> Result<(), NoMemory>
     ensures ok { OnOk result (out.new.items ≡ out.old.items ++ ref_text r.now) }
     ensures err { OnErr result (take (vec_len out.old) out.new.items ≡ out.old.items) }
@@ -74,7 +80,8 @@ pub fn push_ref(out: &mut Vec<u8>, r: &OutRef) -> Result<(), NoMemory>
     push_number(out, r.index)
 }
 
-/// Appends a governance action's id. After want of memory what stood there stands, with perhaps a part of the text behind it. (Own)
+/// Appends a governance action's id. (Own)
+/// `NoMemory` keeps the old text; a part of the new text may follow it.
 pub fn push_action_id(out: &mut Vec<u8>, a: &ActionId) -> Result<(), NoMemory>
     ensures ok { OnOk result (out.new.items ≡ out.old.items ++ action_id_text a.now) }
     ensures err { OnErr result (take (vec_len out.old) out.new.items ≡ out.old.items) }
@@ -84,7 +91,8 @@ pub fn push_action_id(out: &mut Vec<u8>, a: &ActionId) -> Result<(), NoMemory>
     push_number(out, a.index)
 }
 
-/// Appends a pool. After want of memory what stood there stands, with perhaps a part of the text behind it. (Own)
+/// Appends a pool. (Own)
+/// `NoMemory` keeps the old text; a part of the new text may follow it.
 pub fn push_pool(out: &mut Vec<u8>, p: &PoolId) -> Result<(), NoMemory>
     ensures ok { OnOk result (out.new.items ≡ out.old.items ++ pool_text p.now) }
     ensures err { OnErr result (take (vec_len out.old) out.new.items ≡ out.old.items) }
@@ -92,7 +100,8 @@ pub fn push_pool(out: &mut Vec<u8>, p: &PoolId) -> Result<(), NoMemory>
     push_hash(out, &p.0)
 }
 
-/// Appends a vote's delegate. After want of memory what stood there stands, with perhaps a part of the text behind it. (Own)
+/// Appends a vote's delegate. (Own)
+/// `NoMemory` keeps the old text; a part of the new text may follow it.
 pub fn push_drep(out: &mut Vec<u8>, d: &Drep) -> Result<(), NoMemory>
     ensures ok { OnOk result (out.new.items ≡ out.old.items ++ drep_text d.now) }
     ensures err { OnErr result (take (vec_len out.old) out.new.items ≡ out.old.items) }
@@ -104,7 +113,8 @@ pub fn push_drep(out: &mut Vec<u8>, d: &Drep) -> Result<(), NoMemory>
     }
 }
 
-/// Appends a voter. After want of memory what stood there stands, with perhaps a part of the text behind it. (Own)
+/// Appends a voter. (Own)
+/// `NoMemory` keeps the old text; a part of the new text may follow it.
 pub fn push_voter(out: &mut Vec<u8>, v: &Voter) -> Result<(), NoMemory>
     ensures ok { OnOk result (out.new.items ≡ out.old.items ++ voter_text v.now) }
     ensures err { OnErr result (take (vec_len out.old) out.new.items ≡ out.old.items) }
@@ -125,7 +135,7 @@ pub fn push_voter(out: &mut Vec<u8>, v: &Voter) -> Result<(), NoMemory>
     }
 }
 
-// A credential of a network.
+// Appends the network's digit and a credential.
 fn push_place(out: &mut Vec<u8>, network: u8, c: &Credential) -> Result<(), NoMemory>
     ensures ok { OnOk result (out.new.items ≡ out.old.items ++ decimal network ++ credential_text c.now) }
     ensures err { OnErr result (take (vec_len out.old) out.new.items ≡ out.old.items) }

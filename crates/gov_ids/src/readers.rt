@@ -1,4 +1,4 @@
-// What a text reads as: one reader for each id.
+// Readers of ids: one for each id.
 ghost use Rattle.std.specs.Prelude.{◌≡◌};
 ghost use Rattle.gov_ids.specs.Spelling.{kind_of, network_of, number_of, index_of, place_of, stake_of, credential_of, account_of, address_of, asset_name_of, ref_of, action_id_of, pool_of, drep_of, voter_of};
 
@@ -26,8 +26,8 @@ pub fn read_account(text: &str) -> Option<Account>
     })
 }
 
-/// Reads an address: the network's digit, a payment credential, then nothing or `+` and a stake
-/// credential. (Own)
+/// Reads an address: the network's digit, a payment credential, then nothing or `+` and
+/// a stake credential. (Own)
 #[tactic(auto, using(crate::proofs::ReaderLemmas::address_of_short))]
 pub fn read_address(text: &str) -> Option<Address>
     ensures { result ≡ address_of text.now }
@@ -56,8 +56,8 @@ pub fn read_asset_name(text: &str) -> Option<AssetName>
     Some(AssetName::new(bytes))
 }
 
-/// Reads an output reference: 64 hex digits, `#`, a decimal index below 65536 without a leading
-/// zero. (Own)
+/// Reads an output reference: 64 hex digits, `#`, and a decimal index below 65536
+/// without a leading zero. (Own)
 #[tactic(auto, using(crate::proofs::ReaderLemmas::ref_of_short))]
 pub fn read_ref(text: &str) -> Option<OutRef>
     ensures { result ≡ ref_of text.now }
@@ -180,7 +180,7 @@ fn index(digits: &[u8]) -> Option<u16>
     }
 }
 
-// The number below 2^16 that the digits write.
+// The number of the digits, if it is below 2^16.
 fn number(digits: &[u8]) -> Option<u16>
     ensures { result ≡ number_of digits.now }
 {

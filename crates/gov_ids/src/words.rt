@@ -1,4 +1,4 @@
-// The order of hashes: that of their bytes, of which eight are compared at a time, as a number.
+// The order of hashes by their bytes. Eight bytes are compared at a time, as a number.
 ghost use Rattle.std.specs.Prelude.{◌≡◌, ◌+◌, ◌≤◌, length};
 ghost use Rattle.std.specs.Cmp.Lexicographic.{slice_cmp};
 ghost use Rattle.std.specs.Ordering.{nat_cmp};
@@ -44,7 +44,7 @@ pub fn order28(a: &[u8; 28], b: &[u8; 28]) -> Ordering
     half_word(a, 24).cmp(&half_word(b, 24))
 }
 
-/// The eight bytes from a place on, as a number.
+/// The eight bytes from index `at` on, as a number.
 fn word(bytes: &[u8], at: usize) -> u64
     requires { at + 8 ≤ length bytes.now }
     ensures { result ≡ number_at 8 at bytes.now }
@@ -61,7 +61,7 @@ fn word(bytes: &[u8], at: usize) -> u64
     ])
 }
 
-/// The four bytes from a place on, as a number.
+/// The four bytes from index `at` on, as a number.
 fn half_word(bytes: &[u8], at: usize) -> u32
     requires { at + 4 ≤ length bytes.now }
     ensures { result ≡ number_at 4 at bytes.now }

@@ -1,4 +1,6 @@
--- The thresholds by name, and the greatest of several. (CIP-1694, Ratification: the thresholds P1 to P6 of DReps and Q1 to Q5 of pools; PoolThresholds and DrepThresholds of the formal specification)
+-- The thresholds by name, and the greatest of several. (CIP-1694, Ratification: the thresholds
+-- P1 to P6 of DReps and Q1 to Q5 of pools; PoolThresholds and DrepThresholds of the formal
+-- specification)
 use Rattle.std.specs.Prelude.{ℕ, ◌*◌, List, [], ◌∷◌, filter, map, nat_lt, unwrap_or, slice_get, if◌then◌else◌}
 use Rattle.std.specs.List.{reduce}
 use Rattle.coin_frac.specs.Fraction.{Fraction, fraction}
@@ -14,11 +16,11 @@ zero_share = fraction 0 1
 abbrev pub threshold_at : List Fraction → ℕ → Fraction
 threshold_at ts i = unwrap_or (slice_get ts i) zero_share
 
--- the greater of two fractions, and the first of equal ones
+-- the greater of two fractions; the first of equal ones
 abbrev pub greater_of : Fraction → Fraction → Fraction
 greater_of a b = if nat_lt (a.num * b.den) (b.num * a.den) then b else a
 
--- the greatest, the first of equal ones, and 0/1 of none
+-- the greatest fraction, the first of equal ones; 0/1 of an empty list
 abbrev pub greatest_of : List Fraction → Fraction
 greatest_of ts = unwrap_or (reduce greater_of ts) zero_share
 
@@ -26,11 +28,11 @@ greatest_of ts = unwrap_or (reduce greater_of ts) zero_share
 abbrev pub P1 : Params → Fraction
 P1 p = threshold_at p.drep_voting_thresholds 0
 
--- for an UpdateCommittee where there is a committee
+-- for an UpdateCommittee if there is a committee
 abbrev pub P2a : Params → Fraction
 P2a p = threshold_at p.drep_voting_thresholds 1
 
--- for an UpdateCommittee where there is none
+-- for an UpdateCommittee if there is none
 abbrev pub P2b : Params → Fraction
 P2b p = threshold_at p.drep_voting_thresholds 2
 
@@ -57,11 +59,11 @@ P6 p = threshold_at p.drep_voting_thresholds 9
 abbrev pub Q1 : Params → Fraction
 Q1 p = threshold_at p.pool_voting_thresholds 0
 
--- for an UpdateCommittee where there is a committee
+-- for an UpdateCommittee if there is a committee
 abbrev pub Q2a : Params → Fraction
 Q2a p = threshold_at p.pool_voting_thresholds 1
 
--- for an UpdateCommittee where there is none
+-- for an UpdateCommittee if there is none
 abbrev pub Q2b : Params → Fraction
 Q2b p = threshold_at p.pool_voting_thresholds 2
 

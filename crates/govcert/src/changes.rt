@@ -5,9 +5,9 @@ ghost use Rattle.ledger_model.specs.CertRules.{cert_checks};
 ghost use Rattle.ledger_model.specs.Checks.{first_among};
 
 use crate::drep_changes::{act, new_drep};
-use coin_frac::NoMemory;
 use gov_actions::HotState;
 use live_ledger::Draft;
+use no_memory::NoMemory;
 use tx_records::Cert;
 
 /// What a certificate of a DRep or of a cold key changes, if it breaks no rule.

@@ -2,8 +2,8 @@ ghost use Rattle.std.specs.Prelude.{◌≡◌, ◌+◌, ◌≤◌, ◌<◌, ◌^
 ghost use Rattle.ledger_model.specs.Changes.{dormant_added};
 ghost use Rattle.maps.specs.Words.{is_empty};
 
-use coin_frac::NoMemory;
 use live_ledger::Draft;
+use no_memory::NoMemory;
 use tx_records::Tx;
 
 /// The dormant epochs are added where the transaction proposes.

@@ -5,11 +5,11 @@ ghost use Rattle.live_ledger.specs.Drafts.{IsTimely};
 ghost use Rattle.tx_records.specs.declared.cert.Cert.TheVariants.{DrepUpdate};
 
 use book_records::DrepState;
-use coin_frac::NoMemory;
 use gov_ids::Credential;
 use live_ledger::Draft;
+use no_memory::NoMemory;
 
-/// The expiry of a DRep that acts now, as an epoch: the dormant epochs will be added to it, so it begins without them.
+/// The expiry, an epoch, of a DRep that acts now, before the dormant epochs are added.
 fn fresh_expiry(d: &Draft) -> u64
     ensures value { result ≡ fresh_expiry d.now.ledger }
     ensures timely { result + d.now.ledger.dormant ≤ 2 ^ 62 + 2 ^ 32 + d.now.ledger.epoch }
@@ -19,7 +19,7 @@ fn fresh_expiry(d: &Draft) -> u64
     s.epoch() + u64::from(s.params().drep_activity) - dormant
 }
 
-/// What is stored for a new DRep: the deposit that is due, in lovelace, and the expiry of one that acts now.
+/// A new DRep: the deposit that is due, in lovelace, and the expiry of one that acts now.
 pub fn new_drep(d: &Draft) -> DrepState
     ensures value { result ≡ new_drep d.now.ledger }
     ensures timely { IsTimely d.now.ledger result }

@@ -22,7 +22,7 @@ pub fn check_registration(d: &Draft, cred: &Credential, deposit: Option<u64>) ->
     Ok(())
 }
 
-/// The rules on the end of a DRep: whatever refund is stated, one that is not registered is unknown.
+/// The rules on the end of a DRep. One that is not registered is unknown, whatever the refund.
 pub fn check_end(d: &Draft, cred: &Credential, refund: Option<u64>) -> Result<(), Rule>
     ensures { result ≡ answer_of (cert_checks d.now.start d.now.ledger (DrepUnreg cred.now refund)) }
 {

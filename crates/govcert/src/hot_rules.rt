@@ -8,7 +8,8 @@ use live_ledger::{Draft, LiveLedger};
 use tx_records::Rule;
 use tx_records::rules::{COLD_KEY_RESIGNED, COLD_KEY_UNKNOWN};
 
-/// The rules on a cold key that authorizes a hot key or resigns: it is known by the ledger before the transaction, and it has not resigned.
+/// The rules on a cold key that authorizes a hot key or resigns: the ledger before the transaction
+/// knows it, and it has not resigned.
 pub fn check_cold_key(d: &Draft, cold: &Credential) -> Result<(), Rule>
     ensures { result ≡ answer_of (cold_key_checks d.now.start d.now.ledger cold.now) }
 {
@@ -28,7 +29,7 @@ fn is_resigned(s: Option<HotState>) -> bool
     matches!(s, Some(HotState::Resigned))
 }
 
-/// Whether a credential is a member of the committee, or a live proposal adds it. It walks neither.
+/// Whether a credential is a committee member, or a live proposal adds it. It scans neither.
 fn is_cold_key(s: &LiveLedger, cold: &Credential) -> bool
     ensures { result ≡ is_cold_key s.now.ledger cold.now }
 {

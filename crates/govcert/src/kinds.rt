@@ -3,7 +3,7 @@ ghost use Rattle.govcert.specs.Kinds.{is_governance_cert};
 
 use tx_records::Cert;
 
-/// Whether a certificate is one of a DRep, or of a cold key of the committee: `cert` asks for it. (Own)
+/// Whether a certificate is one of a DRep or of a committee's cold key. `cert` requires it.
 pub fn is_governance_cert(c: &Cert) -> bool
     ensures { result ≡ is_governance_cert c.now }
 {

@@ -1,4 +1,4 @@
-//! The refresh of expiries, and the certificates of DReps and of the committee's cold keys: each is refused, or it changes a draft.
+//! Expiry refreshes, and certificates of DReps and cold keys: each changes a draft or is refused.
 #![tactic(auto)]
 
 ghost use Rattle.std.specs.Prelude.{◌≡◌, ◌+◌, ◌≤◌, ◌^◌, true, OnOk, map};
@@ -24,13 +24,15 @@ use crate::changes::change;
 use crate::dormant::add_dormant;
 use crate::rules::check_cert;
 use crate::voters::refresh_voters;
-use coin_frac::NoMemory;
 pub use kinds::is_governance_cert;
 use live_ledger::Draft;
+use no_memory::NoMemory;
 use rule_checks::{answer_at, as_fault};
 use tx_records::{Cert, Tx, TxFault};
 
-/// Adds the dormant epochs to the expiries of DReps where the transaction proposes, and then gives each registered DRep that votes in it the expiry of one that acts now. (Own: CIP-1694, Delegated representatives, lets the epochs without a proposal not count)
+/// Adds the dormant epochs to the expiries of DReps if the transaction proposes; then a registered
+/// DRep that votes in it gets the expiry of one that acts now. (Own: CIP-1694, Delegated
+/// representatives, lets the epochs without a proposal not count)
 pub fn refresh(d: &mut Draft, tx: &Tx) -> Result<(), NoMemory>
     requires within { is_within_limits tx.now ≡ true }
     requires few { d.old.changes ≤ 2 ^ 31 }
@@ -43,7 +45,9 @@ pub fn refresh(d: &mut Draft, tx: &Tx) -> Result<(), NoMemory>
     refresh_voters(d, tx.votes.as_slice())
 }
 
-/// Registers a DRep, ends it or notes that it acts, or gives a cold key a hot key or lets it resign, as the certificate at this place says, or refuses with the first rule that it breaks. (GOVCERT of the formal specification)
+/// Applies the certificate at this index, or refuses with the first rule that it breaks: a DRep is
+/// registered, ended or updated; a cold key authorizes a hot key or resigns.
+/// (GOVCERT of the formal specification)
 pub fn cert(d: &mut Draft, place: u32, c: &Cert) -> Result<(), TxFault>
     requires kind { is_governance_cert c.now ≡ true }
     requires few { d.old.changes ≤ 2 ^ 31 }

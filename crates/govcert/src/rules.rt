@@ -8,7 +8,7 @@ use crate::hot_rules::check_cold_key;
 use live_ledger::Draft;
 use tx_records::{Cert, Rule};
 
-/// The first rule that a certificate of a DRep or of a cold key breaks, if there is one; its place is not told yet.
+/// The first rule that a certificate of a DRep or a cold key breaks, if any, without its index.
 pub fn check_cert(d: &Draft, c: &Cert) -> Result<(), Rule>
     requires { is_governance_cert c.now ≡ true }
     ensures { result ≡ answer_of (cert_checks d.now.start d.now.ledger c.now) }

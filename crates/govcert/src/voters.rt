@@ -2,9 +2,9 @@ ghost use Rattle.std.specs.Prelude.{◌≡◌, ◌+◌, ◌≤◌, ◌<◌, ◌^
 ghost use Rattle.govcert.specs.Acted.{acted_all, acted_as};
 
 use crate::drep_changes::act;
-use coin_frac::NoMemory;
 use gov_ids::Voter;
 use live_ledger::Draft;
+use no_memory::NoMemory;
 use tx_records::VoteRecord;
 
 /// Each registered DRep that casts one of these votes acts, vote by vote.

@@ -1,4 +1,4 @@
--- The fields of an object that is no record: an entry of a list, or what stands in one. (Own)
+-- The fields of an object that is no record: an entry of a list, or what is in one. (Own)
 use Rattle.std.specs.Prelude.{ℕ, List, Option, Some, None, Result, Ok, Err}
 use Rattle.serde_json.specs.Data.{Data}
 use Rattle.json_fields.specs.declared.fault.FieldFault.{FieldFault}
@@ -6,11 +6,11 @@ use Rattle.json_fields.specs.declared.lists.ListFault.{ListFault}
 use Rattle.json_fields.specs.Kinds.{field_in, optional_in, pair_in}
 use Rattle.json_fields.specs.Steps.{◌>>=◌}
 
--- a field that has to be there
+-- a field that must be there
 abbrev pub needed_in : {A : Type 0} → List ℕ → (Data → Result A FieldFault) → Data → Result A FieldFault
 needed_in name reading d = field_in name d >>= reading
 
--- what is there, as it reads
+-- a field's value, read, if it is there
 abbrev pub maybe_by : {A : Type 0} → (Data → Result A FieldFault) → Option Data → Result (Option A) FieldFault
 maybe_by reading None = Ok None
 maybe_by reading (Some d) = reading d >>= λ x. Ok (Some x)

@@ -22,7 +22,8 @@ abbrev pub entry_at : {A : Type 0} → ℕ → (A → Bool) → Result A FieldFa
 entry_at i out (Err fault) = Err (fault_at i fault)
 entry_at i out (Ok x) = if out x then Err (fault_at i OutOfRange) else Ok x
 
--- those before, and the entries that follow, up to the first that is bad: it does not read, or it is out of place behind those before it
+-- those before, then the entries that follow
+-- the first bad one is the fault: it cannot be read, or it is out of place after those before it
 abbrev pub entries_after : {A : Type 0} → (Data → Result A FieldFault) → (List A → A → Bool) → List A → Items → Result (List A) ListFault
 entries_after reading out before no_items = Ok before
 entries_after reading out before (item d ds) =
@@ -41,7 +42,7 @@ is_full limit before = nat_le limit (length before)
 abbrev pub list_in : {A : Type 0} → ℕ → (Data → Result A FieldFault) → Data → Result (List A) ListFault
 list_in limit reading d = entries_of reading (λ before x. is_full limit before) (items_in d)
 
--- the entry's name stands before, or there are as many before as a list may have
+-- an earlier entry has this name, or there are as many before as a list may have
 abbrev pub is_known_or_full : {A K : Type 0} → (K → K → Ordering) → (A → K) → ℕ → List A → A → Bool
 is_known_or_full cmp name limit before x = has_member cmp (map name before) (name x) || is_full limit before
 

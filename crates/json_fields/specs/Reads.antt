@@ -4,7 +4,7 @@ use Rattle.json_fields.specs.declared.fault.FieldFault.{FieldFault}
 use Rattle.json_fields.specs.declared.fault.FieldFault.TheVariants.{Missing, WrongKind, OutOfRange, NoMemory}
 use Rattle.json_fields.specs.declared.lists.ListFault.{ListFault}
 
--- the fact, unless the fault is want of memory
+-- the fact, unless the fault is out of memory
 abbrev pub UnlessMemory : FieldFault → Type 0 → Type 0
 UnlessMemory Missing fact = fact
 UnlessMemory WrongKind fact = fact

@@ -12,7 +12,7 @@ use listed::Listed;
 use std::alloc::Global;
 use std::collections::BTreeSet;
 
-/// A list of at most `limit` entries, each with a name of its own. (Own)
+/// A list of at most `limit` entries, each with a name of its own.
 pub fn read_distinct_list<K: Kind>(
     alloc: Global,
     limit: u32,

@@ -17,7 +17,7 @@ use gov_ids::{
 use json_tree::Value;
 use std::alloc::Global;
 
-/// A field that has to be there. (Own)
+/// A field that must be there.
 pub fn needed<K: Kind>(
     alloc: Global,
     object: &Value<'_>,
@@ -28,7 +28,7 @@ pub fn needed<K: Kind>(
     K::read(alloc, field(object, name)?)
 }
 
-/// A field that may be absent or null. (Own)
+/// A field that may be absent or null.
 pub fn maybe<K: Kind>(
     alloc: Global,
     object: &Value<'_>,

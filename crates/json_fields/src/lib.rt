@@ -1,4 +1,5 @@
-//! Readers of JSON values, one for each kind of field. Each answers `WrongKind` where the value is of another JSON kind, and `OutOfRange` where it is of that kind and breaks the range or form.
+//! Readers of JSON values, one for each kind of field. Each returns `WrongKind` for a value
+//! of another JSON kind, and `OutOfRange` for one that breaks the range or form.
 #![tactic(auto)]
 
 mod distinct;

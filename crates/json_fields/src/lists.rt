@@ -9,16 +9,16 @@ use json_tree::Value;
 use listed::Listed;
 use std::alloc::{AllocError, AllocFailed, Global};
 
-/// Why a list does not read. (Own)
+/// Why a list cannot be read.
 #[derive(Clone, Copy, Debug, PartialEq, Eq)]
 pub struct ListFault {
-    /// The place of the first bad entry, from 0; none where the value is no list, or memory ran out.
+    /// The place of the first bad entry, from 0; none if the value is no list, or memory ran out.
     pub place: Option<u32>,
     /// What is wrong with it.
     pub fault: FieldFault,
 }
 
-/// How an entry of a list is read. (Own)
+/// How an entry of a list is read.
 pub trait Kind {
     /// What an entry reads as.
     type Entry: Drop;
@@ -29,20 +29,20 @@ pub trait Kind {
 
     ghost reading: { Data → Result Self.Entry FieldFault };
 
-    /// The entry that the value is.
+    /// Reads the value as an entry.
     fn read(alloc: Global, value: &Value<'_>) -> Result<Self::Entry, FieldFault>
         ensures { Reads result (reading (view value.now)) };
 }
 
 impl ListFault {
-    /// A fault of the list itself. (Own)
+    /// A fault of the list itself.
     pub fn whole(fault: FieldFault) -> ListFault
         ensures { result ≡ whole_fault fault }
     {
         ListFault { place: None, fault }
     }
 
-    /// A fault of the entry at the place, from 0. (Own)
+    /// A fault of the entry at the place, from 0.
     pub fn at(place: u32, fault: FieldFault) -> ListFault
         ensures { result ≡ fault_at place fault }
     {
@@ -75,7 +75,7 @@ impl<T: Drop> From<AllocFailed<T>> for ListFault {
     }
 }
 
-/// A list of at most `limit` entries. (Own)
+/// A list of at most `limit` entries.
 pub fn read_list<K: Kind>(
     alloc: Global,
     limit: u32,

@@ -11,7 +11,7 @@ use gov_ids::{
 };
 use json_tree::Value;
 
-/// The value of an object's field; a null one counts as absent. (Own)
+/// The value of an object's field; a null one counts as absent.
 pub fn field<'v, 'a>(object: &'v Value<'a>, name: &str) -> Result<&'v Value<'a>, FieldFault>
     ensures { result_map_both (λ v. view v.now) (λ e. e) result ≡ field_in name.now (view object.now) }
 {
@@ -24,7 +24,7 @@ pub fn field<'v, 'a>(object: &'v Value<'a>, name: &str) -> Result<&'v Value<'a>,
     }
 }
 
-/// The value of an object's field, if it has one; a null one counts as absent. (Own)
+/// The value of an object's field, if it has one; a null one counts as absent.
 pub fn optional_field<'v, 'a>(
     object: &'v Value<'a>,
     name: &str,
@@ -38,14 +38,14 @@ pub fn optional_field<'v, 'a>(
     }
 }
 
-/// True or false. (Own)
+/// True or false.
 pub fn read_bool(v: &Value<'_>) -> Result<bool, FieldFault>
     ensures { result ≡ bool_in (view v.now) }
 {
     v.as_bool().ok_or(FieldFault::WrongKind)
 }
 
-/// A number of 64 bits. (Own)
+/// A number of 64 bits.
 pub fn read_u64(v: &Value<'_>) -> Result<u64, FieldFault>
     ensures { result ≡ u64_in (view v.now) }
 {
@@ -55,7 +55,7 @@ pub fn read_u64(v: &Value<'_>) -> Result<u64, FieldFault>
     v.as_u64().ok_or(FieldFault::OutOfRange)
 }
 
-/// A number of 64 bits below a bound. (Own)
+/// A number of 64 bits below a bound.
 pub fn read_number_below(bound: u64, v: &Value<'_>) -> Result<u64, FieldFault>
     ensures { result ≡ number_below bound (view v.now) }
 {
@@ -67,7 +67,7 @@ pub fn read_number_below(bound: u64, v: &Value<'_>) -> Result<u64, FieldFault>
     }
 }
 
-/// A number of 32 bits. (Own)
+/// A number of 32 bits.
 pub fn read_u32(v: &Value<'_>) -> Result<u32, FieldFault>
     ensures { result ≡ u32_in (view v.now) }
 {
@@ -75,7 +75,7 @@ pub fn read_u32(v: &Value<'_>) -> Result<u32, FieldFault>
     Ok(n as u32)
 }
 
-/// A number of 16 bits. (Own)
+/// A number of 16 bits.
 pub fn read_u16(v: &Value<'_>) -> Result<u16, FieldFault>
     ensures { result ≡ u16_in (view v.now) }
 {
@@ -83,105 +83,105 @@ pub fn read_u16(v: &Value<'_>) -> Result<u16, FieldFault>
     Ok(n as u16)
 }
 
-/// A text. (Own)
+/// A text.
 pub fn read_text<'a>(v: &Value<'a>) -> Result<&'a str, FieldFault>
     ensures { result_map_both (λ t. t.now) (λ e. e) result ≡ text_in (view v.now) }
 {
     v.as_str().ok_or(FieldFault::WrongKind)
 }
 
-/// 28 bytes, as 56 hex digits. (Own)
+/// 28 bytes, as 56 hex digits.
 pub fn read_hash28(v: &Value<'_>) -> Result<[u8; 28], FieldFault>
     ensures { result ≡ hash28_in (view v.now) }
 {
     hash28(read_text(v)?).ok().ok_or(FieldFault::OutOfRange)
 }
 
-/// 32 bytes, as 64 hex digits. (Own)
+/// 32 bytes, as 64 hex digits.
 pub fn read_hash32(v: &Value<'_>) -> Result<[u8; 32], FieldFault>
     ensures { result ≡ hash32_in (view v.now) }
 {
     hash32(read_text(v)?).ok().ok_or(FieldFault::OutOfRange)
 }
 
-/// A transaction, as 64 hex digits. (Own)
+/// A transaction, as 64 hex digits.
 pub fn read_tx_id(v: &Value<'_>) -> Result<TxId, FieldFault>
     ensures { result ≡ tx_id_in (view v.now) }
 {
     Ok(TxId(read_hash32(v)?))
 }
 
-/// A pool, as 56 hex digits. (Own)
+/// A pool, as 56 hex digits.
 pub fn read_pool_id(v: &Value<'_>) -> Result<PoolId, FieldFault>
     ensures { result ≡ pool_id_in (view v.now) }
 {
     gov_ids::read_pool(read_text(v)?).ok_or(FieldFault::OutOfRange)
 }
 
-/// A credential: `k` (key) or `s` (script), then 56 hex digits. (Own)
+/// A credential: `k` (key) or `s` (script), then 56 hex digits.
 pub fn read_credential(v: &Value<'_>) -> Result<Credential, FieldFault>
     ensures { result ≡ credential_in (view v.now) }
 {
     gov_ids::read_credential(read_text(v)?).ok_or(FieldFault::OutOfRange)
 }
 
-/// An account: the network's digit, then a credential. (Own)
+/// An account: the network's digit, then a credential.
 pub fn read_account(v: &Value<'_>) -> Result<Account, FieldFault>
     ensures { result ≡ account_in (view v.now) }
 {
     gov_ids::read_account(read_text(v)?).ok_or(FieldFault::OutOfRange)
 }
 
-/// An address: the network's digit, a payment credential, then nothing or `+` and a stake credential. (Own)
+/// An address: the network's digit, a payment credential, then perhaps `+` and a stake credential.
 pub fn read_address(v: &Value<'_>) -> Result<Address, FieldFault>
     ensures { result ≡ address_in (view v.now) }
 {
     gov_ids::read_address(read_text(v)?).ok_or(FieldFault::OutOfRange)
 }
 
-/// An asset's name: at most 32 bytes, each as two hex digits. (Own)
+/// An asset's name: at most 32 bytes, each as two hex digits.
 pub fn read_asset_name(v: &Value<'_>) -> Result<AssetName, FieldFault>
     ensures { result ≡ asset_name_in (view v.now) }
 {
     gov_ids::read_asset_name(read_text(v)?).ok_or(FieldFault::OutOfRange)
 }
 
-/// A reference to an output: a transaction, `#`, an index below 65536. (Own)
+/// A reference to an output: a transaction, `#`, an index below 65536.
 pub fn read_ref(v: &Value<'_>) -> Result<OutRef, FieldFault>
     ensures { result ≡ ref_in (view v.now) }
 {
     gov_ids::read_ref(read_text(v)?).ok_or(FieldFault::OutOfRange)
 }
 
-/// A governance action's id, in the form of an output reference. (Own)
+/// A governance action's id, in the form of an output reference.
 pub fn read_action_id(v: &Value<'_>) -> Result<ActionId, FieldFault>
     ensures { result ≡ action_id_in (view v.now) }
 {
     gov_ids::read_action_id(read_text(v)?).ok_or(FieldFault::OutOfRange)
 }
 
-/// What a vote is delegated to: a credential, `abstain` or `no-confidence`. (Own)
+/// What a vote is delegated to: a credential, `abstain` or `no-confidence`.
 pub fn read_drep(v: &Value<'_>) -> Result<Drep, FieldFault>
     ensures { result ≡ drep_in (view v.now) }
 {
     gov_ids::read_drep(read_text(v)?).ok_or(FieldFault::OutOfRange)
 }
 
-/// A voter: `committee:` or `drep:` and a credential, or `pool:` and 56 hex digits. (Own)
+/// A voter: `committee:` or `drep:` and a credential, or `pool:` and 56 hex digits.
 pub fn read_voter(v: &Value<'_>) -> Result<Voter, FieldFault>
     ensures { result ≡ voter_in (view v.now) }
 {
     gov_ids::read_voter(read_text(v)?).ok_or(FieldFault::OutOfRange)
 }
 
-/// The entries of an array. (Own)
+/// The entries of an array.
 pub fn read_items<'v, 'a>(v: &'v Value<'a>) -> Result<&'v [Value<'a>], FieldFault>
     ensures { result_map_both (λ s. items_view s.now) (λ e. e) result ≡ items_in (view v.now) }
 {
     v.as_array().ok_or(FieldFault::WrongKind)
 }
 
-/// An array of two entries. (Own)
+/// An array of two entries.
 #[tactic(auto, using(crate::proofs::Items::not_two))]
 pub fn read_pair<'v, 'a>(v: &'v Value<'a>) -> Result<(&'v Value<'a>, &'v Value<'a>), FieldFault>
     ensures { result_map_both (λ t. (view t.0.now, view t.1.now)) (λ e. e) result ≡ pair_in (view v.now) }
@@ -192,7 +192,7 @@ pub fn read_pair<'v, 'a>(v: &'v Value<'a>) -> Result<(&'v Value<'a>, &'v Value<'
     }
 }
 
-/// An array of three entries. (Own)
+/// An array of three entries.
 #[tactic(auto, using(crate::proofs::Items::not_three))]
 pub fn read_three<'v, 'a>(
     v: &'v Value<'a>,
@@ -206,7 +206,7 @@ pub fn read_three<'v, 'a>(
     }
 }
 
-/// An array of three entries, or of four. (Own)
+/// An array of three entries, or of four.
 #[tactic(auto, using(crate::proofs::Items::not_three_or_four))]
 pub fn read_three_or_four<'v, 'a>(
     v: &'v Value<'a>,
@@ -230,7 +230,7 @@ pub fn read_three_or_four<'v, 'a>(
     }
 }
 
-/// An array of four entries. (Own)
+/// An array of four entries.
 #[tactic(auto, using(crate::proofs::Items::not_four))]
 pub fn read_four<'v, 'a>(
     v: &'v Value<'a>,
@@ -244,7 +244,7 @@ pub fn read_four<'v, 'a>(
     }
 }
 
-/// An array of five entries. (Own)
+/// An array of five entries.
 #[tactic(auto, using(crate::proofs::Items::not_five))]
 pub fn read_five<'v, 'a>(
     v: &'v Value<'a>,
@@ -268,7 +268,7 @@ pub fn read_five<'v, 'a>(
     }
 }
 
-/// An array of six entries, or of seven. (Own)
+/// An array of six entries, or of seven.
 #[tactic(auto, using(crate::proofs::Items::not_six_or_seven))]
 pub fn read_six_or_seven<'v, 'a>(
     v: &'v Value<'a>,

@@ -1,4 +1,4 @@
--- The data that a value stands for, in the words of `serde_json`.
+-- The data of a value, as `serde_json` defines it.
 use Rattle.std.specs.Prelude.{ℕ, List, [], ◌∷◌, map}
 use Rattle.std.specs.Borrow.{Bor}
 use Rattle.serde_json.specs.Data.{Data, null, boolean, number, string, array, object, Items, Members, no_members, put}
@@ -7,12 +7,12 @@ use Rattle.json_tree.specs.Numbers.{number_view}
 use Rattle.json_tree.specs.declared.value.Value.{Value, fold-Value}
 use Rattle.json_tree.specs.declared.value.Value.TheOpen.{Value-F}
 
--- members go in one after another, so the last value of a name stays
+-- members inserted in turn: the last value of a name stays
 abbrev pub members_after : Members → List (Bor (List ℕ) × Data) → Members
 members_after found [] = found
 members_after found (m ∷ ms) = members_after (put m.0.now m.1 found) ms
 
--- one level, with each value inside already seen as its data
+-- one level, if each value inside is given as its data
 abbrev pub view_step : Value-F Data → Data
 view_step Value-F.Null = null
 view_step (Value-F.Bool b) = boolean b
@@ -25,10 +25,10 @@ view_step (Value-F.Object v) = object (members_after no_members v.items)
 abbrev pub view : Value → Data
 view = fold-Value Data view_step
 
--- the same of the entries of an array
+-- the data of the entries of an array
 abbrev pub items_view : List Value → Items
 items_view vs = items_of (map view vs)
 
--- the same of the members of an object
+-- the data of the members of an object
 abbrev pub members_view : List (Bor (List ℕ) × Value) → Members
 members_view ms = members_after no_members (map (λ m. (m.0, view m.1)) ms)

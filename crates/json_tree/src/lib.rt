@@ -1,4 +1,4 @@
-//! JSON values that borrow their texts from the line in which they stand: to read one copies no text. Contracts see what `serde_json` reads.
+//! JSON values that borrow their texts from the line. Contracts see what `serde_json` reads.
 #![tactic(auto)]
 
 mod number;

@@ -1,11 +1,11 @@
-// The number that a text writes.
+// The number of a token.
 ghost use Rattle.std.specs.Prelude.{◌≡◌, ◌<◌, ◌==◌, true, false, IsTrue, length, option_map, slice_index};
 ghost use Rattle.serde_json.specs.Read.{float_of, number_from, number_of};
 ghost use Rattle.json_tree.specs.Numbers.{number_view};
 
 use fast_float::Numeral;
 
-/// A number: an integer of 64 bits from 0 on, one below 0, or the float nearest to any other. (Own)
+/// A number: an integer of 64 bits from 0 on, one below 0, or the float nearest to any other.
 #[derive(Clone, Copy, Drop)]
 pub enum Number {
     Unsigned(u64),
@@ -13,7 +13,7 @@ pub enum Number {
     Float(f64),
 }
 
-/// The number that a token of JSON writes, where it is in range.
+/// The number of a token of JSON, if it is in range.
 #[inline(always)]
 pub fn number_of_text(text: &str) -> Option<Number>
     ensures { option_map number_view result ≡ number_of text.now }

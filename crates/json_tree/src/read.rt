@@ -8,19 +8,19 @@ ghost use Rattle.json_tree.specs.View.{view, items_view, members_view};
 
 use crate::number::number_of_text;
 use crate::value::Value;
-use coin_frac::NoMemory;
 use json::{Reader, Scratch, Token};
+use no_memory::NoMemory;
 use std::alloc::{AllocError, AllocFailed, Global};
 
-/// How deep arrays and objects may nest.
+/// The greatest depth of arrays and objects.
 const MAX_DEPTH: usize = 127;
 
 /// Why there is no value.
 #[derive(Clone, Copy, Debug, Drop, PartialEq, Eq)]
 enum Fault {
-    /// The text is none.
+    /// The text is no JSON value.
     Invalid,
-    /// Memory ran out.
+    /// Out of memory.
     NoMemory,
 }
 
@@ -57,7 +57,9 @@ impl<T: Drop> From<AllocFailed<T>> for Fault {
     }
 }
 
-/// The JSON value of bytes, as `serde_json` reads it; nothing where they are none. The scratch takes texts with escapes: kept from line to line it saves its making. `NoMemory` may come at any time. (Own)
+/// The JSON value of bytes, as `serde_json` reads it; none if they are no JSON value.
+/// The scratch takes texts with escapes; callers can reuse it for each line.
+/// `NoMemory` may come at any time.
 pub fn read_value<'a>(
     alloc: Global,
     scratch: &'a mut Scratch,

@@ -4,7 +4,8 @@ ghost use Rattle.json_tree.specs.View.{view, items_view, members_view};
 
 use crate::number::Number;
 
-/// A JSON value, whose texts stand elsewhere. An object keeps its members as they stand in the text, also those whose name stands there again. (Own)
+/// A JSON value that borrows its texts.
+/// An object keeps its members in the order of the text, also those with a repeated name.
 #[derive(Drop)]
 pub enum Value<'a> {
     Null,
@@ -16,14 +17,14 @@ pub enum Value<'a> {
 }
 
 impl<'a> Value<'a> {
-    /// Whether it is null. (Own)
+    /// Whether it is null.
     pub fn is_null(&self) -> bool
         ensures { result ≡ is_some (as_null (view self.now)) }
     {
         matches!(self, Value::Null)
     }
 
-    /// True or false, where it is one of them. (Own)
+    /// True or false, if it is one of them.
     pub fn as_bool(&self) -> Option<bool>
         ensures { result ≡ as_bool (view self.now) }
     {
@@ -34,14 +35,14 @@ impl<'a> Value<'a> {
         }
     }
 
-    /// Whether it is a number. (Own)
+    /// Whether it is a number.
     pub fn is_number(&self) -> bool
         ensures { result ≡ is_some (as_number (view self.now)) }
     {
         matches!(self, Value::Number(_))
     }
 
-    /// The number, where it is an integer from 0 on of 64 bits. (Own)
+    /// The number, if it is an integer of 64 bits from 0 on.
     pub fn as_u64(&self) -> Option<u64>
         ensures { result ≡ option_and_then as_u64 (as_number (view self.now)) }
     {
@@ -52,7 +53,7 @@ impl<'a> Value<'a> {
         }
     }
 
-    /// The text, where it is one. (Own)
+    /// The text, if it is one.
     pub fn as_str(&self) -> Option<&'a str>
         ensures { option_map (λ s. s.now) result ≡ as_str (view self.now) }
     {
@@ -63,7 +64,7 @@ impl<'a> Value<'a> {
         }
     }
 
-    /// The entries, where it is an array. (Own)
+    /// The entries, if it is an array.
     pub fn as_array(&self) -> Option<&[Value<'a>]>
         ensures { option_map (λ s. items_view s.now) result ≡ as_array (view self.now) }
     {
@@ -74,7 +75,7 @@ impl<'a> Value<'a> {
         }
     }
 
-    /// The members in the order of the text, where it is an object. (Own)
+    /// The members in the order of the text, if it is an object.
     pub fn as_object(&self) -> Option<&[(&'a str, Value<'a>)]>
         ensures { option_map (λ s. members_view s.now) result ≡ as_object (view self.now) }
     {
@@ -85,14 +86,14 @@ impl<'a> Value<'a> {
         }
     }
 
-    /// Whether it is an object. (Own)
+    /// Whether it is an object.
     pub fn is_object(&self) -> bool
         ensures { result ≡ is_some (as_object (view self.now)) }
     {
         self.as_object().is_some()
     }
 
-    /// The value of the last member of the name, where it is an object that has one. (Own)
+    /// The value of the last member with the name, if it is an object that has one.
     pub fn get(&self, name: &str) -> Option<&Value<'a>>
         ensures { option_map (λ v. view v.now) result ≡ get name.now (view self.now) }
     {
@@ -103,7 +104,7 @@ impl<'a> Value<'a> {
     }
 }
 
-/// The value of the last member of the name.
+/// The value of the last member with the name.
 fn find<'v, 'a>(members: &'v [(&'a str, Value<'a>)], name: &str) -> Option<&'v Value<'a>>
     ensures { option_map (λ v. view v.now) result ≡ get_member name.now (members_view members.now) }
 {

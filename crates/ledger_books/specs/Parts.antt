@@ -1,4 +1,5 @@
--- The World that the parts of a ledger are, beside what is frozen and counted. (NewEpochState of the formal specification)
+-- The World of a ledger's parts, together with what is frozen and counted.
+-- (NewEpochState of the formal specification)
 use Rattle.std.specs.Prelude.{◌≡◌, ◌≤◌, ℕ, List}
 use Rattle.book_records.specs.declared.Entry.{Entry}
 use Rattle.gov_ids.specs.declared.Credential.{Credential}
@@ -9,10 +10,10 @@ use Rattle.ledger_model.specs.Ledger.{Ledger}
 use Rattle.ledger_model.specs.Supply.{supply_of}
 use Rattle.run_model.specs.World.{World}
 use Rattle.stake_book.specs.Stakes.{registrations}
-use Rattle.tx_records.specs.declared.limits.TheConstants.{SUPPLY_LIMIT}
+use Rattle.coin_frac.specs.declared.TheConstants.{SUPPLY_LIMIT}
 use Rattle.view_map.specs.View.{frozen_of}
 
--- the ledger that these parts are
+-- the ledger of these parts
 abbrev pub ledger_of_books : Books → Ledger
 ledger_of_books b = record {
   network = b.network;
@@ -34,7 +35,7 @@ ledger_of_books b = record {
   proposals = b.proposals;
 }
 
--- the World that they are, beside so many counted entries of this snapshot
+-- the World of these parts, with so many counted entries of this snapshot
 abbrev pub world_of_books : Books → ℕ → Snapshot → World
 world_of_books b counted f = record {
   ledger = ledger_of_books b;
@@ -56,7 +57,7 @@ pub record HoldsSupply (b : Books) : Type 0 where
   pub balanced : supply_of (ledger_of_books b) ≡ b.supply
   pub within : b.supply ≤ SUPPLY_LIMIT
 
--- the World of the parts after a step is what the step makes of that before, whatever is frozen and counted
+-- the World of the parts after a step is the step of the World before, for each snapshot and count
 abbrev pub IsStep : (World → World) → Books → Books → Type 0
 IsStep step before after =
     (counted : ℕ) (f : Snapshot) → world_of_books after counted f ≡ step (world_of_books before counted f)

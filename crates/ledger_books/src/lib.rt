@@ -1,4 +1,4 @@
-//! All parts of a ledger but what is frozen and counted: what a boundary works on.
+//! All parts of a ledger except what is frozen and counted: a boundary works on these.
 #![tactic(auto)]
 
 mod treasury;
@@ -14,18 +14,19 @@ use stake_book::StakeBook;
 pub use treasury::with_treasury;
 use tx_records::Rewards;
 
-/// All parts of a ledger but what is frozen and counted. (NewEpochState of the formal specification)
+/// All parts of a ledger except what is frozen and counted.
+/// (NewEpochState of the formal specification)
 #[derive(Drop)]
 pub struct Books {
     /// 0 for the test networks, 1 for mainnet.
     pub network: u8,
-    /// Slots in an epoch.
+    /// The length of an epoch, in slots.
     pub length: u32,
     /// The supply, in lovelace.
     pub supply: u64,
     /// The last slot.
     pub slot: u64,
-    /// Its epoch.
+    /// The epoch of that slot.
     pub epoch: u64,
     /// The outputs and the accounts, with the entries of the last freeze.
     pub stake: StakeBook,

@@ -5,7 +5,8 @@ use gov_actions::EnactState;
 use listed::Boxed;
 use std::alloc::Global;
 
-/// The state with another treasury, in lovelace; all else stays. (EnactState of the formal specification)
+/// The state with another treasury, in lovelace; all else stays.
+/// (EnactState of the formal specification)
 pub fn with_treasury(
     alloc: Global,
     state: Boxed<EnactState>,

@@ -20,7 +20,8 @@ use Rattle.ledger_model.specs.Ledger.{Ledger}
 use Rattle.book_records.specs.Dormancy.{is_kept_active, extended}
 use Rattle.book_records.specs.Pools.{retiring}
 use Rattle.gov_model.specs.Proposals.{without_vote}
-use Rattle.ledger_model.specs.Changes.{changed_by, delegating, emptied, has_voted, having_acted, is_withdrawn, new_account, new_drep, without_drep, withdrawn, refreshed, voters_refreshed, dormant_added}
+use Rattle.book_records.specs.Delegations.{without_drep}
+use Rattle.ledger_model.specs.Changes.{changed_by, delegating, emptied, has_voted, having_acted, is_withdrawn, new_account, new_drep, withdrawn, refreshed, voters_refreshed, dormant_added}
 use Rattle.ledger_model.specs.Draft.{draft_after, draft_with, is_refused}
 
 pub record HasMaps (l : Ledger) : Type 0 where

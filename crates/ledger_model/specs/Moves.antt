@@ -1,4 +1,5 @@
--- How flows move the pots. (The preservation of value of the formal specification, in our own words)
+-- How flows move the pots.
+-- (The preservation of value of the formal specification, in our own words)
 use Rattle.std.specs.Prelude.{◌≡◌, ℕ, ◌+◌, List}
 use Rattle.tx_records.specs.declared.report.Pots.{Pots}
 use Rattle.ledger_model.specs.Flows.{Pot, outputs, deposits, rewards, fees, donations, treasury, reserves, hand, Flow, source, sink, sum_at}

@@ -7,7 +7,7 @@ use Rattle.gov_ids.specs.declared.OutRef.{OutRef}
 use Rattle.gov_ids.specs.Orders.{credential_cmp, outref_cmp, pool_cmp, txid_cmp}
 use Rattle.ledger_model.specs.Ledger.{Ledger}
 
--- the maps of outputs, accounts, pools, DReps and hot entries and the set of used ids stand in order, each name once, and the transaction id of each output is a used one
+-- maps and the set of used ids are in order, each key once; each output's transaction id is used
 pub record IsSound (l : Ledger) : Type 0 where
   pub outputs : IsMap outref_cmp l.outputs
   pub used : IsSet txid_cmp l.used

@@ -112,7 +112,7 @@ parts_are b l marks pending f p ledger entries snapshots update = λ i. record {
 
 -- ---- a step that leaves what is frozen
 
--- the same World but for the ledger, which keeps the frozen entries
+-- the same World except the ledger, which keeps the frozen entries
 pub moved_is : (change : Ledger → Ledger) (l live : Standing) (marks : Snapshots) (pending : Option Rewards) (f : Frozen) (p : Pulser)
     → live ≡ on_live change l → world_with live marks pending f p ≡ on_ledger change (world_with l marks pending f p)
 moved_is change l live marks pending f p is = ap (λ (s : Standing). world_with s marks pending f p) is

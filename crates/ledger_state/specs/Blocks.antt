@@ -1,4 +1,4 @@
--- What is answered before a block. (TICK of the formal specification; the rules are own)
+-- The answer to a block before it acts. (TICK of the formal specification; the rules are own)
 use Rattle.std.specs.Prelude.{◌≡◌, ℕ, Bool, Option, Some, None, Result, Ok, Err, false}
 use Rattle.tx_records.specs.declared.reply.Rule.{Rule}
 use Rattle.ledger_model.specs.Ledger.{Ledger}
@@ -14,6 +14,6 @@ entry_by (Some rule) enters = Err rule
 abbrev pub block_answer : Ledger → ℕ → ℕ → Result Bool Rule
 block_answer l slot pulse = entry_by (first_among (block_checks l slot pulse)) (enters_next l slot)
 
--- the block breaks no rule only where it does not begin the next epoch
+-- a block that breaks no rule does not begin the next epoch
 abbrev pub StaysInEpoch : Ledger → ℕ → ℕ → Type 0
 StaysInEpoch l slot pulse = first_among (block_checks l slot pulse) ≡ None → enters_next l slot ≡ false

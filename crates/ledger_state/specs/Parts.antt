@@ -7,6 +7,6 @@ use Rattle.ledger_books.specs.declared.Books.{Books}
 use Rattle.ledger_books.specs.Parts.{frozen_entries, world_of_books}
 use Rattle.ledger_state.specs.Worlds.{snapshot_with}
 
--- books with a frozen copy and a count: the entries of the snapshot are those of the last freeze, and its pools those of mark
+-- books with a frozen copy and a count: entries of the last freeze, pools of mark
 abbrev pub world_of_parts : Books → Frozen → Pulser → World
 world_of_parts b f p = world_of_books b (done_by p) (snapshot_with (frozen_entries b) b.snapshots.mark f)

@@ -6,7 +6,7 @@ use Rattle.run_model.specs.World.{World}
 use Rattle.live_ledger.specs.declared.fault.GenesisFault.{GenesisFault}
 use Rattle.live_ledger.specs.declared.fault.GenesisFault.TheVariants as faults
 
--- the World of a genesis that breaks no rule, or the first rule that it breaks, unless memory ran out
+-- the World of a genesis that breaks no rule, or the first broken rule, unless memory ran out
 abbrev pub StartsAs : Result World GenesisFault → Genesis → Type 0
 StartsAs (Ok w) g = (genesis_fault g ≡ None) × (w ≡ world_of_genesis g)
 StartsAs (Err (faults.Broken rule)) g = genesis_fault g ≡ Some rule

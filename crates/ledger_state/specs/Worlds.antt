@@ -1,4 +1,5 @@
--- A World by what a program holds of it, and what the frozen copy and the count have to do with it. (EpochState and NewEpochState of the formal specification; how they are held is own)
+-- A World by the parts that a program holds. (EpochState and NewEpochState of the formal
+-- specification; how they are held is own)
 use Rattle.std.specs.Prelude.{◌≡◌, ℕ, List, Option}
 use Rattle.gov_ids.specs.declared.Credential.{Credential}
 use Rattle.gov_ids.specs.declared.PoolId.{PoolId}
@@ -15,7 +16,7 @@ use Rattle.snapshots.specs.declared.stakes.Snapshots.{Snapshots}
 use Rattle.epoch_start.specs.Begun.{accounts_of_pools}
 use Rattle.live_ledger.specs.Standing.{Standing}
 
--- the snapshot of which a frozen copy is, with these account entries and these stakes of pools
+-- the snapshot of a frozen copy, with these account entries and these stakes of pools
 abbrev pub snapshot_with : List (Credential × Entry) → List (PoolId × ℕ) → Frozen → Snapshot
 snapshot_with entries mark f = record {
   epoch = f.epoch;
@@ -28,7 +29,7 @@ snapshot_with entries mark f = record {
   start = f.start;
 }
 
--- the World of a ledger with its frozen entries, of the stakes of pools, a pending update, a frozen copy and a count
+-- the World of a ledger with its frozen entries, stakes of pools, a pending update, a copy, a count
 abbrev pub world_with : Standing → Snapshots → Option Rewards → Frozen → Pulser → World
 world_with s marks pending f p = record {
   ledger = s.ledger;
@@ -41,7 +42,8 @@ world_with s marks pending f p = record {
   frozen = snapshot_with s.frozen marks.mark f;
 }
 
--- the World is sound, the copy is the one of its snapshot, and the count is one of that snapshot: it has counted as many entries, and what they weigh
+-- the World is sound, the copy is of its snapshot, and the count is of that snapshot: it has
+-- counted as many entries, and their weight
 pub record IsHeldBy (w : World) (f : Frozen) (p : Pulser) : Type 0 where
   pub sound : IsSoundWorld w
   pub copied : f ≡ frozen_copy_of w.frozen

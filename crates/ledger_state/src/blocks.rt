@@ -14,7 +14,8 @@ use std::sync::ledger::{Blank, Ledger};
 use tx_records::Rule;
 use tx_records::rules::{EPOCH_SKIPPED, SLOT_NOT_LATER, ZERO_PULSE};
 
-/// The first rule that a block breaks, or whether it begins the next epoch. (TICK of the formal specification; the rules are own)
+/// The first rule that a block breaks, or whether it begins the next epoch.
+/// (TICK of the formal specification; the rules are own)
 pub fn answer(live: &LiveLedger, slot: u64, pulse: u32) -> Result<bool, Rule>
     requires lasting { 1 ≤ live.now.ledger.epoch_length }
     requires early { live.now.ledger.epoch ≤ 2 ^ 62 }
@@ -35,7 +36,8 @@ pub fn answer(live: &LiveLedger, slot: u64, pulse: u32) -> Result<bool, Rule>
     Ok(entered == epoch + 1)
 }
 
-/// The count after the next `n` frozen entries of the book, or all that are left; one that has ended stays. It takes no memory. (The DRep pulser of cardano-ledger)
+/// The count after the next `n` frozen entries, or all that are left. An ended one stays.
+/// It takes no memory. (The DRep pulser of cardano-ledger)
 pub fn advanced(pulser: Pulser, book: &AccountBook, n: u32) -> Pulser
     requires some { 1 ≤ n }
     requires goes_on { GoesOnIn (frozen_of credential_cmp book.now) pulser }
@@ -49,7 +51,7 @@ pub fn advanced(pulser: Pulser, book: &AccountBook, n: u32) -> Pulser
     }
 }
 
-/// The same of a count that goes on; its visits are steps.
+/// A count that goes on, after the next `n` frozen entries or all that are left.
 fn pulsed<L: Ledger>(blank: Blank, counting: Counting, book: &AccountBook, n: u32) -> Pulser
     requires name { blank.name ≡ L.name }
     requires parts { blank.parts ≡ L.parts }

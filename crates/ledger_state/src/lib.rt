@@ -1,4 +1,4 @@
-//! The ledger that the program holds: the whole state, from a genesis on, through transactions, blocks and reward updates, and the parts that a boundary works on.
+//! The whole state after transactions, blocks and reward updates, and its parts for a boundary.
 #![tactic(auto)]
 
 mod blocks;

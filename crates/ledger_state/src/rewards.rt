@@ -10,14 +10,16 @@ use std::alloc::Global;
 use std::collections::BTreeMap;
 use tx_records::Rewards;
 
-/// What a reward update takes from the reserves and the fee pot, in lovelace. (RewardUpdate of the formal specification)
+/// What an update takes from reserves and fee pot, in lovelace. (RewardUpdate of the formal
+/// specification)
 pub fn taken_by(update: &Rewards) -> u128
     ensures { result ≡ rewards_in update.now }
 {
     u128::from(update.from_reserves) + u128::from(update.from_fees)
 }
 
-/// What it gives to the treasury and to accounts, in lovelace. (RewardUpdate of the formal specification)
+/// What an update gives to treasury and accounts, in lovelace. (RewardUpdate of the formal
+/// specification)
 pub fn given_by(update: &Rewards) -> u128
     requires { length update.now.rewards ≤ 2 ^ 24 }
     ensures { result ≡ rewards_out update.now }
@@ -38,7 +40,7 @@ fn sum_of(rewards: &[(Credential, u64)]) -> u128
     sum
 }
 
-/// The update with its rewards in order of credential, in memory of its own. (Own)
+/// A copy of the update with its rewards in order of credential.
 pub fn in_order(alloc: Global, update: &Rewards) -> Result<Rewards, NoMemory>
     ensures { IfOk result (λ u. u ≡ in_order_of_credential update.now) }
 {

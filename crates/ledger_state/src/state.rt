@@ -25,7 +25,9 @@ use std::alloc::Global;
 use std::marker::Model;
 use tx_records::{Pots, Rewards};
 
-/// The whole state after some records: what transactions see, and what epochs add to it. Its pots hold the supply, its maps are maps, what was frozen still stands, and its count is one of what was frozen. (EpochState and NewEpochState of the formal specification)
+/// The whole state after some records: what transactions see, and what epochs add to it.
+/// Its pots hold the supply, its maps are maps, what was frozen is kept, and its count is of that.
+/// (EpochState and NewEpochState of the formal specification)
 pub struct LedgerState {
     alloc: Global,
     live: LiveLedger,
@@ -35,7 +37,7 @@ pub struct LedgerState {
     pulser: Pulser,
 }
 
-// What lets it go stands here once: a derived one is proved again, part by part, in each crate above.
+// The drop is here once: a derived one is proved again, part by part, in each crate above.
 impl Drop for LedgerState {
     fn drop(self) {
         let LedgerState {
@@ -67,7 +69,8 @@ impl Model for LedgerState {
 }
 
 impl LedgerState {
-    /// The ledger that transactions see and change, with the entries of the last freeze. (LState of the formal specification)
+    /// The ledger that transactions see and change, with the entries of the last freeze.
+    /// (LState of the formal specification)
     pub fn live(&self) -> &LiveLedger
         ensures ledger { result.now.ledger ≡ self.now.ledger }
         ensures frozen { result.now.frozen ≡ self.now.frozen.entries }
@@ -76,28 +79,28 @@ impl LedgerState {
         &self.live
     }
 
-    /// The network: 0 for the test networks, 1 for mainnet. (Own)
+    /// The network: 0 for the test networks, 1 for mainnet.
     pub fn network(&self) -> u8
         ensures { result ≡ self.now.ledger.network }
     {
         self.live.network()
     }
 
-    /// Slots in an epoch. (Own)
+    /// Slots in an epoch.
     pub fn epoch_length(&self) -> u32
         ensures { result ≡ self.now.ledger.epoch_length }
     {
         self.live.epoch_length()
     }
 
-    /// The supply, in lovelace. (Own)
+    /// The supply, in lovelace.
     pub fn supply(&self) -> u64
         ensures { result ≡ self.now.ledger.supply }
     {
         self.live.supply()
     }
 
-    /// The last slot. (Own)
+    /// The last slot.
     pub fn slot(&self) -> u64
         ensures { result ≡ self.now.ledger.slot }
     {
@@ -132,14 +135,16 @@ impl LedgerState {
         self.live.donations()
     }
 
-    /// Parameters, version, committee, constitution, last enacted ids and the treasury in lovelace. (EnactState of the formal specification)
+    /// Parameters, version, committee, constitution, last enacted ids, the treasury in lovelace.
+    /// (EnactState of the formal specification)
     pub fn state(&self) -> &EnactState
         ensures { result.now ≡ self.now.ledger.state }
     {
         self.live.state()
     }
 
-    /// The unspent outputs, the used transaction ids and the accounts. (UTxOState and DState of the formal specification)
+    /// The unspent outputs, the used transaction ids and the accounts.
+    /// (UTxOState and DState of the formal specification)
     pub fn stake(&self) -> &StakeBook
         ensures outputs { result.now.outputs.outputs ≡ self.now.ledger.outputs }
         ensures used { result.now.outputs.used ≡ self.now.ledger.used }
@@ -155,7 +160,8 @@ impl LedgerState {
         self.live.pools()
     }
 
-    /// The registered DReps and the dormant count. (GState of the formal specification; how the count acts is own)
+    /// The registered DReps and the dormant count.
+    /// (GState of the formal specification; how the count acts is own)
     pub fn dreps(&self) -> &DrepBook
         ensures dreps { result.now.dreps ≡ self.now.ledger.dreps }
         ensures dormant { result.now.dormant ≡ self.now.ledger.dormant }
@@ -170,21 +176,24 @@ impl LedgerState {
         self.live.hot()
     }
 
-    /// The live proposals with their votes, in order of submission. (GovState of the formal specification)
+    /// The live proposals with their votes, in order of submission.
+    /// (GovState of the formal specification)
     pub fn proposals(&self) -> &ProposalStore
         ensures { result.now ≡ self.now.ledger.proposals }
     {
         self.live.proposals()
     }
 
-    /// The seven pots, in lovelace; together they are the supply. (The preservation of value of the formal specification)
+    /// The seven pots, in lovelace; together they are the supply.
+    /// (The preservation of value of the formal specification)
     pub fn pots(&self) -> Pots
         ensures { result ≡ pots_of self.now.ledger }
     {
         self.live.pots()
     }
 
-    /// The stakes of the pools at the last three boundaries, and the fee pot at the last one. (Snapshots of the formal specification)
+    /// The stakes of the pools at the last three boundaries, and the fee pot at the last one.
+    /// (Snapshots of the formal specification)
     pub fn snapshots(&self) -> &Snapshots
         ensures { result.now ≡ record {
           mark = self.now.mark;
@@ -196,14 +205,16 @@ impl LedgerState {
         &self.snapshots
     }
 
-    /// The reward update that the next boundary applies, if there is one. (RewardUpdate of the formal specification)
+    /// The reward update that the next boundary applies, if there is one.
+    /// (RewardUpdate of the formal specification)
     pub fn pending(&self) -> Option<&Rewards>
         ensures { option_map (λ u. u.now) result ≡ self.now.pending }
     {
         self.pending.as_ref()
     }
 
-    /// What was frozen when the epoch began, but for the account entries, which the stake book keeps. (EPOCH of the formal specification)
+    /// What was frozen when the epoch began, except account entries, which the stake book keeps.
+    /// (EPOCH of the formal specification)
     pub fn frozen(&self) -> &Frozen
         ensures { result.now ≡ frozen_copy_of self.now.frozen }
     {

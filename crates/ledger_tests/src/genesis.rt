@@ -100,7 +100,8 @@ fn outputs(alloc: Global, output: u16, network: u8) -> Result<Listed<FirstOutput
     Ok(outputs)
 }
 
-/// A genesis with these members and outputs, and 10 lovelace in the pots. It takes no memory, so that no part of it is moved where memory can run out.
+/// A genesis with these members and outputs, and 10 lovelace in the pots.
+/// It takes no memory, so no part of it is moved where memory can run out.
 fn genesis(
     alloc: Global,
     params: Params,
@@ -184,7 +185,7 @@ fn numbers_of(ledger: &LiveLedger) -> [u64; 17] {
     ]
 }
 
-/// The members of the committee with their terms, none where there is no committee.
+/// The members of the committee with their terms; none without a committee.
 fn members_in(ledger: &LiveLedger) -> &[(Credential, u64)] {
     match &ledger.state().committee {
         Some(committee) => committee.members.as_slice(),
@@ -192,7 +193,7 @@ fn members_in(ledger: &LiveLedger) -> &[(Credential, u64)] {
     }
 }
 
-/// What stands at a reference, in lovelace and in assets.
+/// The output at a reference, in lovelace and in assets.
 fn value_at<'a>(ledger: &'a LiveLedger, at: &OutRef) -> Option<(u64, &'a [(AssetId, u64)])> {
     let output = ledger.outputs().get(at)?;
     Some((output.lovelace, output.assets.as_slice()))

@@ -1,4 +1,4 @@
--- How the proposals that stay are found: a walk from those that need no other one, down to what names them. (Own)
+-- How the proposals that stay are found: from those that need no other to what names them. (Own)
 use Rattle.std.specs.Prelude.{◌≡◌, Bool, true, false, not, ◌&&◌, ◌||◌, List, [], ◌∷◌, ◌++◌, Option, Some, None, is_none, fold, Contains, if◌then◌else◌}
 use Rattle.std.specs.List.{AllByRecursion, list_any}
 use Rattle.gov_actions.specs.declared.action.Proposal.{Proposal}
@@ -13,7 +13,7 @@ use Rattle.gov_model.specs.Laws.{HaveDistinctIds}
 use Rattle.gov_model.specs.Ratified.{is_one_of}
 use Rattle.maps.specs.Maps.{IsSet, has_member, with_key, without_member}
 
--- how far the walk has come
+-- how far the search has come
 pub record Reach : Type 0 where
   -- the ids of the proposals from which no chain is known yet, in order
   pub orphans : List ActionId
@@ -50,11 +50,11 @@ abbrev pub noted : LastIds → Reach → Proposal → Reach
 noted last w a =
     if is_root last a then record w { pending = w.pending ++ entry_of (purpose_of a.action) a.id } else record w { orphans = with_key action_id_cmp a.id w.orphans }
 
--- the same, if it is left
+-- with one proposal more, if it is left
 abbrev pub noted_left : List ActionId → List ActionId → LastIds → Reach → Proposal → Reach
 noted_left enacted expired last w a = if is_left enacted expired a then noted last w a else w
 
--- where the walk starts
+-- where the search starts
 abbrev pub start_of : LastIds → List Proposal → Reach
 start_of last rest = fold (noted last) (record { orphans = []; pending = [] }) rest
 
@@ -63,7 +63,7 @@ abbrev pub adopted_one : Purpose → Reach → ActionId → Reach
 adopted_one purpose w id =
     if has_member action_id_cmp w.orphans id then record { orphans = without_member action_id_cmp id w.orphans; pending = w.pending ++ (purpose, id) ∷ [] } else w
 
--- the same of all its children
+-- each of its children that is an orphan becomes pending
 abbrev pub adopted : Purpose → List ActionId → Reach → Reach
 adopted purpose children w = fold (adopted_one purpose) w children
 
@@ -72,7 +72,7 @@ abbrev pub IsPending : List Proposal → List ActionId → Purpose × ActionId �
 IsPending rest orphans e =
     (q : Proposal) × Contains rest q × (purpose_of q.action ≡ Some e.0) × (q.id ≡ e.1) × (has_member action_id_cmp orphans e.1 ≡ false)
 
--- what holds at each step of the walk over `ps`, of which `rest` are left
+-- what holds at each step of the search over `ps`, of which `rest` are left
 pub record IsWalk (ps rest : List Proposal) (last : LastIds) (w : Reach) : Type 0 where
   pub own : HaveDistinctIds ps
   pub part : (a : Proposal) → Contains rest a → Contains ps a

@@ -7,7 +7,9 @@ use gov_actions::{Action, EnactState, LastIds, Purpose};
 use gov_ids::ActionId;
 use proposal_store::ProposalStore;
 
-/// Whether the action names, as the one before it, the last enacted action of its purpose or a live proposal of it. An action without a purpose follows nothing, and may come. (CIP-1694, Governance actions: Content; GOV of the formal specification)
+/// Whether the action follows the last enacted action of its purpose, or a live proposal of it.
+/// An action without a purpose follows nothing, and may come.
+/// (CIP-1694, Governance actions: Content; GOV of the formal specification)
 pub fn may_follow(store: &ProposalStore, last: &LastIds, a: &Action) -> bool
     ensures { result ≡ may_follow store.now last.now a.now }
 {
@@ -20,7 +22,9 @@ pub fn may_follow(store: &ProposalStore, last: &LastIds, a: &Action) -> bool
     }
 }
 
-/// Whether a hard fork goes one version on from the one that it follows: the next major version, or the next minor one of the same. Another action has no version, and follows. (CIP-1694, Governance actions: Content; GOV of the formal specification)
+/// Whether a hard fork's version is the next major one after the version that it follows, or the
+/// next minor one of the same major. Another action has no version, and follows.
+/// (CIP-1694, Governance actions: Content; GOV of the formal specification)
 pub fn follows_version(store: &ProposalStore, state: &EnactState, a: &Action) -> bool
     ensures { result ≡ follows_version store.now state.now.last state.now.version a.now }
 {

@@ -5,20 +5,19 @@ ghost use Rattle.gov_model.specs.Kept.{kept_of};
 ghost use Rattle.gov_model.specs.Ratified.{ids_of};
 ghost use Rattle.lineage.specs.Walks.{IsWalk, adopted, adopted_one, is_found, is_left, noted, noted_left, start_of};
 
-use coin_frac::NoMemory;
 use gov_actions::{LastIds, Purpose};
 use gov_ids::ActionId;
 use gov_model::kept_by_chains;
 use maps::set_of;
+use no_memory::NoMemory;
 use proposal_store::{LiveProposal, ProposalStore};
 use std::alloc::Global;
 use std::collections::BTreeSet;
 use std::marker::Model;
 
-/// The ids of the proposals that stay once these were enacted and these have expired, in order of submission: those
-/// that have no purpose, or from which a chain of such proposals leads to the last enacted action of their purpose.
-/// It looks at each proposal, and at each child of one that stays, once. (CIP-1694, Governance actions; EPOCH of the
-/// formal specification)
+/// The ids of proposals that stay after the enacted and expired, in order of submission: those
+/// without a purpose, or with a chain of such ones to the last enacted action of their purpose.
+/// Each child is looked at once. (CIP-1694, Governance actions; EPOCH of the formal specification)
 pub fn kept_after(
     alloc: Global,
     store: &ProposalStore,
@@ -35,7 +34,7 @@ pub fn kept_after(
     kept_of_leaving(alloc, store, &leaving, last)
 }
 
-// The same, by the sets of those that leave.
+// The ids of the proposals that stay, by the sets of those that leave.
 fn kept_of_leaving(
     alloc: Global,
     store: &ProposalStore,
@@ -69,7 +68,7 @@ impl Leaving {
     }
 }
 
-// How far the walk from the roots has come.
+// How far the search from the roots has come.
 #[derive(Drop)]
 struct Walk {
     orphans: BTreeSet<ActionId>,

@@ -3,7 +3,7 @@ ghost use Rattle.std.specs.Prelude.{◌≡◌, IfOk};
 use std::alloc::{AllocError, Global};
 use std::marker::Model;
 
-/// A value in memory of its own, which contracts see as the value: to move it moves a pointer. (Own)
+/// A value on the heap; a move of the box moves a pointer. Contracts see the value.
 #[derive(Drop)]
 pub struct Boxed<T> {
     value: Box<T>,
@@ -16,7 +16,7 @@ impl<T> Model for Boxed<T> {
 }
 
 impl<T> Boxed<T> {
-    /// The value, in memory of its own. `AllocError` may come at any time. (Own)
+    /// Moves the value to the heap. `AllocError` may come at any time.
     pub fn new(alloc: Global, value: T) -> Result<Boxed<T>, AllocError>
     where
         T: Drop,
@@ -26,14 +26,14 @@ impl<T> Boxed<T> {
         Ok(Boxed { value })
     }
 
-    /// The value again. (Own)
+    /// Takes the value out of the box.
     pub fn into_value(self) -> T
         ensures { result ≡ self }
     {
         Box::into_inner(self.value)
     }
 
-    /// The value. (Own)
+    /// A reference to the value.
     pub fn get(&self) -> &T
         ensures { result.now ≡ self.now }
     {

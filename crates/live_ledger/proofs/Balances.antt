@@ -17,7 +17,8 @@ use Rattle.ledger_model.specs.Ledger.{Ledger}
 use Rattle.stake_book.specs.Stakes.{delegates_to_dreps, without_dreps}
 use Rattle.draft_changes.specs.Balances.{balance_in}
 use Rattle.ledger_model.specs.CertRules.{rewards_at}
-use Rattle.ledger_model.specs.Changes.{changed_by, delegates_to_drep, delegating, dormant_added, emptied, is_withdrawn, new_account, refreshed, voters_refreshed, withdrawn, without_drep}
+use Rattle.book_records.specs.Delegations.{delegates_to_drep, without_drep}
+use Rattle.ledger_model.specs.Changes.{changed_by, delegating, dormant_added, emptied, is_withdrawn, new_account, refreshed, voters_refreshed, withdrawn}
 use Rattle.ledger_model.specs.Draft.{draft_after, draft_with, is_refused}
 
 -- ---- what a transaction does to balances

@@ -39,7 +39,7 @@ use Rattle.tx_balance.proofs.Sounds.{allowed_keeps_supply, allowed_stays_sound, 
 use Rattle.proposal_store.specs.Store.{AllOrdered}
 use Rattle.run_model.specs.Laws.{IsWithinDormantBound}
 use Rattle.stake_book.specs.Stakes.{balances_in, without_dreps}
-use Rattle.tx_records.specs.declared.limits.TheConstants.{SUPPLY_LIMIT}
+use Rattle.coin_frac.specs.declared.TheConstants.{SUPPLY_LIMIT}
 use Rattle.draft_changes.specs.Balances.{NoneRises}
 use Rattle.draft_changes.specs.Changed.{Changed, laid_over, with_registrations}
 use Rattle.proposal_store.specs.Leaving.{without_votes_of}

@@ -1,4 +1,4 @@
--- What each change of a draft makes of the ledger that it stands for.
+-- The ledger of a draft after each change of the draft.
 use Rattle.std.proofs.Common.{◌≡◌, ℕ, ◌+◌, ◌<◌, ◌^◌, List, [], Bool, true, false, cond, Option, Some, None, option_map, unwrap_or, refl, ap, sym, ◌∙◌, arith}
 use Rattle.std.specs.Option.{ForSome}
 use Rattle.maps.proofs.Kept.{IsMap-changed_where, IsMap-each_value}
@@ -17,7 +17,8 @@ use Rattle.book_records.specs.declared.Registered.{Registered}
 use Rattle.book_records.specs.declared.pool.Pool.{Pool}
 use Rattle.book_records.specs.Dormancy.{extended, is_kept_active, with_dormant_added}
 use Rattle.drep_book.proofs.NoneAdded.{none_added}
-use Rattle.ledger_model.specs.Changes.{delegates_to_drep, dormant_added, without_drep}
+use Rattle.book_records.specs.Delegations.{delegates_to_drep, without_drep}
+use Rattle.ledger_model.specs.Changes.{dormant_added}
 use Rattle.ledger_model.specs.Ledger.{Ledger, account_at}
 use Rattle.dormant_laws.proofs.Dormant.{all_from_found}
 use Rattle.run_model.specs.Laws.{IsWithinDormantBound}
@@ -37,7 +38,7 @@ use Rattle.live_ledger.proofs.Cleared.{cleared_after, cleared_none}
 use Rattle.live_ledger.proofs.Timely.{nothing_added}
 use Rattle.draft_changes.proofs.Laid.{IsMap-with_options, value_at-with_options, with_options-with_value, with_values-with_value}
 
--- a change of each value changes the one that stands
+-- a change of each value changes the current one
 either_changed : {X : Type 0} (g : X → X) (o : Option (Option X)) (before after : Option X) → after ≡ option_map g before
     → unwrap_or (option_map (λ (to : Option X). option_map g to) o) after ≡ option_map g (unwrap_or o before)
 either_changed g None before after e = e

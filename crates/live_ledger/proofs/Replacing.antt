@@ -1,4 +1,4 @@
--- A value that is put where one stands is that one, changed.
+-- A value that replaces another at its key is that one, changed.
 use Rattle.std.proofs.Common.{◌≡◌, List, [], ◌∷◌, cond, Some, None, refl, ap, sym}
 use Rattle.std.specs.declared.cmp.Ordering.{Ordering}
 use Rattle.std.specs.declared.cmp.Ordering.TheVariants.{Less, Equal, Greater}

@@ -14,7 +14,7 @@ use Rattle.run_model.specs.Genesis.{genesis_fault, hot_of_genesis, ledger_of_gen
 use Rattle.dormant_laws.proofs.Dormant.{genesis_timely}
 use Rattle.drep_book.specs.Dreps.{Dreps}
 use Rattle.stake_book.specs.Stakes.{Stakes, accounts_of}
-use Rattle.tx_records.specs.declared.limits.TheConstants.{SUPPLY_LIMIT}
+use Rattle.coin_frac.specs.declared.TheConstants.{SUPPLY_LIMIT}
 use Rattle.tx_records.specs.GenesisLimits.{is_within_limits}
 use Rattle.genesis_balance.proofs.Start.{genesis_holds_supply, genesis_is_sound, unbroken_genesis, seated_first}
 use Rattle.live_ledger.specs.Kept.{IsLiveLedger}

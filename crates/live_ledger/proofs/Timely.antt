@@ -20,7 +20,7 @@ use Rattle.run_model.specs.Laws.{IsWithinDormantBound}
 use Rattle.draft_changes.specs.ChangedDreps.{awakened}
 use Rattle.live_ledger.specs.Drafts.{IsTimely, having_drep}
 
--- what stands at a key after a change passes where both do
+-- the value at a key after a change passes if both do
 one_of : {X : Type 0} (P : X → Type 0) (b : Bool) (put was : Option X) (x : X) → (put ≡ Some x → P x) → (was ≡ Some x → P x) → cond b put was ≡ Some x → P x
 one_of P true put was x f g e = f e
 one_of P false put was x f g e = g e

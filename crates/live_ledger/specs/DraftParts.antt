@@ -1,4 +1,4 @@
--- What the parts of a draft keep. (Own)
+-- What the parts of a draft keep true. (Own)
 use Rattle.std.specs.Prelude.{ℕ, ◌-◌, ◌*◌, ◌^◌, ◌≤◌}
 use Rattle.maps.specs.Maps.{IsMap}
 use Rattle.gov_ids.specs.Orders.{credential_cmp, pool_cmp}
@@ -11,7 +11,9 @@ use Rattle.draft_changes.specs.ChangedPools.{ChangedPools}
 use Rattle.draft_changes.specs.Changed.{Changed, laid_over}
 use Rattle.live_ledger.specs.Kept.{IsLiveLedger}
 
--- it begins with a ledger that is kept, its maps are maps, the pools and the hot entries that it covers are those of that ledger, its expiries are within the dormant bound, and each change moved at most a number of 64 bits
+-- it begins with a live ledger; its maps are maps; the pools and hot entries that it covers are
+-- those of that ledger; its expiries are within the dormant bound
+-- each change moved at most a number of 64 bits
 pub record IsDrafted (start : Ledger) (changed : Changed) (pool_changes : ChangedPools) (hot_changes : ChangedHot) (refunds deposits accounts_changes changes : ℕ) : Type 0 where
   pub kept : IsLiveLedger start
   pub pools : IsMap pool_cmp changed.pools

@@ -1,4 +1,5 @@
--- A draft of a transaction as contracts see it, and what changes it. (CERTS of the formal specification)
+-- A draft of a transaction as contracts see it, and its changes.
+-- (CERTS of the formal specification)
 use Rattle.std.specs.Prelude.{◌≡◌, ℕ, ◌+◌, ◌≤◌, ◌^◌, Option, Some, None, option_map, if◌then◌else◌}
 use Rattle.maps.specs.Maps.{value_at, with_value}
 use Rattle.gov_ids.specs.declared.Credential.{Credential}
@@ -18,7 +19,8 @@ use Rattle.ledger_model.specs.Changes.{dormant_added, drep_left}
 use Rattle.ledger_model.specs.Draft.{last_draft}
 use Rattle.draft_changes.specs.Changed.{with_registered}
 
--- the ledger before the transaction, the one that its changes so far make of it, what its certificates gave back and paid so far, and how many changes were made
+-- the ledger before the transaction, the ledger with the changes so far,
+-- what certificates gave back and paid so far, and the number of changes
 pub record Drafted : Type 0 where
   pub start : Ledger
   pub ledger : Ledger
@@ -26,21 +28,21 @@ pub record Drafted : Type 0 where
   pub deposits : ℕ
   pub changes : ℕ
 
--- a draft in which nothing is changed yet
+-- a draft before any change
 abbrev pub draft_at : Ledger → Drafted
 draft_at l = record { start = l; ledger = l; refunds = 0; deposits = 0; changes = 0 }
 
--- all but what a draft changes is as at its start
+-- all parts that no draft changes are as at its start
 abbrev pub IsDraftOf : Ledger → Ledger → Type 0
 IsDraftOf start l =
     l ≡ record start { dormant = l.dormant; accounts = l.accounts; pools = l.pools; dreps = l.dreps; hot = l.hot; proposals = l.proposals }
 
--- what an entry that comes pays: its deposit, where there was none before
+-- what a new entry pays: its deposit, if there was none before
 abbrev pub paid_by : Option ℕ → Option ℕ → ℕ
 paid_by None (Some deposit) = deposit
 paid_by _ _ = 0
 
--- what an entry that leaves gives back: the deposit that was stored
+-- what an entry that leaves gives back: its stored deposit
 abbrev pub given_back : Option ℕ → Option ℕ → ℕ
 given_back (Some deposit) None = deposit
 given_back _ _ = 0
@@ -49,7 +51,7 @@ given_back _ _ = 0
 abbrev pub deposit_in : Option Registered → Option ℕ
 deposit_in r = option_map (λ (x : Registered). x.deposit) r
 
--- the draft with that registration for c, or without one
+-- the draft with that registration for c, or without any for c
 abbrev pub with_account : Credential → Option Registered → Drafted → Drafted
 with_account c to d = record d {
   ledger = record d.ledger { accounts = with_registered c to d.ledger.accounts };
@@ -58,7 +60,7 @@ with_account c to d = record d {
   changes = d.changes + 1;
 }
 
--- the draft with this pool in place of what the id had, for which so much was paid
+-- the draft with this pool for the id, instead of any before, for which so much was paid
 abbrev pub with_pool : PoolId → Pool → ℕ → Drafted → Drafted
 with_pool p pool paid d = record d {
   ledger = record d.ledger { pools = with_value pool_cmp p pool d.ledger.pools };
@@ -83,12 +85,12 @@ with_pool_retiring p epoch d =
 abbrev pub drep_deposit_in : Option DrepState → Option ℕ
 drep_deposit_in s = option_map (λ (x : DrepState). x.deposit) s
 
--- the ledger with that DRep for c, or without one, its votes and the delegations to it
+-- the ledger with that DRep for c; or without any for c, its votes and the delegations to it
 abbrev pub having_drep : Credential → Option DrepState → Ledger → Ledger
 having_drep c None l = drep_left c l
 having_drep c (Some s) l = record l { dreps = with_value credential_cmp c s l.dreps }
 
--- the draft with that DRep for c, or without one
+-- the draft with that DRep for c, or without any for c
 abbrev pub with_drep : Credential → Option DrepState → Drafted → Drafted
 with_drep c to d = record d {
   ledger = having_drep c to d.ledger;
@@ -115,6 +117,6 @@ abbrev pub draft_by : Scripts → Ledger → Tx → Ledger
 draft_by Failed l tx = l
 draft_by _ l tx = last_draft l tx
 
--- the draft after all certificates of a transaction, or the ledger itself where its scripts failed
+-- the draft after all certificates of a transaction, or the ledger itself if its scripts failed
 abbrev pub draft_of : Ledger → Tx → Ledger
 draft_of l tx = draft_by tx.scripts l tx

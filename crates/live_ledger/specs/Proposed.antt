@@ -1,4 +1,4 @@
--- What a ledger is asked for where proposals come to it. (Own)
+-- What a ledger requires before proposals are added. (Own)
 use Rattle.std.specs.Prelude.{◌≡◌, ℕ, List, None}
 use Rattle.gov_actions.specs.declared.action.Proposal.{Proposal}
 use Rattle.gov_ids.specs.declared.TxId.{TxId}

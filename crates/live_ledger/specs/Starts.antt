@@ -7,7 +7,8 @@ use Rattle.live_ledger.specs.declared.fault.GenesisFault.{GenesisFault}
 use Rattle.live_ledger.specs.declared.fault.GenesisFault.TheVariants as faults
 use Rattle.live_ledger.specs.Standing.{Standing}
 
--- the ledger of a genesis that breaks no rule, its own entries frozen, or the first rule that it breaks, unless memory ran out
+-- the ledger of a genesis that breaks no rule, with its own entries frozen
+-- otherwise the first rule that it breaks, or `NoMemory`
 abbrev pub StartsAs : Result Standing GenesisFault → Genesis → Type 0
 StartsAs (Ok s) g = (genesis_fault g ≡ None) × (s ≡ record { ledger = ledger_of_genesis g; frozen = entries_of (ledger_of_genesis g) })
 StartsAs (Err (faults.Broken rule)) g = genesis_fault g ≡ Some rule

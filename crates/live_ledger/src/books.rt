@@ -8,7 +8,7 @@ ghost use Rattle.live_ledger.specs.Books.{IsMade, KeepsAccounts};
 ghost use Rattle.maps.specs.Maps.{IsMap, value_at, with_values, without_keys};
 ghost use Rattle.book_records.specs.Outputs.{lovelace_in};
 ghost use Rattle.stake_book.specs.Stakes.{HasRoom, accounts_of, balances_in};
-ghost use Rattle.tx_records.specs.declared.limits.TheConstants.{SUPPLY_LIMIT};
+ghost use Rattle.coin_frac.specs.declared.TheConstants.{SUPPLY_LIMIT};
 
 use coin_frac::NoMemory;
 use gov_ids::OutRef;
@@ -17,7 +17,8 @@ use std::alloc::Global;
 use tx_records::{Tx, TxOutput};
 use utxo_set::Output;
 
-/// Puts the outputs of a transaction in place of its inputs, and its id among the used ones. After want of memory the caller drops the book.
+/// Replaces a transaction's inputs by its outputs, and notes its id as used.
+/// After `NoMemory` the caller drops the book.
 pub fn move_outputs(alloc: Global, stake: &mut StakeBook, tx: &Tx) -> Result<(), NoMemory>
     requires in_order { IsMap outref_cmp stake.old.outputs.outputs }
     requires few { length tx.now.outputs ≤ 65535 }
@@ -34,7 +35,8 @@ pub fn move_outputs(alloc: Global, stake: &mut StakeBook, tx: &Tx) -> Result<(),
     Ok(())
 }
 
-/// Puts the collateral return of a transaction, if it has one, in place of its collateral, and its id among the used ones; it gives what the collateral held, in lovelace. After want of memory the caller drops the book.
+/// Replaces a transaction's collateral by its collateral return, if any, and notes its id as used.
+/// It gives what the collateral held, in lovelace. After `NoMemory` the caller drops the book.
 pub fn move_collateral(alloc: Global, stake: &mut StakeBook, tx: &Tx) -> Result<u64, NoMemory>
     requires in_order { IsMap outref_cmp stake.old.outputs.outputs }
     requires few { length tx.now.outputs ≤ 65535 }
@@ -72,7 +74,7 @@ fn take_outputs(stake: &mut StakeBook, taken: &[OutRef]) -> Result<(), NoMemory>
     Ok(())
 }
 
-/// Puts the outputs of a transaction, as id#0, id#1 and so on, none of which is there.
+/// Puts the outputs of a transaction, as id#0, id#1 and so on; the book has none of them.
 fn put_outputs(alloc: Global, stake: &mut StakeBook, tx: &Tx) -> Result<(), NoMemory>
     requires few { length tx.now.outputs ≤ 65535 }
     requires absent { AllByRecursion
@@ -92,7 +94,7 @@ fn put_outputs(alloc: Global, stake: &mut StakeBook, tx: &Tx) -> Result<(), NoMe
     Ok(())
 }
 
-/// Puts the collateral return of a transaction, if it has one, at the place after its last output.
+/// Puts the collateral return of a transaction, if any, at the place after its last output.
 fn put_return(alloc: Global, stake: &mut StakeBook, tx: &Tx) -> Result<(), NoMemory>
     requires few { length tx.now.outputs ≤ 65535 }
     requires absent { AllByRecursion
@@ -111,7 +113,7 @@ fn put_return(alloc: Global, stake: &mut StakeBook, tx: &Tx) -> Result<(), NoMem
     Ok(())
 }
 
-/// What the book keeps of an output that a transaction makes.
+/// What the book stores of an output of a transaction.
 fn kept(alloc: Global, output: &TxOutput) -> Result<Output, NoMemory>
     ensures { IfOk result (λ o. o ≡ kept_output output.now) }
 {

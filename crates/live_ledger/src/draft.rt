@@ -22,7 +22,8 @@ use gov_ids::{Credential, PoolId};
 use std::alloc::Global;
 use std::marker::Model;
 
-/// A ledger with the changes of a transaction so far, beside what its certificates gave back and paid. It borrows the ledger. (CERTS of the formal specification)
+/// A ledger with a transaction's changes so far, and what its certificates gave back and paid.
+/// It borrows the ledger. (CERTS of the formal specification)
 #[derive(Drop)]
 pub struct Draft<'a> {
     start: &'a LiveLedger,
@@ -72,7 +73,7 @@ fn drep_deposit_in(drep: Option<DrepState>) -> Option<u64>
     Some(drep?.deposit)
 }
 
-/// What an entry that comes pays, which is its deposit where there was none before, in lovelace.
+/// What a new entry pays, in lovelace: its deposit, if there was none before.
 fn paid_by(before: Option<u64>, after: Option<u64>) -> u64
     ensures { result ≡ paid_by before after }
 {
@@ -82,7 +83,7 @@ fn paid_by(before: Option<u64>, after: Option<u64>) -> u64
     }
 }
 
-/// What an entry that leaves gives back, which is the deposit that was stored, in lovelace.
+/// What an entry that leaves gives back, in lovelace: its stored deposit.
 fn given_back(before: Option<u64>, after: Option<u64>) -> u64
     ensures { result ≡ given_back before after }
 {
@@ -92,7 +93,7 @@ fn given_back(before: Option<u64>, after: Option<u64>) -> u64
     }
 }
 
-/// What the registration of a pool pays: its deposit where it was not registered, in lovelace.
+/// What the registration of a pool pays, in lovelace: its deposit, if it was not registered.
 fn paid_for(known: &Option<Pool>, deposit: u64) -> u64
     ensures { result ≡ (if is_some known.now then 0 else deposit) }
 {
@@ -100,7 +101,7 @@ fn paid_for(known: &Option<Pool>, deposit: u64) -> u64
 }
 
 impl<'a> Draft<'a> {
-    /// A draft in which nothing is changed yet. It takes no memory. (Own)
+    /// A draft before any change. It takes no memory.
     pub fn new(alloc: Global, s: &'a LiveLedger) -> Draft<'a>
         ensures { result ≡ draft_at s.now.ledger }
     {
@@ -116,7 +117,7 @@ impl<'a> Draft<'a> {
         }
     }
 
-    /// The ledger before the transaction. (Own)
+    /// The ledger before the transaction.
     pub fn start(&self) -> &LiveLedger
         ensures start { result.now.ledger ≡ self.now.start }
         ensures rest { IsDraftOf self.now.start self.now.ledger }
@@ -124,7 +125,7 @@ impl<'a> Draft<'a> {
         self.start
     }
 
-    /// The registration of a credential, none where it is not registered. (DState of the formal specification)
+    /// The registration of a credential, or none. (DState of the formal specification)
     pub fn account(&self, c: &Credential) -> Option<Registered>
         ensures value { result ≡ account_at self.now.ledger c.now }
         ensures map { IsMap credential_cmp self.now.ledger.accounts }
@@ -133,7 +134,7 @@ impl<'a> Draft<'a> {
         self.accounts.latest(c, self.start.stake().account(c))
     }
 
-    /// A registered pool, none where it is not registered. (PState of the formal specification)
+    /// A registered pool, or none. (PState of the formal specification)
     pub fn pool(&self, p: &PoolId) -> Option<Pool>
         ensures value { result ≡ value_at pool_cmp self.now.ledger.pools p.now }
         ensures map { IsMap pool_cmp self.now.ledger.pools }
@@ -142,14 +143,15 @@ impl<'a> Draft<'a> {
         self.pools.latest(p, self.start.pools())
     }
 
-    /// Whether a pool other than this one has the key, in the terms that hold or in its future terms. It walks no pool. (Own)
+    /// Whether a pool other than this one has the key, in its current or future terms.
+    /// It scans no pools.
     pub fn key_of_other(&self, key: &[u8; 32], p: &PoolId) -> bool
         ensures { result ≡ is_key_of_other key.now p.now self.now.ledger.pools }
     {
         self.pools.key_of_other(key, p, self.start.pools())
     }
 
-    /// A registered DRep, none where it is not registered. (GState of the formal specification)
+    /// A registered DRep, or none. (GState of the formal specification)
     pub fn drep(&self, c: &Credential) -> Option<DrepState>
         ensures value { result ≡ value_at credential_cmp self.now.ledger.dreps c.now }
         ensures map { IsMap credential_cmp self.now.ledger.dreps }
@@ -158,7 +160,7 @@ impl<'a> Draft<'a> {
         self.dreps.latest(c, self.start.dreps(), self.start.epoch())
     }
 
-    /// How many epochs ended without a proposal since a transaction proposed last. (Own)
+    /// The number of epochs that ended without a proposal since the last proposal.
     pub fn dormant(&self) -> u64
         ensures value { result ≡ self.now.ledger.dormant }
         ensures within { self.now.ledger.dormant ≤ self.now.ledger.epoch }
@@ -167,7 +169,7 @@ impl<'a> Draft<'a> {
         self.dreps.dormant(self.start.dreps())
     }
 
-    /// What a cold key authorized, none where it did nothing. (GState of the formal specification)
+    /// What a cold key authorized, or none. (GState of the formal specification)
     pub fn hot(&self, cold: &Credential) -> Option<HotState>
         ensures value { result ≡ value_at credential_cmp self.now.ledger.hot cold.now }
         ensures map { IsMap credential_cmp self.now.ledger.hot }
@@ -175,14 +177,16 @@ impl<'a> Draft<'a> {
         self.hot.latest(cold, self.start.hot())
     }
 
-    /// Whether a cold key has this hot key: it may vote for the committee. (GOV of the formal specification)
+    /// Whether a cold key has this hot key, which may then vote for the committee.
+    /// (GOV of the formal specification)
     pub fn names_hot(&self, hot: &Credential) -> bool
         ensures { result ≡ is_named self.now.ledger.hot hot.now }
     {
         self.hot.names(hot, self.start.hot())
     }
 
-    /// Whether a member of the committee has this hot key. It walks the members or the cold keys that have it, whichever are fewer. (Own)
+    /// Whether a member of the committee has this hot key.
+    /// It scans the members or the cold keys that have it, whichever are fewer.
     pub fn seats_hot(&self, hot: &Credential) -> bool
         ensures { result ≡ is_seated self.now.ledger hot.now }
     {
@@ -190,7 +194,8 @@ impl<'a> Draft<'a> {
         self.hot.seats(hot, self.start.hot(), committee)
     }
 
-    /// What the certificates so far gave back, and what they paid, in lovelace. (DELEG, POOL and GOVCERT of the formal specification)
+    /// What the certificates so far gave back, and what they paid, in lovelace.
+    /// (DELEG, POOL and GOVCERT of the formal specification)
     pub fn moved(&self) -> (u128, u128)
         ensures refunds { result.0 ≡ self.now.refunds }
         ensures deposits { result.1 ≡ self.now.deposits }
@@ -199,7 +204,9 @@ impl<'a> Draft<'a> {
         (self.refunds, self.deposits)
     }
 
-    /// Registers an account with a credential, changes its registration or ends it. An account that comes adds its deposit to what was paid, one that leaves adds its stored deposit to what was given back, and one that changes adds nothing. Want of memory changes nothing. (DELEG of the formal specification)
+    /// Registers an account, changes its registration or ends it. `NoMemory`: nothing changed.
+    /// A new account pays its deposit; an ended one gives its stored one back; a change adds 0.
+    /// (DELEG of the formal specification)
     pub fn set_account(&mut self, c: Credential, to: Option<Registered>) -> Result<(), NoMemory>
         requires few { self.old.changes < 2 ^ 32 }
         ensures ok { OnOk result (self.new ≡ with_account c to self.old) }
@@ -209,7 +216,8 @@ impl<'a> Draft<'a> {
         self.change_account(c, before, to)
     }
 
-    /// The same, where the caller has looked up the registration that the credential has. Want of memory changes nothing. (DELEG of the formal specification)
+    /// Changes an account as `set_account` does, with its looked-up registration `before`.
+    /// `NoMemory`: nothing changed. (DELEG of the formal specification)
     pub fn change_account(
         &mut self,
         c: Credential,
@@ -230,7 +238,9 @@ impl<'a> Draft<'a> {
         Ok(())
     }
 
-    /// Registers a pool with its terms and its deposit, in lovelace. A first registration adds the deposit to what was paid; a later one sets the future terms, cancels the retirement and pays nothing. Want of memory changes nothing. (POOL of the formal specification)
+    /// Registers a pool. A first registration adds the deposit, in lovelace, to what was paid.
+    /// A later one sets the future terms, cancels the retirement and pays nothing.
+    /// `NoMemory`: nothing changed. (POOL of the formal specification)
     pub fn register_pool(
         &mut self,
         p: PoolId,
@@ -247,7 +257,8 @@ impl<'a> Draft<'a> {
         Ok(())
     }
 
-    /// A registered pool retires with the epoch that is named: that epoch begins without it. Want of memory changes nothing. (POOL of the formal specification)
+    /// A registered pool retires: the named epoch begins without it.
+    /// `NoMemory`: nothing changed. (POOL of the formal specification)
     pub fn retire_pool(&mut self, p: PoolId, epoch: u64) -> Result<(), NoMemory>
         requires registered { is_pool self.old.ledger p ≡ true }
         requires few { self.old.changes < 2 ^ 32 }
@@ -262,7 +273,7 @@ impl<'a> Draft<'a> {
         Ok(())
     }
 
-    /// The pool in place of what the id had, for which so much was paid, in lovelace.
+    /// Puts the pool for the id, instead of any before, for which so much was paid, in lovelace.
     fn put_pool(&mut self, p: PoolId, pool: Pool, paid: u64) -> Result<(), NoMemory>
         requires few { self.old.changes < 2 ^ 32 }
         requires in_order { IsMap pool_cmp self.old.start.pools }
@@ -275,7 +286,9 @@ impl<'a> Draft<'a> {
         Ok(())
     }
 
-    /// Registers a DRep with a credential, changes what is stored of it or ends it. One that comes adds its deposit to what was paid, one that leaves adds its stored deposit to what was given back, and one that changes adds nothing. One that leaves ends the delegations to it, also those that were made in this draft; one that is made later stands. After want of memory the caller drops the draft. (GOVCERT of the formal specification; that delegations end at once is own)
+    /// Registers or changes a DRep, or removes it and ends all delegations to it but no later one.
+    /// A new one pays its deposit; a removed one gives its stored one back; a change adds 0.
+    /// `NoMemory`: drop the draft. (GOVCERT of the formal specification; ending them at once: Own)
     pub fn set_drep(&mut self, c: Credential, to: Option<DrepState>) -> Result<(), NoMemory>
         requires few { self.old.changes < 2 ^ 32 }
         requires timely { ForSome to (IsTimely self.old.ledger) }
@@ -289,7 +302,7 @@ impl<'a> Draft<'a> {
         }
     }
 
-    /// The DRep in place of what the credential had.
+    /// Puts the DRep for the credential, instead of any before.
     fn put_drep(&mut self, c: Credential, s: DrepState) -> Result<(), NoMemory>
         requires few { self.old.changes < 2 ^ 32 }
         requires timely { IsTimely self.old.ledger s }
@@ -305,7 +318,7 @@ impl<'a> Draft<'a> {
         Ok(())
     }
 
-    /// No DRep any more, and no delegation to it.
+    /// Removes the DRep and the delegations to it.
     fn remove_drep(&mut self, c: Credential) -> Result<(), NoMemory>
         requires few { self.old.changes < 2 ^ 32 }
         ensures ok { OnOk result (self.new ≡ with_drep c None self.old) }
@@ -321,7 +334,8 @@ impl<'a> Draft<'a> {
         Ok(())
     }
 
-    /// A hot key or a resignation in place of what the cold key had. Want of memory changes nothing. (GOVCERT of the formal specification)
+    /// Replaces the cold key's entry by a hot key or a resignation. `NoMemory`: nothing changed.
+    /// (GOVCERT of the formal specification)
     pub fn set_hot(&mut self, cold: Credential, s: HotState) -> Result<(), NoMemory>
         requires few { self.old.changes < 2 ^ 32 }
         ensures ok { OnOk result (self.new ≡ with_hot cold s self.old) }
@@ -332,7 +346,9 @@ impl<'a> Draft<'a> {
         Ok(())
     }
 
-    /// The dormant epochs are added to the expiry of each DRep that with them has not expired, and none are left. It walks the DReps that the draft changed, and none where no epoch is dormant. (Own)
+    /// Adds the dormant epochs to the expiry of each DRep that with them has not expired.
+    /// Then none are left.
+    /// It scans the DReps that the draft changed, and none if no epoch is dormant.
     pub fn refresh(&mut self) -> Result<(), NoMemory>
         requires few { self.old.changes < 2 ^ 32 }
         ensures ok { OnOk result (self.new ≡ with_refresh self.old) }
@@ -343,7 +359,7 @@ impl<'a> Draft<'a> {
         Ok(())
     }
 
-    /// The changes, which laid over the ledger before the transaction give the draft. (Own)
+    /// The changes, which laid over the ledger before the transaction give the draft.
     pub fn into_changes(self) -> Changes
         ensures { laid_over result self.entry.start ≡ self.entry.ledger }
     {

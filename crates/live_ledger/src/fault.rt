@@ -3,12 +3,12 @@ ghost use Rattle.std.specs.Prelude.{◌≡◌};
 use coin_frac::NoMemory;
 use tx_records::GenesisRule;
 
-/// Why a genesis gave no ledger. (Own)
+/// Why a genesis gave no ledger.
 #[derive(Clone, Copy, Debug, PartialEq, Eq)]
 pub enum GenesisFault {
     /// The first genesis rule that it breaks.
     Broken(GenesisRule),
-    /// Memory ran out.
+    /// Out of memory.
     NoMemory,
 }
 

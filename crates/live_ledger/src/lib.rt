@@ -1,4 +1,4 @@
-//! The ledger that the program holds: what a genesis gives, drafts of transactions, and what an allowed transaction leaves.
+//! The program's ledger: that of a genesis, drafts of transactions, and allowed transactions.
 #![tactic(auto)]
 
 mod books;

@@ -12,7 +12,8 @@ use proposal_store::ProposalStore;
 use std::alloc::Global;
 use tx_records::{ProposalRecord, Tx};
 
-/// Casts the votes of a transaction and then adds its proposals; `last` is the last epoch in which these may be voted on. After want of memory the caller drops the store. (GOV of the formal specification)
+/// Casts a transaction's votes, then adds its proposals; `last` is the last epoch to vote on these.
+/// After `NoMemory` the caller drops the store. (GOV of the formal specification)
 pub fn add_tx_proposals(
     alloc: Global,
     store: &mut ProposalStore,
@@ -30,7 +31,8 @@ pub fn add_tx_proposals(
     Ok(())
 }
 
-/// Casts the votes of a transaction, a later one of a voter in place of an earlier one. (GOV of the formal specification)
+/// Casts the votes of a transaction; a voter's later vote replaces the earlier one.
+/// (GOV of the formal specification)
 fn cast_votes(store: &mut ProposalStore, tx: &Tx) -> Result<(), NoMemory>
     ensures { OnOk result (store.new ≡ map (with_votes tx.now) store.old) }
 {
@@ -40,7 +42,8 @@ fn cast_votes(store: &mut ProposalStore, tx: &Tx) -> Result<(), NoMemory>
     Ok(())
 }
 
-/// Adds the proposals of a transaction, as id#0, id#1 and so on, with no votes; `last` is the last epoch in which they may be voted on. (GOV of the formal specification)
+/// Adds a transaction's proposals, as id#0, id#1 and so on, with no votes.
+/// `last` is the last epoch in which they may be voted on. (GOV of the formal specification)
 fn add_proposals(
     alloc: Global,
     store: &mut ProposalStore,
@@ -62,7 +65,7 @@ fn add_proposals(
     Ok(())
 }
 
-/// What the ledger keeps of a proposal.
+/// What the ledger stores of a proposal.
 fn made(
     alloc: Global,
     id: ActionId,

@@ -28,12 +28,13 @@ use std::marker::Model;
 use tx_records::Pots;
 use utxo_set::UtxoSet;
 
-/// The ledger after some records. Its pots hold the supply, its maps are maps, and its expiries are within the dormant bound. (LState of the formal specification)
+/// The ledger after some records: its pots hold the supply, and its maps are maps.
+/// Its expiries are within the dormant bound. (LState of the formal specification)
 #[derive(Drop)]
 pub struct LiveLedger {
     alloc: Global,
-    // in memory of their own: to move the ledger moves a pointer; they have no snapshots and no pending update, since
-    // whoever holds the ledger keeps these
+    // boxed: to move the ledger moves a pointer
+    // its snapshots and pending update are empty: the holder of the ledger keeps these
     books: Box<Books>,
 }
 
@@ -53,28 +54,28 @@ impl Model for LiveLedger {
 }
 
 impl LiveLedger {
-    /// The network: 0 for the test networks, 1 for mainnet. (Own)
+    /// The network: 0 for the test networks, 1 for mainnet.
     pub fn network(&self) -> u8
         ensures { result ≡ self.now.ledger.network }
     {
         self.books.network
     }
 
-    /// Slots in an epoch. (Own)
+    /// Slots in an epoch.
     pub fn epoch_length(&self) -> u32
         ensures { result ≡ self.now.ledger.epoch_length }
     {
         self.books.length
     }
 
-    /// The supply, in lovelace. (Own)
+    /// The supply, in lovelace.
     pub fn supply(&self) -> u64
         ensures { result ≡ self.now.ledger.supply }
     {
         self.books.supply
     }
 
-    /// The last slot. (Own)
+    /// The last slot.
     pub fn slot(&self) -> u64
         ensures { result ≡ self.now.ledger.slot }
     {
@@ -109,7 +110,8 @@ impl LiveLedger {
         self.books.donations
     }
 
-    /// Parameters, version, committee, constitution, last enacted ids and the treasury in lovelace. (EnactState of the formal specification)
+    /// Parameters, version, committee, constitution, last enacted ids and the treasury in lovelace.
+    /// (EnactState of the formal specification)
     pub fn state(&self) -> &EnactState
         ensures { result.now ≡ self.now.ledger.state }
     {
@@ -123,14 +125,15 @@ impl LiveLedger {
         &self.books.state.get().params
     }
 
-    /// Whether the protocol version is 11.0 or later. (Own)
+    /// Whether the protocol version is 11.0 or later.
     pub fn is_from_version_eleven(&self) -> bool
         ensures { result ≡ is_from_version_eleven self.now.ledger }
     {
         self.books.state.get().version.0 >= 11
     }
 
-    /// The unspent outputs and the used transaction ids. (UTxOState of the formal specification; that used ids are kept is own)
+    /// The unspent outputs and the used transaction ids.
+    /// (UTxOState of the formal specification; that used ids are kept: Own)
     pub fn outputs(&self) -> &UtxoSet
         ensures outputs { result.now.outputs ≡ self.now.ledger.outputs }
         ensures used { result.now.used ≡ self.now.ledger.used }
@@ -138,7 +141,8 @@ impl LiveLedger {
         self.books.stake.outputs()
     }
 
-    /// The same beside the accounts with their stakes, and the entries of the last freeze. (UTxOState and DState of the formal specification)
+    /// Outputs and used ids, the accounts with their stakes, and the entries of the last freeze.
+    /// (UTxOState and DState of the formal specification)
     pub fn stake(&self) -> &StakeBook
         ensures outputs { result.now.outputs.outputs ≡ self.now.ledger.outputs }
         ensures used { result.now.outputs.used ≡ self.now.ledger.used }
@@ -155,7 +159,8 @@ impl LiveLedger {
         &self.books.hot
     }
 
-    /// Whether a cold key is a member of the committee, none being one where there is no committee. It is found by halves. (CIP-1694, The constitutional committee)
+    /// Whether a cold key is a member of the committee; false if there is no committee.
+    /// It is found by binary search. (CIP-1694, The constitutional committee)
     pub fn is_member(&self, cold: &Credential) -> bool
         ensures { result ≡ is_member self.now.ledger.state.committee cold.now }
     {
@@ -169,7 +174,7 @@ impl LiveLedger {
         &self.books.pools
     }
 
-    /// A registered pool, none where it is not registered. (PState of the formal specification)
+    /// A registered pool, or none. (PState of the formal specification)
     pub fn pool(&self, p: &PoolId) -> Option<Pool>
         ensures value { result ≡ value_at pool_cmp self.now.ledger.pools p.now }
         ensures in_order { IsMap pool_cmp self.now.ledger.pools }
@@ -177,21 +182,24 @@ impl LiveLedger {
         self.books.pools.get(p)
     }
 
-    /// The live proposals with their votes, in order of submission. (GovState of the formal specification)
+    /// The live proposals with their votes, in order of submission.
+    /// (GovState of the formal specification)
     pub fn proposals(&self) -> &ProposalStore
         ensures { result.now ≡ self.now.ledger.proposals }
     {
         &self.books.proposals
     }
 
-    /// Whether a live proposal adds a cold key to the committee. It walks none of them. (GOVCERT of the formal specification)
+    /// Whether a live proposal adds a cold key to the committee. It scans no proposals.
+    /// (GOVCERT of the formal specification)
     pub fn is_proposed(&self, cold: &Credential) -> bool
         ensures { result ≡ is_proposed cold.now self.now.ledger.proposals }
     {
         self.books.proposals.adds(cold)
     }
 
-    /// The registered DReps and the dormant count. (GState of the formal specification; how the count acts is own)
+    /// The registered DReps and the dormant count.
+    /// (GState of the formal specification; how the count acts: Own)
     pub fn dreps(&self) -> &DrepBook
         ensures dreps { result.now.dreps ≡ self.now.ledger.dreps }
         ensures dormant { result.now.dormant ≡ self.now.ledger.dormant }
@@ -200,7 +208,7 @@ impl LiveLedger {
         &self.books.dreps
     }
 
-    /// A registered DRep, none where it is not registered. (GState of the formal specification)
+    /// A registered DRep, or none. (GState of the formal specification)
     pub fn drep(&self, c: &Credential) -> Option<DrepState>
         ensures value { result ≡ value_at credential_cmp self.now.ledger.dreps c.now }
         ensures in_order { IsMap credential_cmp self.now.ledger.dreps }
@@ -208,7 +216,8 @@ impl LiveLedger {
         self.books.dreps.get(c)
     }
 
-    /// The seven pots, in lovelace. They hold the supply, so the deposits are what the others leave of it. (The preservation of value of the formal specification)
+    /// The seven pots, in lovelace. They hold the supply: deposits are the supply less the others.
+    /// (The preservation of value of the formal specification)
     pub fn pots(&self) -> Pots
         ensures { result ≡ pots_of self.now.ledger }
     {

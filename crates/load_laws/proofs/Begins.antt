@@ -1,4 +1,4 @@
--- The first record of a made stream.
+-- The first record of a benchmark stream.
 use Rattle.std.proofs.Common.{◌≡◌, ℕ, true, false, List, [], ◌∷◌, ◌++◌, Option, Some, None, Result, Ok, Err, is_none, flat_map, map, refl, ap, ◌∙◌, append_assoc}
 use Rattle.std.specs.List.{range_with_len}
 use Rattle.byte_lines.specs.Pieces.{has_feed, kept, line_feed, lines_of}
@@ -31,7 +31,7 @@ genesis_of (Ok (records.Tx tx)) sound = cc
 genesis_of (Ok (records.Print what)) sound = cc
 genesis_of (Err fault) sound = cc
 
--- the record of the first line stands before those of the others
+-- the record of the first line is before those of the others
 first_record : (line rest : List ℕ) (r : Record) → has_feed line ≡ false → kept LINE_LIMIT line ≡ Some line → is_blank line ≡ false → record_of_line line ≡ Ok r
     → records_of (line ++ line_feed ∷ rest) ≡ (1, Read r) ∷ records_from 2 (lines_of LINE_LIMIT rest)
 first_record line rest r no_feed is_kept not_blank reads =

@@ -1,4 +1,4 @@
--- The first line of a made stream, computed.
+-- The first line of a benchmark stream, computed.
 use Rattle.std.proofs.Common.{◌≡◌, Bool, true, false, Some, Result, Ok, is_none, refl}
 use Rattle.std.specs.Char.{encode_utf8}
 use Rattle.std.specs.Fmt.{digits}

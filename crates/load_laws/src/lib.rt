@@ -1,4 +1,4 @@
-//! Laws of made streams: a replay of one begins, and is never broken off for its length.
+//! Laws of benchmark streams: a replay of one begins, and its length never ends it.
 #![tactic(auto)]
 
 mod laws;

@@ -1,10 +1,10 @@
--- The numbers of the stream that is made of a seed, for so many accounts and epochs. (Own)
+-- The numbers of the stream that a seed gives, for so many accounts and epochs. (Own)
 use Rattle.std.specs.Prelude.{ℕ, ◌+◌, ◌-◌, ◌*◌, ◌/◌, ◌%◌, ◌==◌, List, min, sum_by, if◌then◌else◌}
 use Rattle.std.specs.List.{range_with_len}
 
 -- ---- registrations, numbered from 0
 
--- each registers so many accounts, and the last those that are left
+-- how many accounts a registration registers; the last one registers those that are left
 abbrev pub registered_at_once : ℕ
 registered_at_once = 500
 
@@ -46,17 +46,19 @@ proposal_name accounts e = 2 + registration_count accounts + 2 * e
 abbrev pub votes_name : ℕ → ℕ → ℕ
 votes_name accounts e = 3 + registration_count accounts + 2 * e
 
--- ---- the last output of each transaction, which the next one takes
+-- ---- the last output of each transaction, which the next one spends
 
--- the place of what registration j takes: the one output of the genesis, or the one after those of the accounts before
+-- the index of the output that registration j spends: the one of the genesis,
+-- or the one after the outputs of accounts in the transaction before
 abbrev pub place_before_registration : ℕ → ℕ → ℕ
 place_before_registration accounts j = if j == 0 then 0 else account_count accounts (j - 1)
 
--- the place of what the proposal of epoch e takes: the last output of the last registration, or the one output of the votes before
+-- the index of the output that the proposal of epoch e spends: the last of the last registration,
+-- or the one of the votes before
 abbrev pub place_before_proposal : ℕ → ℕ → ℕ
 place_before_proposal accounts e = if e == 0 then account_count accounts (registration_count accounts - 1) else 0
 
--- what the output of the genesis has, in lovelace
+-- the lovelace in the output of the genesis
 abbrev pub funds : ℕ
 funds = 10000000000
 
@@ -72,19 +74,19 @@ account_deposit = 2
 abbrev pub proposal_deposit : ℕ
 proposal_deposit = 10
 
--- what registration j takes from it: the outputs of its accounts, their deposits, and its fee
+-- what registration j spends of it: the outputs of its accounts, their deposits, and its fee
 abbrev pub spent_by_registration : ℕ → ℕ → ℕ → ℕ
 spent_by_registration seed accounts j = sum_by (λ i. weight seed i + account_deposit) (accounts_of accounts j) + fee
 
--- what the registrations before j take
+-- what the registrations before j spend
 abbrev pub spent_before : ℕ → ℕ → ℕ → ℕ
 spent_before seed accounts j = sum_by (spent_by_registration seed accounts) (range_with_len 0 j)
 
--- what all registrations take
+-- what all registrations spend
 abbrev pub spent_by_all : ℕ → ℕ → ℕ
 spent_by_all seed accounts = spent_before seed accounts (registration_count accounts)
 
--- what the proposals and the votes of the epochs before e take
+-- what the proposals and the votes of the epochs before e spend
 abbrev pub spent_by_epochs : ℕ → ℕ
 spent_by_epochs e = (proposal_deposit + fee + fee) * e
 
@@ -106,7 +108,7 @@ left_by_votes seed accounts e = funds - (spent_by_all seed accounts + spent_by_e
 abbrev pub account_in_epoch : ℕ → ℕ → ℕ → ℕ
 account_in_epoch seed accounts e = account_name ((seed + e) % accounts)
 
--- the number in the name of the DRep that it delegates to: the first and the second in turn
+-- the number in the name of the DRep to which it delegates: the first and the second in turn
 abbrev pub drep_in_epoch : ℕ → ℕ
 drep_in_epoch e = if e % 2 == 0 then 30 else 31
 
@@ -114,10 +116,10 @@ drep_in_epoch e = if e % 2 == 0 then 30 else 31
 abbrev pub first_slot : ℕ → ℕ
 first_slot e = 10 * e + 5
 
--- its pulse
+-- the pulse of that block
 abbrev pub first_pulse : ℕ → ℕ → ℕ
 first_pulse seed e = 1 + (seed + e) % 1000
 
--- the slot of its last block, which is in the next epoch
+-- the slot of the last block of epoch e, which is in the next epoch
 abbrev pub last_slot : ℕ → ℕ
 last_slot e = 10 * e + 10

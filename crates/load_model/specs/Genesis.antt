@@ -1,4 +1,4 @@
--- The genesis of the stream: one output, no account, one pool, two DReps and a committee of one member. (Own)
+-- The stream's genesis: an output, no account, a pool, two DReps and one committee member. (Own)
 use Rattle.std.specs.Prelude.{ℕ, List, [], ◌∷◌, codes, decimal, map, replicate}
 use Rattle.text_model.specs.Words.{Text}
 use Rattle.load_model.specs.Amounts.{funds}

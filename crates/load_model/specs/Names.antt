@@ -10,7 +10,7 @@ padded width n = replicate (width - length (decimal n)) 48 ++ decimal n
 abbrev pub hash28 : ℕ → Text
 hash28 n = padded 56 n
 
--- a transaction, or what a hash of 32 bytes stands for
+-- a transaction, or any other hash of 32 bytes
 abbrev pub hash32 : ℕ → Text
 hash32 n = padded 64 n
 
@@ -18,7 +18,7 @@ hash32 n = padded 64 n
 abbrev pub key : ℕ → Text
 key n = codes "k" ++ hash28 n
 
--- the account of a key, which is its address too
+-- the account of a key, which is also its address
 abbrev pub account : ℕ → Text
 account n = codes "1" ++ key n
 
@@ -26,6 +26,6 @@ account n = codes "1" ++ key n
 abbrev pub address_with_stake : ℕ → ℕ → Text
 address_with_stake payment stake = account payment ++ codes "+" ++ key stake
 
--- what a transaction has at a place: an output, or a proposal
+-- the output or the proposal of a transaction at an index
 abbrev pub ref : ℕ → ℕ → Text
 ref n place = hash32 n ++ codes "#" ++ decimal place

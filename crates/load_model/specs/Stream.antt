@@ -1,4 +1,4 @@
--- The stream that is made of a seed, for so many accounts and epochs. (Own)
+-- The stream that a seed gives, for so many accounts and epochs. (Own)
 use Rattle.std.specs.Prelude.{ℕ, ◌+◌, ◌-◌, ◌%◌, ◌==◌, List, [], ◌∷◌, ◌++◌, codes, decimal, flat_map, map, if◌then◌else◌}
 use Rattle.std.specs.List.{range_with_len}
 use Rattle.text_model.specs.Words.{Text}
@@ -14,15 +14,16 @@ abbrev pub output_of : ℕ → ℕ → Text
 output_of account lovelace = joined (
     codes "[\"1k" ∷ hash28 1 ∷ codes "+k" ∷ hash28 account ∷ codes "\"," ∷ decimal lovelace ∷ codes ",0]" ∷ [])
 
--- that of account i
+-- the output of account i
 abbrev pub account_output : ℕ → ℕ → Text
 account_output seed i = output_of (account_name i) (weight seed i)
 
--- the last output of each transaction: what is left
+-- the last output of each transaction: the lovelace that is left
 abbrev pub left_output : ℕ → Text
 left_output lovelace = joined (codes "[\"1k" ∷ hash28 1 ∷ codes "\"," ∷ decimal lovelace ∷ codes ",0]" ∷ [])
 
--- to whom account i delegates its vote: of each four, two to the first DRep, one to the second, and one abstains
+-- the vote delegation of account i: of each four, two to the first DRep, one to the second,
+-- and one to always-abstain
 abbrev pub drep_of : ℕ → Text
 drep_of i = if i % 4 == 3 then codes "abstain" else (if i % 4 == 2 then key 31 else key 30)
 
@@ -32,17 +33,18 @@ cert_of account drep = joined (
     codes "{\"cert\":\"account-reg\",\"cred\":\"k" ∷ hash28 account ∷
     codes "\",\"pool\":\"" ∷ hash28 50 ∷ codes "\",\"drep\":\"" ∷ []) ++ (drep ++ codes "\"}")
 
--- that of account i
+-- the registration of account i
 abbrev pub account_cert : ℕ → Text
 account_cert i = cert_of (account_name i) (drep_of i)
 
--- a transaction up to its outputs: its number, and the place of the output that it takes of the transaction before
+-- a transaction up to its outputs: its number, and the index of the output that it spends
+-- of the transaction before
 abbrev pub transaction_begun : ℕ → ℕ → Text
 transaction_begun n place = joined (
     codes "{\"kind\":\"tx\",\"id\":\"" ∷ hash32 n ∷ codes "\",\"inputs\":[\"" ∷ hash32 (n - 1) ∷
     codes "#" ∷ decimal place ∷ codes "\"],\"outputs\":[" ∷ [])
 
--- a transaction that registers accounts: their outputs and what is left, and their registrations
+-- a transaction that registers accounts: their outputs, the output left, and their registrations
 abbrev pub registering : ℕ → ℕ → List Text → List Text → Text
 registering n place outputs certs =
     transaction_begun n place ++ (with_commas outputs ++
@@ -62,7 +64,7 @@ abbrev pub block_line : ℕ → ℕ → Text
 block_line slot pulse = joined (
     codes "{\"kind\":\"block\",\"slot\":" ∷ decimal slot ∷ codes ",\"pulse\":" ∷ decimal pulse ∷ codes "}" ∷ [])
 
--- a transaction that proposes the withdrawal of so much from the treasury
+-- a transaction that proposes to withdraw an amount from the treasury
 abbrev pub proposing : ℕ → ℕ → ℕ → ℕ → Text
 proposing n place left amount = joined (
     codes "{\"kind\":\"tx\",\"id\":\"" ∷ hash32 n ∷ codes "\",\"inputs\":[\"" ∷ hash32 (n - 1) ∷
@@ -71,12 +73,12 @@ proposing n place left amount = joined (
     codes "\",\"action\":{\"type\":\"TreasuryWithdrawals\",\"targets\":[[\"1k" ∷ hash28 1000 ∷
     codes "\"," ∷ decimal amount ∷ codes "]]}}]}" ∷ [])
 
--- that of epoch e
+-- the proposal of epoch e
 abbrev pub proposal_line : ℕ → ℕ → ℕ → Text
 proposal_line seed accounts e =
     proposing (proposal_name accounts e) (place_before_proposal accounts e) (left_by_proposal seed accounts e) (10 + e)
 
--- a transaction that delegates an account's vote, and votes on the proposal of the transaction before
+-- a transaction that delegates an account's vote, and votes on the proposal just before
 abbrev pub voting : ℕ → ℕ → ℕ → ℕ → Text
 voting n left account drep = joined (
     codes "{\"kind\":\"tx\",\"id\":\"" ∷ hash32 n ∷ codes "\",\"inputs\":[\"" ∷ hash32 (n - 1) ∷
@@ -87,7 +89,7 @@ voting n left account drep = joined (
     codes "#0\",\"vote\":\"yes\"},{\"voter\":\"drep:k" ∷ hash28 31 ∷ codes "\",\"action\":\"" ∷ hash32 (n - 1) ∷
     codes "#0\",\"vote\":\"no\"}]}" ∷ [])
 
--- that of epoch e
+-- the votes of epoch e
 abbrev pub votes_line : ℕ → ℕ → ℕ → Text
 votes_line seed accounts e =
     voting (votes_name accounts e) (left_by_votes seed accounts e) (account_in_epoch seed accounts e) (drep_in_epoch e)
@@ -98,11 +100,11 @@ rewarding e account = joined (
     codes "{\"kind\":\"rewards\",\"epoch\":" ∷ decimal e ∷
     codes ",\"fromReserves\":5,\"fromFees\":0,\"toTreasury\":2,\"rewards\":[[\"k" ∷ hash28 account ∷ codes "\",3]]}" ∷ [])
 
--- that of epoch e
+-- the reward update of epoch e
 abbrev pub rewards_line : ℕ → ℕ → ℕ → Text
 rewards_line seed accounts e = rewarding e (account_in_epoch seed accounts e)
 
--- the six lines of epoch e: the votes stand there twice
+-- the six lines of epoch e; the votes occur twice
 abbrev pub epoch_lines : ℕ → ℕ → ℕ → List Text
 epoch_lines seed accounts e =
     block_line (first_slot e) (first_pulse seed e) ∷
@@ -115,7 +117,7 @@ epoch_lines seed accounts e =
 
 -- ---- the stream
 
--- its lines
+-- the lines of the stream
 abbrev pub lines_of_load : ℕ → ℕ → ℕ → List Text
 lines_of_load seed accounts epochs =
     genesis_line ∷ []
@@ -126,6 +128,6 @@ lines_of_load seed accounts epochs =
 abbrev pub bytes_of_lines : List Text → List ℕ
 bytes_of_lines lines = flat_map (λ line. line ++ 10 ∷ []) lines
 
--- its bytes
+-- the bytes of the stream
 abbrev pub bytes_of_load : ℕ → ℕ → ℕ → List ℕ
 bytes_of_load seed accounts epochs = bytes_of_lines (lines_of_load seed accounts epochs)

@@ -1,4 +1,4 @@
--- What the replay of a stream came to: counts of its replies, and of the tallies of its boundaries. (Own)
+-- What the replay of a stream gives: counts of its replies, and of its boundaries' tallies. (Own)
 use Rattle.std.specs.Prelude.{ℕ, ◌+◌, Bool, true, false, List, [], ◌∷◌, flat_map, fold, is_none, length, not, ◌&&◌, if◌then◌else◌}
 use Rattle.std.specs.List.{count_by}
 use Rattle.gov_actions.specs.declared.tally.Tally.{Tally}
@@ -22,7 +22,7 @@ abbrev pub with_worlds : World → List Reading → List (World × Reading)
 with_worlds w [] = []
 with_worlds w (r ∷ rs) = (w, r) ∷ with_worlds (world_after_reading w r) rs
 
--- the World after all of them
+-- the World after all readings
 abbrev pub world_after_readings : World → List Reading → World
 world_after_readings w rs = fold world_after_reading w rs
 
@@ -30,44 +30,44 @@ world_after_readings w rs = fold world_after_reading w rs
 abbrev pub breaks_none : World → Record → Bool
 breaks_none w r = is_none (refusal_of w r)
 
--- whether it is a transaction or a reward update that is accepted
+-- whether a reading is a transaction or a reward update that is accepted
 abbrev pub is_accepted : World × Reading → Bool
 is_accepted (w, Read (records.Tx tx)) = breaks_none w (records.Tx tx)
 is_accepted (w, Read (records.Rewards u)) = breaks_none w (records.Rewards u)
 is_accepted (w, _) = false
 
--- whether it is a block that is accepted
+-- whether a reading is a block that is accepted
 abbrev pub is_accepted_block : World × Reading → Bool
 is_accepted_block (w, Read (records.Block slot pulse)) = breaks_none w (records.Block slot pulse)
 is_accepted_block (w, _) = false
 
--- whether it is refused: a line that is no record is too
+-- whether a reading is refused, as a line that is no record is, too
 abbrev pub is_refused : World × Reading → Bool
 is_refused (w, Read r) = not (breaks_none w r)
 is_refused (w, _) = true
 
--- the tallies of the boundary that it crosses, if it crosses one
+-- the tallies of the boundary that a reading crosses, if it crosses one
 abbrev pub tallies_at : World × Reading → List Tally
 tallies_at (w, Read (records.Block slot pulse)) =
     if breaks_none w (records.Block slot pulse) && enters_next w.ledger slot then (report_of w).tallies else []
 tallies_at (w, _) = []
 
--- whether a verdict is that the proposal is ratified
+-- whether a verdict says that the proposal is ratified
 abbrev pub is_ratified_verdict : Verdict → Bool
 is_ratified_verdict Ratified = true
 is_ratified_verdict _ = false
 
--- that it is expired
+-- whether a verdict says that it is expired
 abbrev pub is_expired_verdict : Verdict → Bool
 is_expired_verdict Expired = true
 is_expired_verdict _ = false
 
--- that it waits
+-- whether a verdict says that it waits
 abbrev pub is_waiting_verdict : Verdict → Bool
 is_waiting_verdict Waiting = true
 is_waiting_verdict _ = false
 
--- the summary of the replay of a genesis and of what follows it
+-- the summary of the replay of a genesis and of the readings after it
 abbrev pub summary_of : ℕ → ℕ → ℕ → Genesis → List Reading → LoadSummary
 summary_of seed accounts epochs g rs =
     let w : World = world_of_genesis g in

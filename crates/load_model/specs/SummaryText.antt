@@ -9,7 +9,7 @@ abbrev pub load_words : LoadSummary → List Text
 load_words x =
     codes "load" ∷ codes "seed" ∷ decimal x.seed ∷ codes "accounts" ∷ decimal x.accounts ∷ codes "epochs" ∷ decimal x.epochs ∷ []
 
--- how many records there were, and what became of them
+-- the counts of records, of accepted and refused ones, and of accepted blocks
 abbrev pub record_words : LoadSummary → List Text
 record_words x =
     codes "records" ∷ decimal x.records ∷ codes "accepted" ∷ decimal x.accepted ∷

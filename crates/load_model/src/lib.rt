@@ -1,4 +1,4 @@
-//! What a measured run replays: a stream that is made from three numbers, and the summary of its replay.
+//! What `load` replays: a benchmark stream from three numbers, and the summary of its replay.
 #![tactic(auto)]
 
 mod summary;

@@ -1,13 +1,13 @@
 use tx_records::Pots;
 
-/// What the replay of a made stream came to. (Own)
+/// The result of the replay of a benchmark stream. (Own)
 #[derive(Clone, Copy)]
 pub struct LoadSummary {
-    /// The three numbers that the stream was made from.
+    /// The three numbers that determine the stream.
     pub seed: u64,
     pub accounts: u64,
     pub epochs: u64,
-    /// How many records the stream has, its genesis among them.
+    /// How many records the stream has, with its genesis.
     pub records: u64,
     /// How many transactions and reward updates were accepted.
     pub accepted: u64,
@@ -15,7 +15,7 @@ pub struct LoadSummary {
     pub refused: u64,
     /// How many blocks were accepted.
     pub blocks: u64,
-    /// How many tallies, of all boundaries, ended with each verdict.
+    /// How many tallies, over all boundaries, ended with each verdict.
     pub ratified: u64,
     pub expired: u64,
     pub waiting: u64,

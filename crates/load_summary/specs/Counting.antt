@@ -1,7 +1,7 @@
 -- The counts of a summary, record by record. (Own)
 use Rattle.std.specs.Prelude.{◌≡◌, ℕ, ◌+◌, ◌<◌, ◌^◌, Bool, true, false, List, [], ◌∷◌, OnErr, OnOk, Result}
 use Rattle.std.specs.List.{count_by}
-use Rattle.coin_frac.specs.declared.NoMemory.{NoMemory}
+use Rattle.no_memory.specs.declared.NoMemory.{NoMemory}
 use Rattle.gov_actions.specs.declared.tally.Tally.{Tally}
 use Rattle.ledger_model.specs.Supply.{pots_of}
 use Rattle.load_model.specs.declared.summary.LoadSummary.{LoadSummary}
@@ -103,7 +103,7 @@ summary_with seed accounts epochs c pots = record {
   pots = pots;
 }
 
--- the summary of a replay is that of its genesis and its readings counted one after another, with the pots after them
+-- the summary of a replay counts its genesis and its readings one by one, with the pots after them
 abbrev pub SummaryIsCounted : Type 0
 SummaryIsCounted = (seed accounts epochs : ℕ) (g : Genesis) (rs : List Reading)
     → summary_of seed accounts epochs g rs
@@ -122,7 +122,7 @@ pub record Fits (c : LoadCounts) : Type 0 where
   pub expired : c.expired < 2 ^ 64
   pub waiting : c.waiting < 2 ^ 64
 
--- the counts are those that are wanted or, exactly where one of these has no room, as they were
+-- the counts are those that are wanted; if and only if one has no room, they are as they were
 pub record IsCounted (old wanted new : LoadCounts) (result : Result (Unit {0}) NoMemory) : Type 0 where
   pub ok : OnOk result (new ≡ wanted)
   pub err : OnErr result (new ≡ old)

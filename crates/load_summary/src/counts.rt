@@ -4,13 +4,13 @@ ghost use Rattle.std.specs.List.{count_by};
 ghost use Rattle.load_model.specs.Summary.{is_expired_verdict, is_ratified_verdict, is_waiting_verdict};
 ghost use Rattle.load_summary.specs.Counting.{IsCounted, SummaryIsCounted, accepted_counted, block_counted, crossing_counted, nothing_counted, other_counted, refused_counted, reply_counted, summary_with};
 
-use coin_frac::NoMemory;
 use gov_actions::{Tally, Verdict};
 use load_model::LoadSummary;
+use no_memory::NoMemory;
 use tx_records::{EpochReport, Pots, Reply};
 
-/// How many records were answered so far, and how. A count that has no room in 64 bits is want of memory: a made stream has
-/// at most 2,601 records, and at each of its 100 boundaries at most 100 proposals. (Own)
+/// How many records were answered so far, and how. A count above 64 bits is `NoMemory`:
+/// a benchmark stream has at most 2,601 records, 100 boundaries, and 100 proposals at each.
 #[derive(Clone, Copy)]
 pub struct LoadCounts {
     /// The genesis and each record after it.
@@ -55,21 +55,21 @@ fn verdicts_of(tallies: &[Tally]) -> (u64, u64, u64)
     (ratified as u64, expired as u64, waiting as u64)
 }
 
-/// Whether a verdict is that the proposal is ratified.
+/// Whether a verdict is "ratified".
 fn is_ratified(verdict: Verdict) -> bool
     ensures { result ≡ is_ratified_verdict verdict }
 {
     matches!(verdict, Verdict::Ratified)
 }
 
-/// Whether it is that the proposal is expired.
+/// Whether a verdict is "expired".
 fn is_expired(verdict: Verdict) -> bool
     ensures { result ≡ is_expired_verdict verdict }
 {
     matches!(verdict, Verdict::Expired)
 }
 
-/// Whether it is that the proposal waits.
+/// Whether a verdict is "waiting".
 fn is_waiting(verdict: Verdict) -> bool
     ensures { result ≡ is_waiting_verdict verdict }
 {
@@ -77,7 +77,7 @@ fn is_waiting(verdict: Verdict) -> bool
 }
 
 impl LoadCounts {
-    /// The counts before the first record. (Own)
+    /// The counts before the first record.
     pub fn new() -> LoadCounts
         ensures { result ≡ nothing_counted }
     {
@@ -120,7 +120,7 @@ impl LoadCounts {
         Ok(())
     }
 
-    /// Counts a transaction or a reward update, or whatever was refused, by its reply. (Own)
+    /// Counts a transaction or a reward update, or whatever was refused, by its reply.
     pub fn count_reply(&mut self, reply: &Reply) -> Result<(), NoMemory>
         ensures { IsCounted self.old (reply_counted self.old reply.now) self.new result }
     {
@@ -130,7 +130,7 @@ impl LoadCounts {
         }
     }
 
-    /// Counts an accepted block of the current epoch. (Own)
+    /// Counts an accepted block of the current epoch.
     pub fn count_block(&mut self) -> Result<(), NoMemory>
         ensures { IsCounted self.old (block_counted self.old) self.new result }
     {
@@ -144,7 +144,7 @@ impl LoadCounts {
         Ok(())
     }
 
-    /// Counts an accepted block that crosses a boundary, and the tallies of that boundary. (Own)
+    /// Counts an accepted block that crosses a boundary, and the tallies of that boundary.
     pub fn count_crossing(&mut self, report: &EpochReport) -> Result<(), NoMemory>
         ensures { IsCounted self.old (crossing_counted self.old report.now.tallies) self.new result }
     {
@@ -161,7 +161,7 @@ impl LoadCounts {
         Ok(())
     }
 
-    /// Counts the genesis, or a print: each is a record and nothing else. (Own)
+    /// Counts the genesis, or a print: each is a record and nothing else.
     pub fn count_other(&mut self) -> Result<(), NoMemory>
         ensures { IsCounted self.old (other_counted self.old) self.new result }
     {
@@ -170,7 +170,7 @@ impl LoadCounts {
         Ok(())
     }
 
-    /// The summary of these counts, with the three numbers that the stream was made from and the pots at the end. (Own)
+    /// The summary of these counts, the three numbers of the stream, and the pots at the end.
     pub fn summary(&self, seed: u64, accounts: u32, epochs: u32, pots: Pots) -> LoadSummary
         ensures { result ≡ summary_with seed accounts epochs self.now pots }
     {
@@ -190,8 +190,7 @@ impl LoadCounts {
     }
 }
 
-/// The summary of a replay is that of its genesis and of the records after it, counted one after another, with the pots at
-/// the end. (Own)
+/// The summary of a replay counts its genesis and its records one by one, with the last pots.
 pub fn summary_is_counted()
     ensures { SummaryIsCounted }
 {}

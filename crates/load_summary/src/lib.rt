@@ -1,4 +1,4 @@
-//! What the replay of a made stream comes to: its records, counted as they are answered, and the text of the summary.
+//! The summary of a replayed benchmark stream: its records as they are answered, and the text.
 #![tactic(auto)]
 
 mod counts;

@@ -6,7 +6,7 @@ ghost use Rattle.load_model.specs.Json.{joined};
 
 use byte_lines::{Sink, SinkFault, put_all};
 
-/// Hands over lines to a sink, one after another. After an error the sink took a front of their bytes. (Own)
+/// Writes lines to a sink, in order. After an error the sink took a prefix of their bytes.
 pub fn write_lines<K: Sink>(sink: &mut K, lines: &[Vec<u8>]) -> Result<(), SinkFault>
     ensures ok { OnOk result (K.taken sink.new ≡ append_known (K.taken sink.old) (joined (map (λ line. line.items) lines.now))) }
     ensures err { OnErr result ((k : ℕ) ×

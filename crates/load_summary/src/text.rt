@@ -11,8 +11,8 @@ ghost use Rattle.std.specs.Prelude.{codes};
 use crate::lines::write_lines;
 use crate::words::{Word, line_of};
 use byte_lines::{Sink, SinkFault};
-use coin_frac::NoMemory;
 use load_model::LoadSummary;
+use no_memory::NoMemory;
 use std::alloc::Global;
 use tx_records::Pots;
 
@@ -111,7 +111,7 @@ fn pots_line(alloc: Global, pots: &Pots) -> Result<Vec<u8>, NoMemory>
     )
 }
 
-/// The four lines of a summary, each with its line feed. (Own)
+/// The four lines of a summary, each with its line feed.
 pub fn load_text(alloc: Global, x: &LoadSummary) -> Result<Vec<Vec<u8>>, NoMemory>
     ensures { IfOk result (λ lines. map (λ line. line.items) lines.items ≡ summary_lines x.now) }
 {
@@ -123,7 +123,7 @@ pub fn load_text(alloc: Global, x: &LoadSummary) -> Result<Vec<Vec<u8>>, NoMemor
     Ok(lines)
 }
 
-/// Writes the text of a summary, a line at a time. After an error the sink took a front of it. (Own)
+/// Writes the text of a summary by lines. After an error the sink took a prefix of it.
 pub fn write_load<K: Sink>(alloc: Global, sink: &mut K, x: &LoadSummary) -> Result<(), SinkFault>
     ensures ok { OnOk result (K.taken sink.new ≡ append_known (K.taken sink.old) (joined (summary_lines x.now))) }
     ensures err { OnErr result ((k : ℕ) ×

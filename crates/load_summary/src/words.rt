@@ -4,8 +4,8 @@ ghost use Rattle.load_model.specs.SummaryText.{line_of_words};
 ghost use Rattle.load_summary.specs.Words.{word_text};
 ghost use Rattle.text_model.specs.Words.{spaced};
 
-use coin_frac::NoMemory;
 use itoa::{Buffer, Integer};
+use no_memory::NoMemory;
 use std::alloc::Global;
 
 /// A word of a line, as what it is printed from.

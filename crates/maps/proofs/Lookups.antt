@@ -60,7 +60,7 @@ module _ {K X : Type 0} {cmp : K → K → Ordering} (o : IsTotalOrder cmp) wher
       ap (λ (x : Option X). is_some x) (value_at-without_key k es q h)
       ∙ elim (eq_by_cmp cmp k q) as (λ b. is_some (cond b None (value_at cmp es q)) ≡ (not b && has_key cmp es q)) [ true ↦ refl | false ↦ refl ]
 
-  -- q's entry is changed exactly where q is the key that is changed
+  -- q's entry is changed if and only if q is the key that is changed
   changed_one : (a c b : Bool) (f : X → X) (x : X) (r : Option X) → (b ≡ true → c ≡ a) → cond b (Some (cond c (f x) x)) (cond a (option_map f r) r) ≡ cond a (option_map f (cond b (Some x) r)) (cond b (Some x) r)
   changed_one a c true f x r e = rw (e refl) (elim a as (λ b. Some (cond b (f x) x) ≡ cond b (Some (f x)) (Some x)) [ true ↦ refl | false ↦ refl ])
   changed_one true c false f x r e = refl

@@ -1,4 +1,4 @@
--- Keys that stand in order do not repeat.
+-- Keys in order do not repeat.
 use Rattle.std.proofs.Common.{◌≡◌, List, [], ◌∷◌, false, ◌||◌, refl, ap, ◌∙◌}
 use Rattle.std.specs.declared.cmp.Ordering.{Ordering}
 use Rattle.std.specs.declared.cmp.Ordering.TheVariants.{Less}

@@ -1,4 +1,4 @@
--- Lists whose keys stand in order, and what a search by halves tells of a key among the entries of a map.
+-- Lists with keys in order, and the result of a binary search for a key in the entries of a map.
 use Rattle.std.proofs.Common.{◌≡◌, ℕ, zero, suc, ◌+◌, ◌<◌, ◌≤◌, ◌||◌, List, [], ◌∷◌, length, get_or, Bool, true, false, IsTrue, ◌↔◌, Result, Ok, Err, refl, ap, sym, ◌∙◌, arith}
 use Rattle.std.specs.declared.cmp.Ordering.{Ordering}
 use Rattle.std.specs.declared.cmp.Ordering.TheVariants.{Less, Greater}
@@ -61,7 +61,7 @@ module _ {K X : Type 0} {cmp : K → K → Ordering} (o : IsTotalOrder cmp) wher
       ap (λ r. is_eq r || has k es) (low zero e (omega arith) (omega arith))
       ∙ missed k es i (λ j d lt within. low (suc j) d (omega arith) (omega arith)) (λ j d le lt. high (suc j) d (omega arith) (omega arith))
 
-  -- it is found exactly where it is among them
+  -- it is found if and only if it is among them
   pub found_is : (k : K) (es : List (K × X)) (r : Result ℕ ℕ) → IsMap cmp es → IsSearchInRange r (length es) → IsBinarySearchResult (λ (e : K × X). cmp e.0 k) es r → is_ok r ≡ has k es
   found_is k [] (Ok i) h within equal = absurd (omega arith)
   found_is k (e ∷ es) (Ok i) h within equal = sym (list_any_at (λ (x : K × X). eq_by_cmp cmp x.0 k) (e ∷ es) i e within (ap is_eq (equal e)))

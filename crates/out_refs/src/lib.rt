@@ -1,4 +1,4 @@
-//! A list of references to outputs that knows the first of them that stands in it twice.
+//! A list of references to outputs that knows its first repeated reference.
 #![tactic(auto)]
 
 mod out_refs;

@@ -2,12 +2,13 @@ ghost use Rattle.std.specs.Prelude.{◌≡◌, [], IsTrue, ◌↔◌, IfOk, leng
 ghost use Rattle.out_refs.specs.Repeated.{first_repeated};
 
 use crate::repeats::first_repeated;
-use coin_frac::NoMemory;
 use gov_ids::OutRef;
+use no_memory::NoMemory;
 use std::alloc::Global;
 use std::marker::Model;
 
-/// A list of references that contracts see as the list of its items. It knows the first that is repeated from the day it is made, so no rule looks back. (Own)
+/// A list of references. Contracts see the list of its items.
+/// It finds its first repeated reference when it is made, so that no rule searches for it.
 #[derive(Debug, Drop)]
 pub struct OutRefs {
     refs: Vec<OutRef>,
@@ -27,7 +28,7 @@ impl Model for OutRefs {
 }
 
 impl OutRefs {
-    /// The empty list, which takes no memory. (Own)
+    /// The empty list. It takes no memory.
     pub fn new(alloc: Global) -> Self
         ensures { result ≡ [] }
     {
@@ -37,7 +38,8 @@ impl OutRefs {
         }
     }
 
-    /// The list of these references. `NoMemory` may come where there are more than eight; a shorter list takes none. (Own)
+    /// The list of these references.
+    /// `NoMemory`: only with more than eight; a shorter list takes no memory.
     pub fn from_vec(alloc: Global, refs: Vec<OutRef>) -> Result<Self, NoMemory>
         ensures { IfOk result (λ list. list ≡ refs.items) }
     {
@@ -45,35 +47,35 @@ impl OutRefs {
         Ok(OutRefs { refs, repeated })
     }
 
-    /// The references again, without taking memory. (Own)
+    /// The references again. It takes no memory.
     pub fn into_vec(self) -> Vec<OutRef>
         ensures { result.items ≡ self }
     {
         self.refs
     }
 
-    /// The references as a slice. (Own)
+    /// The references as a slice.
     pub fn as_slice(&self) -> &[OutRef]
         ensures { result.now ≡ self.now }
     {
         self.refs.as_slice()
     }
 
-    /// How many references there are. (Own)
+    /// How many references there are.
     pub fn len(&self) -> usize
         ensures { result ≡ length self.now }
     {
         self.refs.len()
     }
 
-    /// Whether there is none. (Own)
+    /// Whether the list is empty.
     pub fn is_empty(&self) -> bool
         ensures { IsTrue result ↔ (self.now ≡ []) }
     {
         self.refs.is_empty()
     }
 
-    /// The place, counted from 0, of the first reference that stands in the list before it; none where each stands there once. (Own)
+    /// The place, from 0, of the first reference that is in the list before it too.
     pub fn first_repeated(&self) -> Option<usize>
         ensures { result ≡ first_repeated self.now }
     {

@@ -1,18 +1,18 @@
-// The search for the first reference that is repeated: a short list is looked through again for each, a longer one is put into a set.
+// Finds the first repeated reference: pair by pair in a short list, with a set in a longer one.
 ghost use Rattle.std.specs.Prelude.{◌≡◌, IfOk, take};
 ghost use Rattle.gov_ids.specs.Same.{same_outref};
 ghost use Rattle.maps.specs.Words.{among};
 ghost use Rattle.out_refs.specs.Repeated.{first_repeated};
 
-use coin_frac::NoMemory;
 use gov_ids::OutRef;
+use no_memory::NoMemory;
 use std::alloc::Global;
 use std::collections::BTreeSet;
 
-/// The most references that are looked through again for each of them, without memory.
+// The longest list that is compared pair by pair, without memory.
 const SHORT: usize = 8;
 
-/// The place of the first reference that stands before it too.
+/// The place, from 0, of the first reference that is in the list before it too.
 pub fn first_repeated(alloc: Global, refs: &[OutRef]) -> Result<Option<usize>, NoMemory>
     ensures { IfOk result (λ place. place ≡ first_repeated refs.now) }
 {
@@ -22,7 +22,7 @@ pub fn first_repeated(alloc: Global, refs: &[OutRef]) -> Result<Option<usize>, N
     by_a_set(alloc, refs)
 }
 
-/// The same, with no memory.
+// Compares each reference with those before it. It takes no memory.
 fn by_looking_back(refs: &[OutRef]) -> Option<usize>
     ensures { result ≡ first_repeated refs.now }
 {
@@ -34,14 +34,14 @@ fn by_looking_back(refs: &[OutRef]) -> Option<usize>
     None
 }
 
-/// Whether a reference is among the first of these.
+// Whether a reference is among the first `place` ones.
 fn stands_before(refs: &[OutRef], place: usize, sought: &OutRef) -> bool
     ensures { result ≡ among same_outref sought.now (take place refs.now) }
 {
     refs.iter().take(place).any(|at| sought == at)
 }
 
-/// The same, with a set of those that stand before.
+// Puts each reference into a set, until one is in it already.
 fn by_a_set(alloc: Global, refs: &[OutRef]) -> Result<Option<usize>, NoMemory>
     ensures { IfOk result (λ place. place ≡ first_repeated refs.now) }
 {

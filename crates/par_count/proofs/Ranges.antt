@@ -46,7 +46,7 @@ module _ (workers : ℕ) where
   rising : (w : ℕ) → 0 < workers → first_byte w workers ≤ first_byte (w + 1) workers
   rising w some = le-div (w * 256 / workers) ((w + 1) * 256) workers some (omega (arith, div-add-mod' (w * 256) workers))
 
-  -- whether a credential comes past what stands before a worker's range
+  -- whether a credential is after those before a worker's range
   abbrev past_edge : ℕ → Credential → Bool
   past_edge w c = if w == 0 then true else if w == workers then false else is_lt (credential_cmp (last_below (first_byte w workers)) c)
 
@@ -140,7 +140,7 @@ module _ (es : List (Credential × Entry)) (c : Count) (parts : List (List ℕ))
       let h = each w [] lt in
       h.sums d ∙ ap (λ b. cond b (stake (share_of w (length parts) (entries_left c es)) d) 0) (same_keys c.sums (slice_index_or parts w []) d h.each)
 
-  -- the parts of the first workers have the stakes among what stands before the next edge
+  -- the parts of the first workers have the stakes of the entries before the next edge
   so_far : (w : ℕ) (d : Drep) → w ≤ length parts → sum_by (λ (p : List ℕ). sum_for (by_drep c.sums p) d) (take w parts) ≡ cond (has_key drep_cmp c.sums d) (stake (before w) d) 0
   so_far zero d le =
       zero_either (has_key drep_cmp c.sums d) ∙ ap (λ (l : List (Credential × Entry)). cond (has_key drep_cmp c.sums d) (stake l d) 0) (sym (none_pass (entries_left c es)))

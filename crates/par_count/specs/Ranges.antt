@@ -15,7 +15,7 @@ first_byte worker workers = worker * 256 / workers
 abbrev pub last_below : ℕ → Credential
 last_below byte = record { hash = (byte - 1) ∷ replicate 27 255; kind = Script }
 
--- the last credential before a worker's range, none before the first range; and none before what would follow the last
+-- the last credential before a worker's range; none before the first and after the last range
 abbrev pub last_before : ℕ → ℕ → Option Credential
 last_before worker workers = if (worker == 0) || (worker == workers) then None else Some (last_below (first_byte worker workers))
 
@@ -23,7 +23,7 @@ last_before worker workers = if (worker == 0) || (worker == workers) then None e
 abbrev pub share_of : ℕ → ℕ → List (Credential × Entry) → List (Credential × Entry)
 share_of worker workers es = entries_between (last_before worker workers) (last_before (worker + 1) workers) es
 
--- a part has the stake of each DRep among the entries in a worker's range that the count has not visited
+-- a part has the stake of each DRep, of the entries in a worker's range not yet visited
 pub record IsShareOf (es : List (Credential × Entry)) (c : Count) (worker workers : ℕ) (part : List ℕ) : Type 0 where
   pub each : length part ≡ length c.sums
   pub sums : AreSums (share_of worker workers (entries_left c es)) c.deposits (by_drep c.sums part)

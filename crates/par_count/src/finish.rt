@@ -11,11 +11,9 @@ use drep_pulser::{Counted, Counting, Part, Walk};
 use gov_ids::{CredKind, Credential};
 use std::thread::{Threads, for_each_mut};
 
-/// Visits all entries that are left, shared among workers by the first byte of an account's hash: with W for the lesser
-/// of `workers` and the number given to `begin`, worker w has the accounts whose first byte is at least 256·w/W and below
-/// 256·(w+1)/W, both rounded down. Each worker enters the gate once before its range, even where the range is empty. The
-/// book's frozen entries are those of `begin`. It takes no memory. (The DRep pulser of cardano-ledger; how it is shared is
-/// own)
+/// Visits all entries left, shared by the first byte of the account's hash. It takes no memory.
+/// W: the lesser of `workers` and `begin`'s. Worker w has 256·w/W to below 256·(w+1)/W, floored.
+/// Each enters the gate once, first, even if idle. (The DRep pulser of cardano-ledger; shares: Own)
 pub fn finish_shared<R: Threads + Sync, G: Gate + Sync>(
     rt: &R,
     counting: Counting,
@@ -35,7 +33,7 @@ pub fn finish_shared<R: Threads + Sync, G: Gate + Sync>(
     walk.close(parts)
 }
 
-// Each worker adds the accounts in its range to a part of its own.
+// Each worker adds the accounts in its range to its own part.
 fn add_shares<R: Threads + Sync, G: Gate + Sync>(
     rt: &R,
     walk: &Walk,
@@ -57,7 +55,7 @@ fn add_shares<R: Threads + Sync, G: Gate + Sync>(
     for_each_mut(rt, parts, workers, &work);
 }
 
-// A worker enters, and adds the accounts in its range to its part.
+// A worker enters the gate, then adds the accounts in its range to its part.
 fn add_share<G: Gate>(
     walk: &Walk,
     book: &AccountBook,
@@ -78,7 +76,7 @@ fn add_share<G: Gate>(
     walk.add(book, after.as_ref(), until.as_ref(), part);
 }
 
-// The last credential before a worker's range, none before the first; and none before what would follow the last.
+// The last credential before a worker's range; none before the first and after the last range.
 fn last_before(worker: usize, workers: usize) -> Option<Credential>
     requires some { 0 < workers }
     requires few { workers ≤ 64 }

@@ -1,11 +1,11 @@
-/// Where a worker enters before its share of the work. It returns, and changes nothing that a clause names: the program's
-/// gate does nothing. (Own)
+/// Where a worker enters before its share of the work. The program's gate does nothing.
+/// It returns, and changes nothing that a clause names.
 pub trait Gate {
-    /// A worker enters. Workers are counted from 0. (Own)
+    /// A worker enters. Workers are counted from 0.
     fn enter(&self, worker: u32);
 }
 
-/// A gate that stands open: each worker goes on. (Own)
+/// An open gate: each worker goes on.
 #[derive(Clone, Copy)]
 pub struct OpenGate;
 

@@ -1,4 +1,4 @@
-//! The same count and the same tallies, by several workers: they give what one gives.
+//! The count and the tallies by several workers: the results are those of one.
 #![tactic(auto)]
 
 mod finish;

@@ -9,10 +9,9 @@ use snapshots::Frozen;
 use std::thread::{Threads, for_each_chunk_mut};
 use tally::{TallyCell, fill_cells};
 
-/// The counts of the frozen proposals, written into their cells by `workers` workers. With s for the number of cells
-/// divided by `workers`, rounded up, worker w has the cells from w·s to (w+1)·s, the last not included, as far as there
-/// are cells. Each worker that has a cell enters the gate once before its cells. It takes no memory. (CIP-1694,
-/// Ratification; how it is shared is own)
+/// Writes the counts of the frozen proposals into their cells. It takes no memory.
+/// s is cells/`workers`, rounded up: worker w has the cells from w·s to below (w+1)·s, if any.
+/// A worker with cells enters the gate once, first. (CIP-1694, Ratification; the shares: Own)
 pub fn tally_all<R: Threads + Sync, G: Gate + Sync>(
     rt: &R,
     f: &Frozen,

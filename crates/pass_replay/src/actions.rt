@@ -45,7 +45,7 @@ fn pools_thresholds(n: &mut Numbers) -> Option<[Unit; 5]> {
     }
 }
 
-// A parameter of each group, security parameters and others, and the thresholds by which the rest of the pass goes.
+// A parameter of each group, security parameters and others, and the thresholds of the later pass.
 fn update(n: &mut Numbers) -> Update {
     Update {
         max_tx_size: wide(n),

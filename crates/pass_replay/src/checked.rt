@@ -1,4 +1,4 @@
-//! What a snapshot is to hold, so that it can be counted and passed over.
+//! What a snapshot must hold so that a count and a pass can run over it.
 ghost use Rattle.std.specs.Prelude.{◌≡◌, ◌+◌, ◌^◌, ◌<◌, sum_by, IfOk};
 ghost use Rattle.std.specs.List.{All};
 ghost use Rattle.gov_actions.specs.declared.action.Proposal.{Proposal};
@@ -16,7 +16,7 @@ use drep_pulser::Counted;
 use gov_ids::{Credential, Drep};
 use snapshots::{Frozen, FrozenPool};
 
-// Above this, what pools hold is no small amount, and a row is refused.
+// A row is refused if its pools hold more than this.
 const MOST: u64 = 1_000_000;
 
 // The sum of two amounts that are not large.

@@ -15,7 +15,7 @@ use std::alloc::Global;
 use std::marker::Brand;
 use std::sync::ledger::{Blank, Ledger};
 
-// Above this, what accounts hold is no small amount, and a row is refused.
+// A row is refused if its accounts hold more than this.
 const MOST: u64 = 1_000_000;
 
 fn drep(kind: u64, byte: u8) -> Option<Drep> {

@@ -1,6 +1,6 @@
-//! Reads snapshots as rows of numbers and prints what each proposal of them counts and needs, and what the pass over each
-//! comes to. A line that begins with '#' names the row below it and is printed as it is. The rows and what is wanted of them
-//! are made by a script from a plain program.
+//! Reads snapshots as rows of numbers; prints the counts and needs of proposals, and each pass.
+//! A line that begins with '#' names the row below it and is printed as it is.
+//! A script makes the rows and the wanted output from a plain program.
 #![tactic(auto)]
 
 mod actions;

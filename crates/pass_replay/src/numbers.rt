@@ -4,7 +4,7 @@ use coin_frac::Unit;
 use gov_ids::{Account, ActionId, CredKind, Credential, TxId};
 use std::alloc::Global;
 
-// The numbers of a line, and how many of them were asked for. Past the end each is 0.
+// The numbers of a line, and how many of them were read. Past the end each is 0.
 #[derive(Drop)]
 pub(crate) struct Numbers {
     all: Vec<u64>,
@@ -20,7 +20,7 @@ impl Numbers {
         Ok(Numbers { all, asked: 0 })
     }
 
-    // A row that is too short or too long says something else than was meant.
+    // A row that is too short or too long is refused.
     pub(crate) fn end(&self) -> Result<()> {
         if self.asked == self.all.len() {
             Ok(())
@@ -51,7 +51,7 @@ impl Numbers {
         self.next() == 1
     }
 
-    // Above and below the line. What is no part is read as the nearest.
+    // Numerator and denominator. What is no fraction up to 1 is read as the nearest.
     pub(crate) fn unit(&mut self) -> Unit {
         let num = self.next();
         let den = self.next().max(1);

@@ -1,4 +1,4 @@
-//! Proposals with their votes, of which each id stands once and each voter on a proposal stands in order.
+//! Proposals with their votes. Each id occurs once, and the voters on a proposal are in order.
 ghost use Rattle.std.specs.Prelude.{◌≡◌, ◌↔◌, true, not, IfOk};
 ghost use Rattle.std.specs.Bool.{IsTrue};
 ghost use Rattle.std.specs.List.{All, list_all};
@@ -113,7 +113,7 @@ fn check_next(first: &Proposal, rest: &Listed<Proposal>) -> Result<()>
     check_order(&first.votes)
 }
 
-// One more proposal, before the others.
+// Adds a proposal before the others, if its id is new and its voters are in order.
 fn before(first: Proposal, rest: Listed<Proposal>) -> Result<Listed<Proposal>>
     requires distinct { HaveDistinctIds rest }
     requires voters { All (λ (a : Proposal). IsMap voter_cmp a.votes) rest }
@@ -129,7 +129,7 @@ fn before(first: Proposal, rest: Listed<Proposal>) -> Result<Listed<Proposal>>
     }
 }
 
-// The same of one with a new id, whose voters stand in order.
+// Adds a proposal with a new id, whose voters are in order, before the others.
 fn inserted(first: Proposal, rest: Listed<Proposal>) -> Result<Listed<Proposal>>
     requires new { list_all (λ (p : Proposal). not (same_action first.id p.id)) rest ≡ true }
     requires order { IsMap voter_cmp first.votes }
@@ -143,7 +143,7 @@ fn inserted(first: Proposal, rest: Listed<Proposal>) -> Result<Listed<Proposal>>
     Ok(all)
 }
 
-// A row has the proposals from the last to the first.
+// A row lists the proposals from the last to the first.
 pub(crate) fn proposals(alloc: Global, n: &mut Numbers) -> Result<Listed<Proposal>>
     ensures distinct { IfOk result HaveDistinctIds }
     ensures voters { IfOk result (All (λ (a : Proposal). IsMap voter_cmp a.votes)) }

@@ -20,7 +20,7 @@ use snapshots::Frozen;
 use std::alloc::Global;
 use std::thread::Threads;
 
-// What each proposal counts and needs, and what the pass comes to.
+// Prints what each proposal counts and needs, and the result of the pass.
 fn show_pass<R: Print + Threads + Sync>(
     rt: &R,
     alloc: Global,
@@ -37,7 +37,7 @@ fn show_pass<R: Print + Threads + Sync>(
     Ok(shown?)
 }
 
-// The count that stands in a row beside its snapshot, and what is printed of both.
+// Reads the count beside the snapshot in a row, and prints both.
 fn show_counted<R: Print + Threads + Sync>(
     rt: &R,
     alloc: Global,

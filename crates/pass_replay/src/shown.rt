@@ -39,7 +39,7 @@ fn needs(f: &Frozen, a: &Proposal) -> [Need; 3] {
     ]
 }
 
-// How many accounts were counted, what abstains and has no confidence by delegation, and the stakes of ten credentials.
+// The number of counted accounts, the two predefined stakes, and the stakes of ten credentials.
 pub(crate) fn show_stakes(rt: &impl Print, c: &Counted) -> io::Result<()> {
     let (abstain, no_confidence) = (c.stake(&Drep::Abstain), c.stake(&Drep::NoConfidence));
     print!(rt; "stakes {} {abstain} {no_confidence}", c.total())?;

@@ -31,7 +31,7 @@ fn no_part() -> Unit {
     Unit::new(0, 1).unwrap()
 }
 
-// What a pass does not look at is as in the plain program.
+// What a pass does not read is as in the plain program.
 fn params(
     committee_min_size: u16,
     committee_max_term_length: u32,
@@ -162,7 +162,7 @@ fn seated(alloc: Global, bare: EnactState, n: &mut Numbers) -> Result<EnactState
     }
 }
 
-// The thresholds, the treasury and the constitution, the committee where there is one, and the last enacted ids.
+// Thresholds, treasury, constitution, the committee if there is one, and the last enacted ids.
 pub(crate) fn start(alloc: Global, n: &mut Numbers) -> Result<EnactState>
     ensures { IfOk result (λ s. IsMap credential_cmp (members_of s.committee)) }
 {

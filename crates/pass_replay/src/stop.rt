@@ -1,4 +1,4 @@
-//! Why a row is not passed over: it is no row, or memory or the outside fails. The program then ends with status 1.
+//! Why a row fails: it is no row, or memory or the outside fails. The program ends with status 1.
 use coin_frac::NoMemory;
 use std::alloc::{AllocError, AllocFailed};
 use std::io;

@@ -1,5 +1,5 @@
-//! The counts of the proposals of a snapshot, by each number of workers: they must agree, and each worker that has a proposal
-//! must enter the gate once.
+//! Counts the proposals of a snapshot with each number of workers. The counts must agree, and each
+//! worker that has a proposal must enter the gate once.
 ghost use Rattle.std.specs.Prelude.{◌≤◌};
 ghost use Rattle.tally.specs.Counted.{CanBeCounted};
 
@@ -12,7 +12,7 @@ use std::sync::atomic::{AtomicU64, Ordering};
 use std::thread::Threads;
 use tally::TallyCell;
 
-// How many workers there are at most.
+// The greatest number of workers.
 const MOST: u32 = 64;
 
 // A gate that remembers how often workers entered, and which did, the first as the lowest bit.
@@ -30,7 +30,7 @@ impl Gate for Entered {
     }
 }
 
-// Whether each of the first workers that the cells suffice for entered once, and no other.
+// Whether exactly the first workers, as many as have cells, entered, each once.
 fn is_entered(gate: &Entered, cells: usize, workers: u32) -> bool
     requires { 1 ≤ workers }
 {

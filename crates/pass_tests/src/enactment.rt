@@ -1,4 +1,4 @@
-//! What each action changes, and that it changes nothing else of what is compared.
+//! What each action changes, and that it changes nothing else that the tests compare.
 ghost use Rattle.std.specs.Prelude.{◌≡◌, ◌≤◌, IfOk};
 ghost use Rattle.gov_ids.specs.Orders.{credential_cmp};
 ghost use Rattle.gov_model.specs.Enacted.{withdrawn_by};
@@ -158,7 +158,7 @@ fn action(alloc: Global, kind: u8) -> Result<Action, Fail>
     }
 }
 
-// Two members, who were enacted by an action of id 6.
+// Two members, whom an action of id 6 enacted.
 fn start(rt: &impl Abort, alloc: Global) -> Result<EnactState, Fail>
     ensures treasury { IfOk result (λ s. s.treasury ≡ 100) }
     ensures in_order { IfOk result (λ s. IsMap credential_cmp (members_of s.committee)) }
@@ -197,7 +197,7 @@ fn term(s: &EnactState, byte: u8) -> u64 {
     0
 }
 
-// The number below the line of the threshold, and the terms of three cold keys. 0 where there is none.
+// The denominator of the threshold, and the terms of three cold keys; 0 where there is none.
 fn committee_of(s: &EnactState) -> [u64; 4] {
     let below = s.committee.as_ref().map_or(0, |c| c.threshold.den());
     [below, term(s, 1), term(s, 2), term(s, 3)]

@@ -1,4 +1,4 @@
-//! A count in pulses: of what was frozen, whatever changes meanwhile, and of no accounts at all.
+//! A count in pulses: of what was frozen, whatever changes meanwhile, and of no accounts.
 ghost use Rattle.std.specs.Prelude.{◌≡◌, ◌<◌, IfOk};
 ghost use Rattle.gov_ids.specs.Orders.{credential_cmp};
 ghost use Rattle.view_map.specs.View.{frozen_of};
@@ -57,7 +57,7 @@ fn put_all(book: &mut AccountBook, entries: [(u8, u64, u8); 3]) -> Result<(), No
     Ok(())
 }
 
-// Two DReps. The second expired long ago.
+// Two DReps; the second expired long ago.
 fn dreps(alloc: Global) -> Result<DrepBook, NoMemory> {
     let mut dreps = DrepBook::new(alloc);
     for (byte, expiry) in [(BOB, 20), (EVE, 0)] {
@@ -86,7 +86,7 @@ fn begun(
     begin(alloc, book, &dreps(alloc)?, deposits, 1)
 }
 
-// One visited, then changes before the cursor and behind it, then the rest.
+// Visits one, changes entries before and after the cursor, then visits the rest.
 fn counts_what_was_frozen_on<L: Ledger>(
     rt: &impl Abort,
     alloc: Global,
@@ -125,7 +125,7 @@ fn counts_what_was_frozen_on<L: Ledger>(
     Ok(())
 }
 
-// A pulse of the greatest size, over none.
+// A pulse of the greatest size, over no entries.
 fn ends_on<L: Ledger>(rt: &impl Abort, alloc: Global, blank: Blank) -> Result<(), NoMemory>
     requires name { blank.name ≡ L.name }
     requires parts { blank.parts ≡ L.parts }

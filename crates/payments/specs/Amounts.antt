@@ -1,4 +1,4 @@
--- What payments come to, over the accounts of a ledger: the words of run_model's boundary, which reads no more of it. (EPOCH of the formal specification)
+-- What payments add up to, over the accounts of a ledger. (EPOCH of the formal specification)
 use Rattle.std.specs.Prelude.{ℕ, ◌+◌, not, List, Option, Some, None, filter, sum_by, if◌then◌else◌}
 use Rattle.gov_ids.specs.declared.Account.{Account}
 use Rattle.gov_ids.specs.declared.Credential.{Credential}
@@ -15,7 +15,7 @@ accounts_credited ps accounts = each_value (λ c (r : Registered). record r { re
 abbrev pub claimed_of : List (Credential × Registered) → List (Credential × ℕ) → ℕ
 claimed_of accounts ps = sum_by (λ p. p.1) (filter (λ p. has_key credential_cmp accounts p.0) ps)
 
--- the sum of the amounts of those that are not: run_model's `unclaimed`
+-- the sum of the amounts of accounts that are not registered: run_model's `unclaimed`
 abbrev pub unclaimed_of : List (Credential × Registered) → List (Credential × ℕ) → ℕ
 unclaimed_of accounts ps = sum_by (λ p. p.1) (filter (λ p. not (has_key credential_cmp accounts p.0)) ps)
 
@@ -23,6 +23,6 @@ unclaimed_of accounts ps = sum_by (λ p. p.1) (filter (λ p. not (has_key creden
 abbrev pub all_amounts : List (Credential × ℕ) → ℕ
 all_amounts ps = sum_by (λ p. p.1) ps
 
--- where a payment goes, none for the treasury: run_model's `goes_to`
+-- the account that a payment goes to; none is the treasury: run_model's `goes_to`
 abbrev pub goes_by : List (Credential × Registered) → Account → Option Account
 goes_by accounts a = if has_key credential_cmp accounts a.cred then Some a else None

@@ -1,4 +1,5 @@
--- What payments leave of the accounts and the state: outputs and frozen entries stay. (EPOCH of the formal specification)
+-- What payments change in accounts and state; outputs and frozen entries remain.
+-- (EPOCH of the formal specification)
 use Rattle.std.specs.Prelude.{◌≡◌, ℕ, ◌+◌, ◌-◌, List}
 use Rattle.book_records.specs.declared.Registered.{Registered}
 use Rattle.gov_actions.specs.declared.state.EnactState.{EnactState}

@@ -1,4 +1,4 @@
-//! Payments to accounts, as a boundary makes them: rewards, refunds of deposits and enacted withdrawals.
+//! Payments of a boundary to accounts: rewards, refunds of deposits, enacted withdrawals.
 #![tactic(auto)]
 
 ghost use Rattle.std.specs.Prelude.{◌≡◌, ◌<◌, ◌^◌, true, IfOk, OnOk, if◌then◌else◌};
@@ -11,12 +11,13 @@ ghost use Rattle.view_map.specs.View.{frozen_of};
 
 mod paid;
 
-use coin_frac::NoMemory;
 use gov_ids::Credential;
+use no_memory::NoMemory;
 pub use paid::{goes_to, paid_out};
 use stake_book::StakeBook;
 
-/// Pays to each registered account its amounts, and gives what was paid, in lovelace. An account that is not registered has nothing. (EPOCH of the formal specification)
+/// Pays each registered account its amounts and gives the sum paid, in lovelace.
+/// It pays other accounts nothing. (EPOCH of the formal specification)
 pub fn pay_registered(
     mut stake: StakeBook,
     payments: &[(Credential, u64)],
@@ -38,7 +39,8 @@ pub fn pay_registered(
     Ok((stake, paid))
 }
 
-/// Pays as `pay_registered` does, and gives what was not paid, in lovelace: the treasury keeps it. (EPOCH and POOLREAP of the formal specification)
+/// Pays as `pay_registered` does, but gives what was not paid, in lovelace: the treasury keeps it.
+/// (EPOCH and POOLREAP of the formal specification)
 pub fn pay_all(
     stake: StakeBook,
     payments: &[(Credential, u64)],
@@ -56,7 +58,7 @@ pub fn pay_all(
     Ok((stake, all - paid))
 }
 
-// Pays an amount to an account, and gives what was paid: nothing where it is not registered.
+// Pays an amount to an account and gives what was paid: 0 if the account is not registered.
 fn paid_to(stake: &mut StakeBook, c: &Credential, amount: u64) -> Result<u64, NoMemory>
     requires room { has_key credential_cmp (accounts_of stake.old) c.now ≡ true → HasRoom amount stake.old }
     ensures paid { IfOk result (λ n. n ≡ (if has_key credential_cmp (accounts_of stake.old) c.now then amount else 0)) }
@@ -68,7 +70,7 @@ fn paid_to(stake: &mut StakeBook, c: &Credential, amount: u64) -> Result<u64, No
     Ok(if stake.pay(c, amount)? { amount } else { 0 })
 }
 
-// All amounts, added up.
+// The sum of all amounts.
 fn all_amounts(payments: &[(Credential, u64)]) -> u64
     requires fits { all_amounts payments.now < 2 ^ 64 }
     ensures { result ≡ all_amounts payments.now }

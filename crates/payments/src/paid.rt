@@ -5,15 +5,16 @@ ghost use Rattle.stake_book.specs.Stakes.{AreKept, HasRoom, accounts_of};
 ghost use Rattle.view_map.specs.View.{frozen_of};
 
 use crate::pay_all;
-use coin_frac::NoMemory;
 use gov_actions::EnactState;
 use gov_ids::{Account, Credential};
 use ledger_books::with_treasury;
 use listed::Boxed;
+use no_memory::NoMemory;
 use stake_book::StakeBook;
 use std::alloc::Global;
 
-/// Pays each registered account its amounts, in lovelace, and the treasury those of the others. (EPOCH and POOLREAP of the formal specification)
+/// Pays each registered account its amounts, in lovelace; the treasury has those of the others.
+/// (EPOCH and POOLREAP of the formal specification)
 pub fn paid_out(
     alloc: Global,
     stake: StakeBook,
@@ -35,7 +36,8 @@ pub fn paid_out(
     Ok((stake, with_treasury(alloc, state, treasury)?))
 }
 
-/// Where a payment goes: to the account, or, none, to the treasury, where it is not registered. (EPOCH and POOLREAP of the formal specification)
+/// The account that a payment goes to; none is the treasury, if the account is not registered.
+/// (EPOCH and POOLREAP of the formal specification)
 pub fn goes_to(stake: &StakeBook, account: Account) -> Option<Account>
     ensures { result ≡ goes_by (accounts_of stake.now) account }
 {

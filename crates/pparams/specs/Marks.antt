@@ -1,4 +1,6 @@
--- What an update of the parameters touches, by the marks of each parameter. (CIP-1694, Protocol parameter groups; the groups of PParams and the well-formedness of updates of the formal specification; which parameters an update may not set to 0 is own)
+-- What an update touches, by the marks of each parameter. (CIP-1694, Protocol parameter groups;
+-- groups of PParams and well-formedness of updates of the formal specification)
+-- Which parameters an update may not set to 0 is own.
 use Rattle.std.specs.Prelude.{ℕ, ◌==◌, Bool, true, false, not, ◌&&◌, List, [], ◌∷◌, Option, Some, None, is_some}
 use Rattle.std.specs.List.{list_any, list_all}
 use Rattle.pparams.specs.declared.Update.{Update}
@@ -19,27 +21,28 @@ same_group technical technical = true
 same_group governance governance = true
 same_group _ _ = false
 
--- what an update says of one parameter: its group, whether it is of the security group too, whether it is named, and whether it is named with a value that it may not have
+-- one parameter in an update: its group, whether it is of the security group too,
+-- whether the update names it, and whether the update gives it a forbidden value
 pub record Mark : Type 0 where
   pub group : Group
   pub security : Bool
   pub named : Bool
   pub forbidden : Bool
 
--- a parameter that may have every value
+-- a parameter without forbidden values
 abbrev pub none_forbidden : {A : Type 0} → Option A → Bool
 none_forbidden o = false
 
--- one that may not be 0
+-- a parameter that may not be 0
 abbrev pub zero_forbidden : Option ℕ → Bool
 zero_forbidden None = false
 zero_forbidden (Some n) = n == 0
 
--- a parameter of the security group, beside its own group
+-- a parameter of its own group and of the security group
 abbrev pub secure : {A : Type 0} → (Option A → Bool) → Group → Option A → Mark
 secure is_forbidden group o = record { group = group; security = true; named = is_some o; forbidden = is_forbidden o }
 
--- one of its own group alone
+-- a parameter of its own group alone
 abbrev pub plain : {A : Type 0} → (Option A → Bool) → Group → Option A → Mark
 plain is_forbidden group o = record { group = group; security = false; named = is_some o; forbidden = is_forbidden o }
 
@@ -82,7 +85,7 @@ marks_of u =
 abbrev pub touches : Group → Update → Bool
 touches group u = list_any (λ m. m.named && same_group m.group group) (marks_of u)
 
--- which groups an update touches
+-- the groups that an update touches
 abbrev pub groups_of : Update → Groups
 groups_of u = record {
   network = touches network u;

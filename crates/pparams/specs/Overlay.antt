@@ -1,4 +1,4 @@
--- An update laid over the parameters. (the application of updates in PParams of the formal specification)
+-- An update applied to the parameters. (PParams of the formal specification)
 use Rattle.std.specs.Prelude.{unwrap_or}
 use Rattle.pparams.specs.declared.Params.{Params}
 use Rattle.pparams.specs.declared.Update.{Update}

@@ -6,7 +6,8 @@ mod overlay;
 
 use coin_frac::{Ratio, Unit};
 
-/// The protocol parameters. Those that no rule here reads are kept and printed. (CIP-1694, Protocol parameter groups; PParams of the formal specification)
+/// The protocol parameters. Those that no rule here reads are kept and printed.
+/// (CIP-1694, Protocol parameter groups; PParams of the formal specification)
 #[derive(Clone, Copy, Debug)]
 pub struct Params {
     /// Bytes; kept and not tested.
@@ -21,7 +22,7 @@ pub struct Params {
     pub max_tx_ex_units: (u64, u64),
     /// Memory and steps; kept and not tested.
     pub max_block_ex_units: (u64, u64),
-    /// How many collateral inputs a transaction may have.
+    /// The greatest number of collateral inputs of a transaction.
     pub max_collateral_inputs: u16,
     /// Lovelace per byte of a transaction.
     pub min_fee_a: u64,
@@ -45,15 +46,16 @@ pub struct Params {
     pub min_fee_ref_script_cost_per_byte: Ratio,
     /// Kept and not used.
     pub a0: Ratio,
-    /// How many epochs ahead a retirement may lie.
+    /// The greatest number of epochs from now to a pool's retirement.
     pub e_max: u32,
     /// Kept and not used.
     pub n_opt: u16,
-    /// A hash that stands for the cost models.
+    /// A hash instead of the cost models.
     pub cost_models: [u8; 32],
-    /// How much of the fee the collateral must cover, in hundredths.
+    /// The part of the fee that the collateral must cover, in hundredths.
     pub collateral_percentage: u16,
-    /// Motion of no confidence, committee with and without one, hard fork, security parameters: Q1, Q2a, Q2b, Q4, Q5 of CIP-1694.
+    /// Q1, Q2a, Q2b, Q4, Q5 of CIP-1694: motion of no confidence, committee in the normal state,
+    /// committee in a state of no confidence, hard fork, security parameters.
     pub pool_voting_thresholds: [Unit; 5],
     /// P1, P2a, P2b, P3, P4, P5a to P5d, P6 of CIP-1694.
     pub drep_voting_thresholds: [Unit; 10],
@@ -63,7 +65,7 @@ pub struct Params {
     pub gov_action_deposit: u64,
     /// Lovelace per DRep.
     pub drep_deposit: u64,
-    /// Epochs that a DRep stays active after it acted.
+    /// Epochs for which a DRep stays active after it acted.
     pub drep_activity: u32,
     /// The least number of active members.
     pub committee_min_size: u16,
@@ -71,7 +73,8 @@ pub struct Params {
     pub committee_max_term_length: u32,
 }
 
-/// An update of the parameters: each one that is there is replaced whole. (PParamsUpdate of the formal specification)
+/// An update of the parameters: each parameter that it names is replaced whole.
+/// (PParamsUpdate of the formal specification)
 #[derive(Clone, Copy, Debug)]
 pub struct Update {
     pub max_block_body_size: Option<u32>,

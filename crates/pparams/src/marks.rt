@@ -34,7 +34,8 @@ impl Update {
             || self.gov_action_deposit.is_some()
     }
 
-    /// Whether it names a parameter, and sets none to 0 that may not be 0. (The well-formedness of updates of the formal specification; which may not be 0 is own)
+    /// Whether it names a parameter and sets none to a forbidden 0. (Own: which may not be 0)
+    /// (Well-formedness of updates of the formal specification)
     pub fn well_formed(&self) -> bool
         ensures { result ≡ is_well_formed self.now }
     {
@@ -105,7 +106,7 @@ impl Update {
             || self.touches_governance()
     }
 
-    /// No parameter is set to 0 that may not be 0.
+    /// Whether no parameter is set to 0 that may not be 0.
     #[tactic(auto, using(crate::proofs::Marked::zero_free, crate::proofs::Marked::is_zero))]
     fn is_free_of_zeros(&self) -> bool
         ensures { result ≡ list_all (λ m. not m.forbidden) (marks_of self.now) }

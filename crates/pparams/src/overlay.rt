@@ -4,7 +4,8 @@ ghost use Rattle.pparams.specs.Overlay.{laid_over};
 use crate::{Params, Update};
 
 impl Params {
-    /// The parameters with an update laid over them: each named one is replaced whole, the others stay. (PParamsUpdate of the formal specification)
+    /// The parameters after an update: each named one is replaced whole, the others stay.
+    /// (PParamsUpdate of the formal specification)
     pub fn laid_over(&self, u: &Update) -> Params
         ensures { result ≡ laid_over self.now u.now }
     {

@@ -18,7 +18,9 @@ use live_ledger::Draft;
 use rule_checks::check_each;
 use tx_records::{Rule, Tx};
 
-/// The first of the rules on proposals that the transaction breaks, if there is one, with the place of the proposal. Registrations are those of the draft, which is to be the one after all certificates; parameters, constitution, last enacted actions and live proposals are those of the ledger before the transaction. It takes no memory. (CIP-1694, Governance actions; GOV of the formal specification; that live proposals are those before the transaction is own)
+/// The first broken rule on proposals, if any, with the proposal's index. It takes no memory.
+/// Registrations are those of the draft after all certificates; the rest is before the transaction.
+/// (CIP-1694, Governance actions; GOV of the formal specification; such live proposals are own)
 pub fn check(d: &Draft, tx: &Tx) -> Result<(), Rule>
     requires { is_within_limits tx.now ≡ true }
     ensures { result ≡ answer_of (per_place (proposal_checks d.now.start d.now.ledger) tx.now.proposals) }

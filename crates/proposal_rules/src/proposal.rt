@@ -8,7 +8,7 @@ use tx_records::rules::{
 };
 use tx_records::{ProposalRecord, Rule};
 
-/// The rules on each proposal: its deposit and its return account, what its action must keep, and what that follows.
+/// The rules on each proposal: deposit, return account, what its action must keep, what it follows.
 #[derive(Drop)]
 pub struct Proposals<'a> {
     pub d: &'a Draft<'a>,

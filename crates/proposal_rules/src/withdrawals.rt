@@ -10,7 +10,7 @@ use live_ledger::Draft;
 use tx_records::Rule;
 use tx_records::rules::{POLICY_WRONG, TARGET_UNKNOWN, TARGET_WRONG_NETWORK, ZERO_WITHDRAWAL};
 
-/// The rules on withdrawals from the treasury: all targets are on the ledger's network before any is looked up.
+/// The rules on treasury withdrawals. The networks of all targets are checked before registrations.
 pub fn check_targets(
     d: &Draft,
     targets: &[(Account, u64)],
@@ -52,7 +52,7 @@ fn is_any_unknown(d: &Draft, targets: &[(Account, u64)]) -> bool
         .any(|(account, _)| d.account(&account.cred).is_none())
 }
 
-/// Whether the targets get nothing together.
+/// Whether the sum for the targets is 0.
 fn is_nothing_paid(targets: &[(Account, u64)]) -> bool
     ensures { result ≡ (sum_by (λ t. t.1) targets.now == 0) }
 {

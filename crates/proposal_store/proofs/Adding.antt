@@ -12,7 +12,7 @@ use Rattle.gov_ids.specs.declared.Credential.{Credential}
 use Rattle.gov_ids.specs.Orders.{credential_cmp}
 use Rattle.gov_ids.specs.Same.{same_credential}
 use Rattle.gov_ids.proofs.Totals.{credential_total}
-use Rattle.ledger_model.specs.CertRules.{adds_member}
+use Rattle.gov_model.specs.Hot.{adds_member}
 use Rattle.maps.proofs.Placed.{value_at_tied}
 use Rattle.maps.specs.Maps.{value_at}
 use Rattle.proposal_store.specs.Added.{count_among, count_at, is_proposed, members_added, times_added}
@@ -74,7 +74,7 @@ adds_is c (action.ParameterChange previous update policy) = refl
 adds_is c (action.TreasuryWithdrawals targets policy) = refl
 adds_is c action.Info = refl
 
--- a live proposal adds the key exactly where the count is above 0
+-- a live proposal adds the key if and only if the count is above 0
 pub proposed_is : (c : Credential) (ps : List Proposal) → nat_lt 0 (times_added c ps) ≡ is_proposed c ps
 proposed_is c [] = refl
 proposed_is c (p ∷ ps) =

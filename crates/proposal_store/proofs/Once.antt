@@ -101,7 +101,7 @@ undone (i ∷ ids) x h =
       | false ↦ λ h. ap (λ (l : List ActionId). i ∷ l) (undone ids x h)
     ] h
 
--- ---- where an id stands
+-- ---- the index of an id
 
 pub place_found : (ids : List ActionId) (id : ActionId) (n : ℕ) (d : ActionId) → n < length ids → same_action (get_or ids n d) id ≡ true → some_and (same_action id) (slice_get ids n) ≡ true
 place_found [] id n d l t = absurd (omega (arith, l))

@@ -25,7 +25,7 @@ use Rattle.proposal_store.proofs.VotesNoted.{left_out, put_in}
 abbrev pub AreVotes : Proposal → Proposal → Notes → Notes → Type 0
 AreVotes p new old notes = (c : Credential) (id : ActionId) → is_noted notes c id ≡ cond (same_action p.id id) (has_vote c new) (is_noted old c id)
 
--- a vote in place of another
+-- a vote instead of another
 pub voted_again : {T E : Type 0} (r : Result T E) (p new : Proposal) (v : Voter) (vote : Vote) → OnOk r (new ≡ with_vote v vote p) → OnErr r (new ≡ p) → has_key voter_cmp p.votes v ≡ true
     → (c : Credential) → has_vote c new ≡ has_vote c p
 voted_again (Err e) p new v vote ok err h c = ap (λ (x : Proposal). has_vote c x) err

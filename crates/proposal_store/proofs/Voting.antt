@@ -164,7 +164,7 @@ found_ordered id p (e ∷ es) h m =
       | false ↦ λ m. found_ordered id p es h.1 m
     ] m
 
--- each proposal stands at its id, no two have one, and votes are in order
+-- each proposal is at its id, each id once, and votes are in order
 pub record IsListed (es : List (ActionId × Proposal)) : Type 0 where
   pub keyed : AllKeyed es
   pub distinct : IsDistinct same_action (ids_of (values_of es))

@@ -1,4 +1,5 @@
--- The cold keys that live proposals add to the committee, as they are counted beside the proposals. (GOVCERT of the formal specification; that they are counted is own)
+-- The cold keys that live proposals add to the committee, and their counts.
+-- (GOVCERT of the formal specification; the counts are own)
 use Rattle.std.specs.Prelude.{◌≡◌, ℕ, Bool, List, [], sum_by, unwrap_or}
 use Rattle.std.specs.List.{count_by, list_any}
 use Rattle.gov_actions.specs.declared.action.Action.{Action}
@@ -7,10 +8,10 @@ use Rattle.gov_actions.specs.declared.action.Proposal.{Proposal}
 use Rattle.gov_ids.specs.declared.Credential.{Credential}
 use Rattle.gov_ids.specs.Orders.{credential_cmp}
 use Rattle.gov_ids.specs.Same.{same_credential}
-use Rattle.ledger_model.specs.CertRules.{adds_member}
+use Rattle.gov_model.specs.Hot.{adds_member}
 use Rattle.maps.specs.Maps.{value_at}
 
--- a live proposal adds the cold key
+-- whether a live proposal adds the cold key
 abbrev pub is_proposed : Credential → List Proposal → Bool
 is_proposed c ps = list_any (λ (p : Proposal). adds_member c p.action) ps
 
@@ -27,7 +28,7 @@ count_among c add = count_by (λ (m : Credential × ℕ). same_credential c m.0)
 abbrev pub times_added : Credential → List Proposal → ℕ
 times_added c ps = sum_by (λ (p : Proposal). count_among c (members_added p.action)) ps
 
--- the count that is kept of a cold key, 0 where there is none
+-- the count of a cold key, 0 where there is none
 abbrev pub count_at : List (Credential × ℕ) → Credential → ℕ
 count_at counts c = unwrap_or (value_at credential_cmp counts c) 0
 

@@ -1,4 +1,4 @@
--- Changes of the proposals where they stand.
+-- Changes of the proposals, each at its id.
 use Rattle.std.specs.Prelude.{List, map, if◌then◌else◌}
 use Rattle.gov_ids.specs.declared.ActionId.{ActionId}
 use Rattle.gov_ids.specs.declared.Voter.{Voter}
@@ -8,11 +8,11 @@ use Rattle.gov_actions.specs.declared.action.Proposal.{Proposal}
 use Rattle.gov_model.specs.Proposals.{without_vote}
 use Rattle.maps.specs.Maps.{has_member}
 
--- g of each proposal
+-- each proposal by g
 abbrev pub each : (Proposal → Proposal) → List (ActionId × Proposal) → List (ActionId × Proposal)
 each g es = map (λ (e : ActionId × Proposal). (e.0, g e.1)) es
 
--- f of the proposal of an id
+-- the proposal of an id by f
 abbrev pub changing : ActionId → (Proposal → Proposal) → Proposal → Proposal
 changing id f p = if same_action p.id id then f p else p
 

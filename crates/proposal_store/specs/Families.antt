@@ -10,10 +10,10 @@ use Rattle.proposal_store.specs.contracts.families.ParentOrd.TheImpl as parent_o
 abbrev pub parent_cmp : Parent → Parent → Ordering
 parent_cmp = parent_ord.cmp-value.it
 
--- the ids that the index has
+-- the ids in the index, in order of submission
 abbrev pub ids_at : List (Parent × List ActionId) → Parent → List ActionId
 ids_at index k = unwrap_or (value_at parent_cmp index k) []
 
--- these without the last, if there is one
+-- the ids without the last one, if there is one
 abbrev pub all_but_last : {A : Type 0} → List A → List A
 all_but_last xs = take (length xs - 1) xs

@@ -3,14 +3,14 @@ ghost use Rattle.gov_ids.specs.declared.Credential.{Credential};
 ghost use Rattle.gov_ids.specs.Same.{same_credential};
 ghost use Rattle.proposal_store.specs.Added.{count_among, count_at, members_added};
 
-use coin_frac::NoMemory;
 use gov_actions::Action;
 use gov_ids::Credential;
+use no_memory::NoMemory;
 use std::alloc::Global;
 use std::collections::BTreeMap;
 use std::marker::Model;
 
-// How often live proposals add each cold key to the committee, so that whether one adds a key is no walk; a key that none adds stands in no entry.
+// How many times live proposals add each cold key; a key with a count of 0 has no entry.
 #[derive(Drop)]
 pub(crate) struct AddedKeys {
     counts: BTreeMap<Credential, u64>,
@@ -40,14 +40,14 @@ impl AddedKeys {
         self.of(cold) > 0
     }
 
-    // How often a key is added.
+    // How many times proposals add a key.
     fn of(&self, cold: &Credential) -> u64
         ensures { result ≡ count_at self.now cold.now }
     {
         self.counts.get(cold).copied().unwrap_or(0)
     }
 
-    // These new members are counted. Want of memory changes no count; a count past 64 bits is more than any memory holds.
+    // Counts new members. `NoMemory`, also for a count above 64 bits, changes no count.
     pub(crate) fn raise(&mut self, add: &[(Credential, u64)]) -> Result<(), NoMemory>
         ensures ok { OnOk result ((c : Credential) → count_at self.new c ≡ count_at self.old c + count_among c add.now) }
         ensures err { OnErr result ((c : Credential) → count_at self.new c ≡ count_at self.old c) }
@@ -61,7 +61,7 @@ impl AddedKeys {
         Ok(())
     }
 
-    // These new members are no longer counted. It takes no memory.
+    // No longer counts these members. It takes no memory.
     pub(crate) fn lower(&mut self, add: &[(Credential, u64)])
         ensures { (c : Credential) → count_at self.new c ≡ count_at self.old c - count_among c add.now }
     {
@@ -70,7 +70,7 @@ impl AddedKeys {
         }
     }
 
-    // A key is added once more. Want of memory changes nothing.
+    // Counts a key once more. `NoMemory` changes nothing.
     fn raise_one(&mut self, cold: Credential) -> Result<(), NoMemory>
         ensures ok { OnOk result ((c : Credential) → count_at self.new c
             ≡ count_at self.old c + (if same_credential c cold then 1 else 0)) }
@@ -81,7 +81,7 @@ impl AddedKeys {
         Ok(())
     }
 
-    // A key is added once less.
+    // Counts a key once less.
     fn lower_one(&mut self, cold: &Credential)
         ensures { (c : Credential) → count_at self.new c
             ≡ count_at self.old c - (if same_credential c cold.now then 1 else 0) }

@@ -5,10 +5,10 @@ ghost use Rattle.proposal_store.specs.declared.families.Parent.{Parent};
 ghost use Rattle.proposal_store.specs.Families.{parent_cmp, ids_at, all_but_last};
 
 use crate::live::LiveProposal;
-use coin_frac::NoMemory;
 use gov_actions::Purpose;
 use gov_ids::ActionId;
 use listed::Listed;
+use no_memory::NoMemory;
 use std::alloc::Global;
 use std::collections::BTreeMap;
 use std::marker::Model;
@@ -20,7 +20,7 @@ pub(crate) struct Parent {
     pub(crate) previous: Option<ActionId>,
 }
 
-// The ids of the proposals that follow each, in order of submission.
+// The ids of the proposals that follow each parent, in order of submission.
 #[derive(Drop)]
 pub(crate) struct Families {
     alloc: Global,
@@ -56,7 +56,7 @@ impl Families {
         }
     }
 
-    // One more child, at the end. Want of memory changes nothing.
+    // Adds a child at the end. `NoMemory` changes nothing.
     fn add(&mut self, parent: Parent, id: ActionId) -> Result<(), NoMemory>
         ensures ok { OnOk result ((q : Parent) → ids_at self.new q ≡
             (if eq_by_cmp parent_cmp parent q then ids_at self.old q ++ id ∷ [] else ids_at self.old q)) }
@@ -72,7 +72,7 @@ impl Families {
         Ok(())
     }
 
-    // A proposal among the children of what it follows, if it has a purpose. Want of memory changes nothing.
+    // Adds a proposal with a purpose to the children of its parent. `NoMemory` changes nothing.
     pub(crate) fn note(&mut self, p: &LiveProposal) -> Result<(), NoMemory>
         ensures ok { OnOk result ((q : Parent) →
             ids_at self.new q ≡ ids_at self.old q ++ children_of q.purpose q.previous (p.now ∷ [])) }
@@ -85,7 +85,7 @@ impl Families {
         }
     }
 
-    // A proposal that is the last child of what it follows leaves the children. It takes no memory.
+    // Removes a proposal that is the last child of its parent. It takes no memory.
     pub(crate) fn forget_last(&mut self, p: &LiveProposal)
         ensures { (q : Parent) → ids_at self.new q ≡ (if is_child q.purpose q.previous p.now
             then all_but_last (ids_at self.old q) else ids_at self.old q) }
@@ -96,7 +96,7 @@ impl Families {
         }
     }
 
-    // The last child leaves.
+    // Removes the last child.
     fn drop_last(&mut self, parent: &Parent)
         ensures { (q : Parent) → ids_at self.new q ≡ (if eq_by_cmp parent_cmp parent.now q
             then all_but_last (ids_at self.old q) else ids_at self.old q) }
@@ -112,7 +112,7 @@ impl Families {
     }
 }
 
-// The last of these ids leaves, if there is one.
+// Removes the last id, if there is one.
 fn cut_last(ids: &mut Listed<ActionId>)
     ensures { ids.new ≡ all_but_last ids.old }
 {

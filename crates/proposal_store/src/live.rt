@@ -8,23 +8,24 @@ ghost use Rattle.maps.specs.Maps.{IsMap, value_at, with_values, without_member};
 ghost use Rattle.proposal_store.specs.Voted.{AreOnce, has_vote, is_noted, noted_of};
 
 use crate::voted::VotedOn;
-use coin_frac::NoMemory;
 use gov_actions::{Action, Proposal, Vote};
 use gov_ids::{Account, ActionId, Voter};
 use listed::Listed;
+use no_memory::NoMemory;
 use std::alloc::Global;
 use std::collections::BTreeMap;
 use std::collections::btree_map::Iter;
 use std::marker::Model;
 
-/// A live proposal whose votes stand in a tree, so that no vote walks those that stand. Contracts see the proposal. (GovActionState of the formal specification)
+/// A live proposal with its votes in a tree by voter. Contracts see the proposal.
+/// (GovActionState of the formal specification)
 pub struct LiveProposal {
-    // what was proposed, whose own list of votes is not read
+    // the proposal, without its votes: its own list of votes is not read
     proposal: Proposal,
     votes: BTreeMap<Voter, Vote>,
 }
 
-// What lets it go stands here once: a derived one is proved again, part by part, in each crate above.
+// By hand, so that it is proved once: each crate above would prove a derived one part by part.
 impl Drop for LiveProposal {
     fn drop(self) {
         let LiveProposal {
@@ -43,7 +44,7 @@ impl Model for LiveProposal {
 }
 
 impl LiveProposal {
-    // A proposal with its votes put into a tree.
+    // Puts the votes of a proposal into a tree.
     pub(crate) fn of(alloc: Global, p: Proposal) -> Result<LiveProposal, NoMemory>
         requires ordered { IsMap voter_cmp p.votes }
         ensures { IfOk result (λ live. live ≡ p) }
@@ -52,7 +53,8 @@ impl LiveProposal {
         Ok(LiveProposal { proposal: p, votes })
     }
 
-    /// The transaction that proposed it, and its place there. (GovActionState of the formal specification)
+    /// The transaction that proposed it, and the index there.
+    /// (GovActionState of the formal specification)
     pub fn id(&self) -> ActionId
         ensures { result ≡ self.now.id }
     {
@@ -73,7 +75,7 @@ impl LiveProposal {
         self.proposal.deposit
     }
 
-    /// The return account of the deposit. (GovActionState of the formal specification)
+    /// The account to which the deposit returns. (GovActionState of the formal specification)
     pub fn account(&self) -> Account
         ensures { result ≡ self.now.account }
     {
@@ -87,21 +89,23 @@ impl LiveProposal {
         self.proposal.expires_after
     }
 
-    /// The last vote of a voter, none where there is none. It does not walk the votes. (GovActionState of the formal specification)
+    /// The last vote of a voter, found in the tree. (GovActionState of the formal specification)
     pub fn vote_of(&self, v: &Voter) -> Option<Vote>
         ensures { result ≡ value_at voter_cmp self.now.votes v.now }
     {
         self.votes.get(v).copied()
     }
 
-    /// The votes one after another, in the order of voters. It takes no memory. (GovActionState of the formal specification)
+    /// The votes in order of voter. It takes no memory.
+    /// (GovActionState of the formal specification)
     pub fn votes(&self) -> Iter<'_, Voter, Vote>
         ensures { result ≡ self.now.votes }
     {
         self.votes.iter()
     }
 
-    /// The plain proposal, in memory of its own: its votes are a list in order of voter. (GovActionState of the formal specification)
+    /// A copy as a plain proposal, whose votes are a list in order of voter.
+    /// (GovActionState of the formal specification)
     pub fn copied(&self, alloc: Global) -> Result<Proposal, NoMemory>
         ensures { IfOk result (λ copy. copy ≡ self.now) }
     {
@@ -124,7 +128,7 @@ impl LiveProposal {
         })
     }
 
-    // The votes of DReps are noted, of which none is. Want of memory changes no note.
+    // Notes the votes of DReps; none is noted before. `NoMemory` changes no note.
     pub(crate) fn note_votes(&self, voted: &mut VotedOn) -> Result<(), NoMemory>
         requires ordered { IsMap voter_cmp self.now.votes }
         requires fresh { (c : Credential) → is_noted voted.old c self.now.id ≡ false }
@@ -143,7 +147,7 @@ impl LiveProposal {
         Ok(())
     }
 
-    // The notes of its votes leave. It takes no memory.
+    // Removes the notes of its votes. It takes no memory.
     pub(crate) fn forget_votes(&self, voted: &mut VotedOn)
         requires { AreOnce voted.old }
         ensures without { (c : Credential) → noted_of voted.new c ≡ (if has_vote c self.now
@@ -155,7 +159,7 @@ impl LiveProposal {
         }
     }
 
-    // A vote in place of an earlier one of the voter, with its note. Want of memory changes no vote and no note.
+    // Sets the vote of a voter and its note. `NoMemory` changes no vote and no note.
     pub(crate) fn vote(&mut self, voted: &mut VotedOn, v: Voter, vote: Vote) -> Result<(), NoMemory>
         requires noted { (c : Credential) → is_noted voted.old c self.old.id ≡ has_vote c self.old }
         requires once { AreOnce voted.old }
@@ -176,7 +180,7 @@ impl LiveProposal {
         Ok(())
     }
 
-    // A vote in place of an earlier one of the voter. Want of memory changes nothing.
+    // Sets the vote of a voter. `NoMemory` changes nothing.
     fn put_vote(&mut self, v: Voter, vote: Vote) -> Result<(), NoMemory>
         ensures ok { OnOk result (self.new ≡ with_vote v vote self.old) }
         ensures err { OnErr result (self.new ≡ self.old) }
@@ -185,7 +189,7 @@ impl LiveProposal {
         Ok(())
     }
 
-    // The vote of a voter leaves, if there is one.
+    // Removes the vote of a voter, if there is one.
     pub(crate) fn drop_vote(&mut self, v: &Voter)
         ensures { self.new ≡ without_vote v.now self.old }
     {
@@ -193,7 +197,7 @@ impl LiveProposal {
     }
 }
 
-// The votes in a tree, a later one of a voter in place of an earlier one.
+// The votes as a tree; a later vote of a voter replaces an earlier one.
 fn tree_of(alloc: Global, votes: &[(Voter, Vote)]) -> Result<BTreeMap<Voter, Vote>, NoMemory>
     ensures { IfOk result (λ tree. tree.entries ≡ with_values voter_cmp votes.now []) }
 {
@@ -204,7 +208,7 @@ fn tree_of(alloc: Global, votes: &[(Voter, Vote)]) -> Result<BTreeMap<Voter, Vot
     Ok(tree)
 }
 
-// The votes of a tree in order of voter.
+// The votes of a tree, in order of voter.
 fn list_of(alloc: Global, votes: &BTreeMap<Voter, Vote>) -> Result<Listed<(Voter, Vote)>, NoMemory>
     ensures { IfOk result (λ list. list ≡ votes.now.entries) }
 {

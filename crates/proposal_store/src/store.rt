@@ -22,17 +22,18 @@ use crate::added::{AddedKeys, new_members};
 use crate::families::{Families, Parent};
 use crate::live::LiveProposal;
 use crate::voted::VotedOn;
-use coin_frac::NoMemory;
 use gov_actions::{Proposal, Purpose, Vote};
 use gov_ids::{ActionId, Credential, Voter};
 use indexmap::IndexMap;
 use maps::set_of;
+use no_memory::NoMemory;
 use std::alloc::Global;
 use std::collections::BTreeSet;
 use std::marker::Model;
 use std::mem;
 
-/// The live proposals with their votes, in order of submission. (GovState of the formal specification)
+/// The live proposals with their votes, in order of submission.
+/// (GovState of the formal specification)
 pub struct ProposalStore {
     alloc: Global,
     proposals: IndexMap<ActionId, LiveProposal>,
@@ -42,7 +43,7 @@ pub struct ProposalStore {
     deposits: u64,
 }
 
-// What lets it go stands here once: a derived one is proved again, part by part, in each crate above.
+// By hand, so that it is proved once: each crate above would prove a derived one part by part.
 impl Drop for ProposalStore {
     fn drop(self) {
         let ProposalStore {
@@ -72,7 +73,7 @@ impl Model for ProposalStore {
 }
 
 impl ProposalStore {
-    /// A store with no proposal. (GovState of the formal specification)
+    /// A store without proposals. (GovState of the formal specification)
     pub fn new(alloc: Global) -> ProposalStore
         ensures { result ≡ [] }
     {
@@ -86,7 +87,7 @@ impl ProposalStore {
         }
     }
 
-    /// The proposal of an id, none where there is none. It does not walk the list. (GovState of the formal specification)
+    /// The proposal of an id, without a scan. (GovState of the formal specification)
     pub fn get(&self, id: &ActionId) -> Option<&LiveProposal>
         ensures { option_copied result ≡ proposal_of id.now self.now }
     {
@@ -101,7 +102,8 @@ impl ProposalStore {
         self.proposals.len() as u64
     }
 
-    /// The proposal at the place `i` in order of submission, counted from 0; none past the end. (GovState of the formal specification)
+    /// The proposal at index `i` in order of submission, from 0; none past the end.
+    /// (GovState of the formal specification)
     pub fn at(&self, i: u64) -> Option<&LiveProposal>
         ensures { option_copied result ≡ slice_get self.now i }
     {
@@ -109,28 +111,30 @@ impl ProposalStore {
         Some(p)
     }
 
-    /// What the proposals paid, in lovelace. (GovState of the formal specification)
+    /// The sum of the deposits, in lovelace. (GovState of the formal specification)
     pub fn deposits(&self) -> u64
         ensures { result ≡ deposits_of self.now }
     {
         self.deposits
     }
 
-    /// The ids of the proposals of a purpose that name an action, or none, as the one before them, in order of submission. It does not walk the list. (CIP-1694, Governance actions: Content)
+    /// The ids of the proposals of a purpose whose previous action is `previous`.
+    /// In order of submission, without a scan. (CIP-1694, Governance actions: Content)
     pub fn children(&self, purpose: Purpose, previous: Option<ActionId>) -> &[ActionId]
         ensures { result.now ≡ children_of purpose previous self.now }
     {
         self.families.get(&Parent { purpose, previous })
     }
 
-    /// Whether one of the proposals adds a cold key to the committee. It walks none of them. (GOVCERT of the formal specification)
+    /// Whether a live proposal adds a cold key to the committee, without a scan.
+    /// (GOVCERT of the formal specification)
     pub fn adds(&self, cold: &Credential) -> bool
         ensures { result ≡ is_proposed cold.now self.now }
     {
         self.added.has(cold)
     }
 
-    /// One more proposal, at the end. Want of memory changes nothing. (GOV of the formal specification)
+    /// Adds a proposal at the end. `NoMemory` changes nothing. (GOV of the formal specification)
     pub fn add(&mut self, p: Proposal) -> Result<(), NoMemory>
         requires absent { proposal_of p.id self.old ≡ None }
         requires fits { deposits_of self.old + p.deposit < 2 ^ 64 }
@@ -142,7 +146,8 @@ impl ProposalStore {
         self.append(live)
     }
 
-    /// Keeps the proposals whose ids are listed, and gives the others, both in order of submission. After want of memory the store has lost proposals: it is to be dropped. (EPOCH of the formal specification)
+    /// Keeps the proposals of these ids and returns the others, both in order of submission.
+    /// After `NoMemory` the store has lost proposals: drop it. (EPOCH of the formal specification)
     pub fn retain_listed(&mut self, keep: &[ActionId]) -> Result<Vec<LiveProposal>, NoMemory>
         ensures kept { OnOk result (self.new ≡ those_of keep.now self.old) }
         ensures removed { IfOk result (λ r. r.items ≡ others_than keep.now self.old) }
@@ -153,7 +158,8 @@ impl ProposalStore {
         self.refill(old.into_proposals(), &keep)
     }
 
-    /// Keeps the first proposals in order of submission, `n` at most. It takes no memory, and walks those that leave. (Own)
+    /// Keeps the first `n` proposals in order of submission. It takes no memory.
+    /// It visits only the proposals that leave.
     pub fn keep_first(&mut self, n: u64)
         ensures { self.new ≡ take n self.old }
     {
@@ -162,7 +168,7 @@ impl ProposalStore {
         }
     }
 
-    // The last proposal leaves, with its votes.
+    // Removes the last proposal with its votes.
     fn drop_last(&mut self)
         ensures { self.new ≡ all_but_last self.old }
     {
@@ -193,7 +199,8 @@ impl ProposalStore {
         proposals
     }
 
-    /// The vote of a voter on the proposal of an id, in place of an earlier one; nothing where there is no such proposal. Want of memory changes nothing. (GOV of the formal specification)
+    /// Sets the vote of a voter on a proposal; without such a proposal nothing changes.
+    /// `NoMemory` changes nothing. (GOV of the formal specification)
     pub fn vote(&mut self, id: &ActionId, v: Voter, vote: Vote) -> Result<(), NoMemory>
         ensures ok { OnOk result (self.new ≡ with_change id.now (with_vote v vote) self.old) }
         ensures err { OnErr result (self.new ≡ self.old) }
@@ -204,7 +211,7 @@ impl ProposalStore {
         }
     }
 
-    /// The vote of a voter on the proposal of an id leaves, if there is one. (Own)
+    /// Removes the vote of a voter on a proposal, if there is one.
     pub fn unvote(&mut self, id: &ActionId, v: &Voter)
         ensures { self.new ≡ with_change id.now (without_vote v.now) self.old }
     {
@@ -212,7 +219,8 @@ impl ProposalStore {
         self.voted.forget_vote(v, id);
     }
 
-    /// The ids of the proposals on which a DRep has a vote, each once, in no order that means anything. It walks no proposal. (Own)
+    /// The ids of the proposals on which a DRep has a vote, each once, without a scan.
+    /// Their order means nothing.
     pub fn voted_on(&self, drep: &Credential) -> &[ActionId]
         ensures voted { (id : ActionId) → has_member action_id_cmp result.now id ≡ is_voted_on drep.now id self.now }
         ensures once { IsDistinct same_action result.now }
@@ -220,14 +228,14 @@ impl ProposalStore {
         self.voted.of(drep)
     }
 
-    /// The votes of a DRep leave all proposals. (Own)
+    /// Removes the votes of a DRep from all proposals.
     pub fn clear_votes(&mut self, drep: &Credential)
         ensures { self.new ≡ map (without_vote (Drep drep.now)) self.old }
     {
         self.clear_one(drep);
     }
 
-    /// The votes of these DReps leave all proposals. Only the proposals that they voted on are looked at. (Own)
+    /// Removes the votes of DReps from all proposals; it visits only those with such votes.
     pub fn clear_votes_of(&mut self, dreps: &[Credential])
         ensures { self.new ≡ map (without_votes_of dreps.now) self.old }
     {
@@ -236,7 +244,7 @@ impl ProposalStore {
         }
     }
 
-    // The votes of a DRep leave the proposals that are noted of it.
+    // Removes the votes of a DRep from the proposals in its notes.
     fn clear_one(&mut self, drep: &Credential)
         ensures cleared { self.new ≡ map (without_vote (Drep drep.now)) self.old }
         ensures ordered { AllOrdered self.old }
@@ -245,7 +253,7 @@ impl ProposalStore {
         drop_from(&mut self.proposals, ids.as_slice(), &Voter::Drep(*drep));
     }
 
-    // One more, at the end. Want of memory changes nothing.
+    // Adds a proposal at the end. `NoMemory` changes nothing.
     fn append(&mut self, p: LiveProposal) -> Result<(), NoMemory>
         requires absent { proposal_of p.id self.old ≡ None }
         requires fits { deposits_of self.old + p.deposit < 2 ^ 64 }
@@ -260,7 +268,7 @@ impl ProposalStore {
         Ok(())
     }
 
-    // Adds the proposals that are to be kept to an empty store, and gives the others.
+    // Adds the proposals to keep to an empty store, and returns the others.
     fn refill(
         &mut self,
         proposals: IndexMap<ActionId, LiveProposal>,
@@ -285,7 +293,7 @@ impl ProposalStore {
     }
 }
 
-// What is kept beside the proposals, with one more. Want of memory changes no child, no note and no count.
+// Updates children, notes and counts for a new proposal. `NoMemory` changes none of them.
 fn note_beside(
     p: &LiveProposal,
     families: &mut Families,
@@ -320,7 +328,7 @@ fn note_beside(
     Ok(())
 }
 
-// The vote of a voter leaves the proposals of these ids.
+// Removes the vote of a voter from the proposals of these ids.
 fn drop_from(proposals: &mut IndexMap<ActionId, LiveProposal>, ids: &[ActionId], v: &Voter)
     requires keyed { AllKeyed proposals.old.entries }
     requires distinct { IsDistinct same_action (ids_of (values_of proposals.old.entries)) }
@@ -332,7 +340,7 @@ fn drop_from(proposals: &mut IndexMap<ActionId, LiveProposal>, ids: &[ActionId],
     }
 }
 
-// The vote of a voter leaves the proposal of an id, if there are both.
+// Removes the vote of a voter from the proposal of an id, if there are both.
 fn drop_at(proposals: &mut IndexMap<ActionId, LiveProposal>, id: &ActionId, v: &Voter)
     requires keyed { AllKeyed proposals.old.entries }
     requires distinct { IsDistinct same_action (ids_of (values_of proposals.old.entries)) }

@@ -8,14 +8,14 @@ ghost use Rattle.maps.specs.Maps.{has_member, without_member};
 ghost use Rattle.maps.specs.Words.{some_and};
 ghost use Rattle.proposal_store.specs.Voted.{noted_of, is_drep, AreOnce};
 
-use coin_frac::NoMemory;
 use gov_ids::{ActionId, Credential, Voter};
 use listed::Listed;
+use no_memory::NoMemory;
 use std::alloc::Global;
 use std::collections::BTreeMap;
 use std::marker::Model;
 
-// The live proposals on which each DRep has a vote, so that no DRep that leaves walks the others.
+// The live proposals on which each DRep has a vote; finds them without a scan.
 #[derive(Drop)]
 pub(crate) struct VotedOn {
     alloc: Global,
@@ -52,7 +52,7 @@ impl VotedOn {
         }
     }
 
-    // The proposals of a DRep, which leave the notes.
+    // Takes the proposals of a DRep out of the notes.
     pub(crate) fn take(&mut self, drep: &Credential) -> Listed<ActionId>
         ensures taken { result ≡ noted_of self.old drep.now }
         ensures left { (c : Credential) → noted_of self.new c ≡
@@ -64,7 +64,7 @@ impl VotedOn {
         }
     }
 
-    // A vote of a voter on a proposal on which it had none. Want of memory changes nothing.
+    // Notes a first vote of a voter on a proposal. `NoMemory` changes nothing.
     pub(crate) fn note_vote(&mut self, v: &Voter, id: ActionId) -> Result<(), NoMemory>
         ensures ok { OnOk result ((c : Credential) → noted_of self.new c ≡
             (if is_drep v.now c then noted_of self.old c ++ id ∷ [] else noted_of self.old c)) }
@@ -76,7 +76,7 @@ impl VotedOn {
         }
     }
 
-    // The vote of a voter on a proposal has left. It takes no memory.
+    // Removes the note of a vote. It takes no memory.
     pub(crate) fn forget_vote(&mut self, v: &Voter, id: &ActionId)
         requires { AreOnce self.old }
         ensures { (c : Credential) → noted_of self.new c ≡
@@ -87,7 +87,7 @@ impl VotedOn {
         }
     }
 
-    // One more proposal of a DRep, at the end. Want of memory changes nothing.
+    // Adds a proposal to the notes of a DRep, at the end. `NoMemory` changes nothing.
     fn note(&mut self, drep: Credential, id: ActionId) -> Result<(), NoMemory>
         ensures ok { OnOk result ((c : Credential) → noted_of self.new c ≡
             (if eq_by_cmp credential_cmp drep c then noted_of self.old c ++ id ∷ [] else noted_of self.old c)) }
@@ -103,7 +103,7 @@ impl VotedOn {
         Ok(())
     }
 
-    // One proposal less of a DRep, which is looked for from the end.
+    // Removes a proposal from the notes of a DRep; it searches from the end.
     fn forget(&mut self, drep: &Credential, id: &ActionId)
         requires { AreOnce self.old }
         ensures { (c : Credential) → noted_of self.new c ≡ (if eq_by_cmp credential_cmp drep.now c
@@ -120,7 +120,7 @@ impl VotedOn {
     }
 }
 
-// An id leaves these, which name each once.
+// Removes an id from a list that has each id once.
 fn take_out(ids: &mut Listed<ActionId>, id: &ActionId)
     requires { IsDistinct same_action ids.old }
     ensures { ids.new ≡ without_member action_id_cmp id.now ids.old }
@@ -130,7 +130,7 @@ fn take_out(ids: &mut Listed<ActionId>, id: &ActionId)
     }
 }
 
-// Where an id stands last, none where it does not.
+// The last index of an id; none where the list does not have it.
 fn last_place(ids: &[ActionId], id: &ActionId) -> Option<usize>
     ensures found { IfSome result (λ i. some_and (same_action id.now) (slice_get ids.now i) ≡ true) }
     ensures absent { result ≡ None → has_member action_id_cmp ids.now id.now ≡ false }

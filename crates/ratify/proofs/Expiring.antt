@@ -1,4 +1,4 @@
--- Among items with keys of their own, the key of one is among those that pass exactly where it passes.
+-- Among items with distinct keys, the key of one is among those that pass if and only if it passes.
 use Rattle.std.proofs.Common.{◌≡◌, List, [], ◌∷◌, Bool, true, false, cond, ◌||◌, filter, map, refl, ap, ◌∙◌}
 use Rattle.std.specs.List.{AllByRecursion, IsDistinct, list_any}
 

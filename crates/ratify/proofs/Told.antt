@@ -27,7 +27,7 @@ use Rattle.ratify.proofs.Orders.{all_in_order}
 abbrev id_of : Proposal → ActionId
 id_of a = a.id
 
--- a frozen proposal is among those that expire exactly where it is over
+-- a frozen proposal is among those that expire if and only if it is over
 over_is : (s : Snapshot) (ids : List ActionId) → HaveDistinctIds s.proposals → AllByRecursion (λ a. is_one_of (expired_of s ids) a ≡ is_over s.epoch ids a) (order_of s)
 over_is s ids own =
     let P : Proposal → Type 0 = λ a. is_one_of (expired_of s ids) a ≡ is_over s.epoch ids a in

@@ -1,4 +1,5 @@
--- What a list of ratified proposals leaves. (CIP-1694, Ratification and Lifecycle; RATIFY and ENACT of the formal specification)
+-- What a list of ratified proposals leaves.
+-- (CIP-1694, Ratification and Lifecycle; RATIFY and ENACT of the formal specification)
 use Rattle.std.specs.Prelude.{ℕ, Bool, ◌&&◌, not, List, filter, nat_lt}
 use Rattle.gov_ids.specs.declared.ActionId.{ActionId}
 use Rattle.gov_actions.specs.declared.action.Proposal.{Proposal}
@@ -16,6 +17,6 @@ state_by s ids = enacted_after s (filter (is_one_of ids) (order_of s))
 abbrev pub is_over : ℕ → List ActionId → Proposal → Bool
 is_over epoch ids a = not (is_one_of ids a) && nat_lt a.expires_after epoch
 
--- such frozen proposals, in order of submission
+-- the frozen proposals that are over, in order of submission
 abbrev pub expired_by : Frozen → List ActionId → List ActionId
 expired_by f ids = ids_of (filter (is_over f.epoch ids) f.proposals)

@@ -1,4 +1,4 @@
--- How far a pass has come: what it knows after it has looked at the proposals of a front of the order. (Own: how it is kept)
+-- A pass after a prefix of the proposals in order: what it knows then. (Own: how it is kept)
 use Rattle.std.specs.Prelude.{◌≡◌, ℕ, ◌==◌, Bool, not, ◌&&◌, List, [], ◌∷◌, ◌++◌, filter, map, nat_lt, if◌then◌else◌}
 use Rattle.std.specs.List.{list_all, zip}
 use Rattle.maps.specs.Words.{with_fronts, chosen_after}
@@ -23,7 +23,7 @@ use Rattle.tally.specs.Cells.{cell_of}
 use Rattle.ratify.specs.declared.pass.Pass.{Pass}
 use Rattle.ratify.specs.declared.passing.Passing.{Passing}
 
--- those of front that are ratified
+-- the proposals of front that are ratified
 abbrev pub chosen_of : Snapshot → List Proposal → List Proposal
 chosen_of s front = chosen_after (is_ready s) [] front
 
@@ -31,7 +31,7 @@ chosen_of s front = chosen_after (is_ready s) [] front
 abbrev pub state_after : Snapshot → List Proposal → EnactState
 state_after s front = enacted_after s (chosen_of s front)
 
--- it follows the last action of its purpose, and asks for no more than the parameters and the treasury allow
+-- it follows the last action of its purpose; parameters and treasury allow what it asks for
 abbrev pub can_be_enacted : ℕ → EnactState → Action → Bool
 can_be_enacted epoch now a = follows_last now a && has_allowed_terms epoch now a && is_covered now a
 
@@ -43,11 +43,11 @@ counts_in cell = cell.committee ∷ cell.drep ∷ cell.pool ∷ []
 abbrev pub are_met : List Need → List (ℕ × ℕ) → Bool
 are_met needs counts = list_all (λ p. meets p.0 p.1) (zip needs counts)
 
--- the next action is ratified, by what the roles need and by their counts
+-- the next action is ratified, by the needs of the roles and by their counts
 abbrev pub is_next : ℕ → Passing → Action → List Need → List (ℕ × ℕ) → Bool
 is_next epoch p a needs counts = p.goes_on && can_be_enacted epoch p.state a && are_met needs counts
 
--- what becomes of a proposal, by whether it is ready and by its last epoch
+-- the verdict on a proposal, by whether it is ready and by its last epoch
 abbrev pub verdict_by : Bool → ℕ → ℕ → Verdict
 verdict_by ready last epoch = if ready then Ratified else (if nat_lt last epoch then Expired else Waiting)
 
@@ -70,14 +70,14 @@ passing_after s front = record {
   state = state_after s front;
 }
 
--- and what it told on the way
+-- the pass and its tallies after the proposals of front
 abbrev pub pass_after : Snapshot → List Proposal → Pass
 pass_after s front = record {
   passing = passing_after s front;
   tallies = map (tally_after s) (with_fronts front);
 }
 
--- a pass with one more proposal that is enacted
+-- a pass with one more proposal enacted
 abbrev pub with_enacted : Proposal → Passing → Passing
 with_enacted a p = record {
   ratified = p.ratified ++ a.id ∷ [];
@@ -89,7 +89,7 @@ with_enacted a p = record {
 abbrev pub Begins : Frozen → Passing → Type 0
 Begins f p = (s : Snapshot) → f ≡ frozen_copy_of s → p ≡ passing_after s []
 
--- P holds after each front at which the pass may stand, for these counts of the proposal
+-- P holds after each front at which the pass may be, for these counts of the proposal
 abbrev pub ForFront : Frozen → TallyCell → Passing → Proposal → (Snapshot → List Proposal → Type 0) → Type 0
 ForFront f counts before a P =
     (s : Snapshot) → f ≡ frozen_copy_of s → counts ≡ cell_of s a → (front : List Proposal) → before ≡ passing_after s front → P s front
@@ -106,15 +106,15 @@ TellsOne f counts before a tally = ForFront f counts before a (λ s front. tally
 abbrev pub of_priority : ℕ → List Proposal → List Proposal
 of_priority n ps = filter (λ p. priority_of p.action == n) ps
 
--- a pass that stood after some front stands after it and these
+-- a pass that is after some front is then after front and these
 abbrev pub Follows : Snapshot → Pass → List Proposal → Pass → Type 0
 Follows s before more after = (front : List Proposal) → before ≡ pass_after s front → after ≡ pass_after s (front ++ more)
 
--- P holds of each snapshot that the frozen epoch is of, whose proposals have these cells
+-- P holds of each snapshot whose copy is this frozen epoch and whose proposals have these cells
 abbrev pub ForTallied : Frozen → List TallyCell → (Snapshot → Type 0) → Type 0
 ForTallied f cells P = (s : Snapshot) → f ≡ frozen_copy_of s → cells ≡ map (cell_of s) s.proposals → P s
 
--- a pass has looked at these, by the cells of all
+-- a pass has looked at these, by the cells of all proposals
 abbrev pub LooksAt : Frozen → List TallyCell → Pass → List Proposal → Pass → Type 0
 LooksAt f cells before more after = ForTallied f cells (λ s. Follows s before more after)
 

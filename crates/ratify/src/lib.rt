@@ -1,4 +1,4 @@
-//! The pass over a frozen epoch: what is ratified, what expires, what enacting leaves, and what was counted.
+//! The pass over a frozen epoch: what is ratified, what expires, the state then, and the tallies.
 #![tactic(auto)]
 
 mod laws;

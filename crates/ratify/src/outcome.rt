@@ -19,22 +19,22 @@ use std::alloc::Global;
 use std::collections::BTreeSet;
 use tally::{TallyCell, fill_cells};
 
-/// What the pass over a frozen epoch comes to. (RatifyState of the formal specification)
+/// The result of the pass over a frozen epoch. (RatifyState of the formal specification)
 #[derive(Drop)]
 pub struct Outcome {
-    /// What the next boundary enacts, in the order in which it is enacted.
+    /// What the next boundary enacts, in that order.
     pub ratified: Listed<ActionId>,
-    /// What is not ratified and whose last epoch has passed, in order of submission.
+    /// Proposals that are not ratified and whose last epoch has passed, in order of submission.
     pub expired: Listed<ActionId>,
-    /// The frozen state after all that is ratified was enacted.
+    /// The frozen state after all ratified proposals were enacted.
     pub state: EnactState,
-    /// Counts, needs and verdict of each frozen proposal, in the order in which they are looked at.
+    /// Counts, needs and verdict of each frozen proposal, in the order of the pass.
     pub tallies: Listed<Tally>,
 }
 
-/// The pass over a frozen epoch and its count. The proposals are looked at in order of priority, each by the state after
-/// those ratified before it; once an action that delays is ratified, the others wait. (CIP-1694, Ratification; RATIFY of
-/// the formal specification)
+/// Looks at the proposals in order of priority, each by the state after those ratified before it.
+/// Once an action that delays is ratified, the others wait.
+/// (CIP-1694, Ratification; RATIFY of the formal specification)
 pub fn ratify(alloc: Global, f: &Frozen, c: &Counted) -> Result<Outcome, NoMemory>
     requires counted { CanBeCounted f.now c.now }
     ensures ratified { IfOk result (λ o. ForSnapshot f.now c.now (λ s. IsRatified s o.ratified)) }
@@ -47,8 +47,8 @@ pub fn ratify(alloc: Global, f: &Frozen, c: &Counted) -> Result<Outcome, NoMemor
     ratify_tallied(alloc, f, c, cells.as_slice())
 }
 
-/// The same, by cells that hold the counts of the frozen proposals. (CIP-1694, Ratification; RATIFY of the formal
-/// specification; that they are counted before is own)
+/// Does what `ratify` does, by cells that hold the counts of the frozen proposals.
+/// (CIP-1694, Ratification; RATIFY of the formal specification; that they are counted before: Own)
 pub fn ratify_tallied(
     alloc: Global,
     f: &Frozen,
@@ -91,7 +91,7 @@ fn expired(alloc: Global, f: &Frozen, ratified: &[ActionId]) -> Result<Listed<Ac
     expired_beside(alloc, f, &ratified)
 }
 
-// The same, by the set of those that are ratified.
+// The expired proposals, by the set of the ratified ones.
 fn expired_beside(
     alloc: Global,
     f: &Frozen,

@@ -13,19 +13,19 @@ use snapshots::Frozen;
 use std::alloc::Global;
 use tally::TallyCell;
 
-// How many types of actions there are, and so how many priorities.
+// The number of types of actions, which is that of priorities.
 const TYPES: u8 = 7;
 
-// A pass, as far as it has come, and what it told on the way.
+// A pass so far, and its tallies.
 #[derive(Drop)]
 pub(crate) struct Pass {
     pub(crate) passing: Passing,
-    // Of each proposal that was looked at, in order.
+    // The tallies of the proposals that were looked at, in order.
     pub(crate) tallies: Listed<Tally>,
 }
 
 impl Pass {
-    // All proposals are looked at, in order of priority.
+    // Looks at all proposals, in order of priority.
     pub(crate) fn over_all(alloc: Global, f: &Frozen, cells: &[TallyCell]) -> Result<Pass, NoMemory>
         requires members { IsMap credential_cmp (members_of f.now.start.committee) }
         ensures passed { IfOk result (λ p. ForTallied f.now cells.now (λ s. p ≡ pass_after s (order_of s))) }
@@ -41,7 +41,7 @@ impl Pass {
         Ok(pass)
     }
 
-    // Those of a priority are looked at, in order of submission.
+    // Looks at the proposals of a priority, in order of submission.
     fn over(
         self,
         alloc: Global,
@@ -62,7 +62,7 @@ impl Pass {
         Ok(pass)
     }
 
-    // One more is looked at.
+    // Looks at one more proposal.
     fn look_at(
         self,
         alloc: Global,

@@ -15,19 +15,19 @@ use snapshots::Frozen;
 use std::alloc::Global;
 use tally::TallyCell;
 
-/// The pass over a frozen epoch, as far as it has come. (CIP-1694, Ratification; its calls are own)
+/// The pass over a frozen epoch so far. (CIP-1694, Ratification; its calls: Own)
 #[derive(Drop)]
 pub struct Passing {
-    /// What is ratified so far, in the order in which it is enacted.
+    /// What is ratified so far, in the order of enactment.
     pub ratified: Listed<ActionId>,
     /// Whether none of these makes the others wait.
     pub goes_on: bool,
-    /// The state that these leave.
+    /// The state after these.
     pub state: EnactState,
 }
 
 impl Passing {
-    /// No proposal is looked at. (Own)
+    /// The pass before any proposal.
     pub fn begin(alloc: Global, f: &Frozen) -> Result<Passing, NoMemory>
         requires members { IsMap credential_cmp (members_of f.now.start.committee) }
         ensures passed { IfOk result (Begins f.now) }
@@ -68,14 +68,14 @@ impl Passing {
         Ok((passing, tally))
     }
 
-    // Whether the next action is ratified, by what the roles need and by their counts.
+    // Whether the next action is ratified, by the needs of the roles and by their counts.
     fn is_next(&self, epoch: u64, a: &Action, needs: &[Need; 3], counts: &[(u64, u64); 3]) -> bool
         ensures { result ≡ is_next epoch self.now a.now needs.now counts.now }
     {
         self.goes_on && can_be_enacted(epoch, &self.state, a) && are_met(needs, counts)
     }
 
-    // It is ratified and enacted, if it is ready.
+    // Adds the proposal to the ratified ones and enacts it, if it is ready.
     fn enact_if(self, ready: bool, alloc: Global, a: &Proposal) -> Result<Passing, NoMemory>
         requires affordable { ready ≡ true → withdrawn_by a.now.action ≤ self.state.treasury }
         requires members { IsMap credential_cmp (members_of self.state.committee) }
@@ -95,7 +95,7 @@ impl Passing {
     }
 }
 
-// What becomes of a proposal, by whether it is ready and by its last epoch.
+// The verdict on a proposal, by whether it is ready and by its last epoch.
 fn verdict_of(ready: bool, last: u64, epoch: u64) -> Verdict
     ensures { result ≡ verdict_by ready last epoch }
 {

@@ -21,7 +21,7 @@ pub(crate) fn counts_in(cell: &TallyCell) -> [(u64, u64); 3]
     [cell.committee, cell.drep, cell.pool]
 }
 
-// What each role needs, in the same order.
+// The need of each role, in the same order.
 pub(crate) fn needs_of(f: &Frozen, now: &EnactState, a: &Action) -> [Need; 3]
     ensures { (s : Snapshot) → f.now ≡ frozen_copy_of s → result ≡ map (λ r. need_of r s now.now a.now) roles }
 {
@@ -32,7 +32,7 @@ pub(crate) fn needs_of(f: &Frozen, now: &EnactState, a: &Action) -> [Need; 3]
     ]
 }
 
-// Whether the action follows the last one of its purpose, and asks for no more than the parameters and the treasury allow.
+// Whether the action follows the last one of its purpose, and parameters and treasury allow it.
 pub(crate) fn can_be_enacted(epoch: u64, now: &EnactState, a: &Action) -> bool
     ensures { result ≡ can_be_enacted epoch now.now a.now }
 {
@@ -49,7 +49,7 @@ pub(crate) fn are_met(needs: &[Need; 3], counts: &[(u64, u64); 3]) -> bool
         .all(|(need, count)| meets(*need, *count))
 }
 
-// Whether its previous action is the last enacted one of its purpose, if it has one.
+// Whether its previous action, if it has one, is the last enacted one of its purpose.
 fn follows_last(now: &EnactState, a: &Action) -> bool
     ensures { result ≡ follows_last now.now a.now }
 {
@@ -84,7 +84,7 @@ fn end_by(last: u128, members: &[(Credential, u64)]) -> bool
     members.iter().all(|m| u128::from(m.1) <= last)
 }
 
-// Whether the treasury has what it withdraws.
+// Whether the treasury covers the withdrawals.
 fn is_covered(now: &EnactState, a: &Action) -> bool
     ensures { result ≡ is_covered now.now a.now }
 {

@@ -1,4 +1,4 @@
-//! Values as they stand in a stream, and what they read as: numbers, fractions and lists, at their bounds.
+//! Values of a stream, and what they read as: numbers, fractions and lists, at their bounds.
 ghost use Rattle.gov_ids.specs.Orders.{account_cmp};
 ghost use Rattle.json_tree.specs.View.{view};
 ghost use Rattle.json_fields.specs.Entries.{both_in};
@@ -19,7 +19,7 @@ const RANGE: Option<FieldFault> = Some(FieldFault::OutOfRange);
 
 const KIND: Option<FieldFault> = Some(FieldFault::WrongKind);
 
-/// What the value is refused for as a number below 2^16 or 2^32, as a fraction up to 1 and as any.
+/// Why the value is refused as a number below 2^16 or 2^32, as a fraction up to 1, and as any one.
 fn faults(value: &Value<'_>) -> [Option<FieldFault>; 4] {
     [
         read_u16(value).err(),
@@ -83,7 +83,7 @@ fn at(place: u32, fault: FieldFault) -> Option<ListFault> {
     Some(ListFault::at(place, fault))
 }
 
-/// Lists of at most two entries: what each is refused for, and what it is where no account may stand in it twice.
+/// Lists of at most two entries: why each is refused, and what it is if no account may repeat.
 #[test]
 fn lists(rt: HostRuntime) -> Result<(), Fail> {
     let known = at(1, FieldFault::OutOfRange);

@@ -1,5 +1,5 @@
-//! Tests of the readers of actions and records. It has no code, so that a test is proved alone; tests/ of the repository
-//! has tables of what is refused.
+//! Tests of the readers of actions and records. It has no code, so that a test is proved alone.
+//! tests/ of the repository has tables of what is refused.
 #![tactic(auto)]
 
 #[cfg(test)]

@@ -20,15 +20,15 @@ const TOO_LONG: &str = "000102030405060708090a0b0c0d0e0f101112131415161718191a1b
 const OUTPUT: &str =
     r#"{"kind":"tx","id":"000000000000000000000000000000000000000000000000000000000000001f","inputs":[],"fee":0,"size":0,"outputs":[["1k0000000000000000000000000000000000000000000000000000001f",5,0],["1k0000000000000000000000000000000000000000000000000000001f",5,0,"#;
 
-/// One up to the assets of what it gets back of its collateral.
+/// A transaction up to the assets of its collateral return.
 const RETURN: &str =
     r#"{"kind":"tx","id":"000000000000000000000000000000000000000000000000000000000000001f","inputs":[],"fee":0,"size":0,"outputs":[],"collateralReturn":["1k0000000000000000000000000000000000000000000000000000001f",5,0,"#;
 
-/// One up to what it mints.
+/// A transaction up to what it mints.
 const MINT: &str =
     r#"{"kind":"tx","id":"000000000000000000000000000000000000000000000000000000000000001f","inputs":[],"fee":0,"size":0,"outputs":[],"mint":"#;
 
-/// The end of a genesis, up to the assets of its second output: of two fields of one name the last counts.
+/// The end of a genesis, up to its second output's assets. Of equal field names the last counts.
 const GENESIS_OUTPUT: &str =
     r#"]],"dreps":[],"outputs":[["000000000000000000000000000000000000000000000000000000000000001f#0","1k0000000000000000000000000000000000000000000000000000001f",5],["000000000000000000000000000000000000000000000000000000000000001f#1","1k0000000000000000000000000000000000000000000000000000001f",5,"#;
 
@@ -60,8 +60,8 @@ fn fault_of(alloc: Global, parts: [&str; 3]) -> Result<Option<RecordFault>, Fail
     Ok(read_record(alloc, line.as_bytes()).err())
 }
 
-/// What a list of assets is refused for in an output, in one of a genesis, in what comes back of the collateral and
-/// in what is minted.
+/// Why a list of assets is refused in an output, in one of a genesis, in a collateral return and in
+/// what is minted.
 fn faults(alloc: Global, list: &str) -> Result<[Option<RecordFault>; 4], Fail> {
     let genesis = format!(in alloc; "{GENESIS}{GENESIS_OUTPUT}")?;
     Ok([
@@ -76,7 +76,7 @@ fn bad(name: FieldName, place: Option<u32>) -> Option<RecordFault> {
     Some(RecordFault::BadField { name, place })
 }
 
-/// The same four where an output is refused, and what is minted too, at the asset of this place.
+/// The four faults where an output, and what is minted too, is refused at the asset of this place.
 fn refused(place: Option<u32>) -> [Option<RecordFault>; 4] {
     [
         bad(FieldName::Outputs, Some(1)),
@@ -113,7 +113,7 @@ fn names(rt: HostRuntime) -> Result<(), Fail> {
     Ok(())
 }
 
-/// The same four where the list is none in an output, and in what is minted.
+/// The four faults where the list is none in an output, and in what is minted.
 fn refused_where(held: bool, minted: bool) -> [Option<RecordFault>; 4] {
     let [output, genesis, back, mint] = refused(Some(0));
     let of_outputs = |fault| if held { fault } else { None };
@@ -197,7 +197,7 @@ fn moves(tx: &Tx, mint: &[(AssetId, i64)], held: &[(AssetId, u64)]) -> bool {
     tx.mint.as_slice() == mint && last
 }
 
-/// Assets stand in the order of their policies, then of their names.
+/// Assets are in the order of their policies, then of their names.
 #[test]
 fn in_order(rt: HostRuntime) -> Result<(), Fail> {
     let assets = [(OTHER_POLICY, "01"), (POLICY, "02"), (POLICY, "01")];

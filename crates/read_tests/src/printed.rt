@@ -1,4 +1,4 @@
-//! Actions are printed as they are read: compact, in the order of the formats, without what is absent.
+//! Actions are printed as they are read: compact, in the formats' order, without absent fields.
 use crate::actions::{COMMITTEE, PARAMS, WITHDRAWALS};
 use action_lines::push_action;
 use action_read::read_action;
@@ -7,7 +7,7 @@ use json_tree::{Scratch, read_value};
 use std::alloc::Global;
 use std::test::Fail;
 
-/// Actions that stand in a stream as they are printed.
+/// Actions that a stream has as they are printed.
 const COMPACT: [&str; 9] = [
     COMMITTEE,
     WITHDRAWALS,
@@ -20,7 +20,7 @@ const COMPACT: [&str; 9] = [
     r#"{"type":"NewConstitution","document":"0000000000000000000000000000000000000000000000000000000000000002","script":"00000000000000000000000000000000000000000000000000000098"}"#,
 ];
 
-/// Actions that stand otherwise, and as they are printed.
+/// Actions that a stream has in another form, and as they are printed.
 const OTHERWISE: [(&str, &str); 3] = [
     (
         r#" { "previous" : null , "type" : "Info" } "#,

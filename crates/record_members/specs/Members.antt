@@ -1,4 +1,4 @@
--- The names of a transaction's fields, each with a place, and what stands at the places. (Own)
+-- The names of a transaction's fields, each with a place, and the values at the places. (Own)
 use Rattle.std.specs.Prelude.{◌≡◌, ℕ, suc, List, [], ◌∷◌, Option, Some, None, bytes_eq, codes, option_map, slice_get, slice_index_or, if◌then◌else◌}
 use Rattle.std.specs.Borrow.{Bor}
 use Rattle.serde_json.specs.Data.{Data}
@@ -28,20 +28,20 @@ place_of name = place_in names 0 name
 abbrev pub place_of_name : FieldName → Option ℕ
 place_of_name name = place_of (text_of_field name)
 
--- the value of the member that stands there
+-- the value of the member at this index
 abbrev pub value_at : List (Bor (List ℕ) × Value) → Option ℕ → Option Data
 value_at es None = None
 value_at es (Some i) = option_map (λ (e : Bor (List ℕ) × Value). view e.1) (slice_get es i)
 
--- what stands at a place
+-- the value at a place
 abbrev pub at : List (Bor (List ℕ) × Value) → List (Option ℕ) → ℕ → Option Data
 at es found place = value_at es (slice_index_or found place None)
 
--- at each place stands where the last of these members with its name is
+-- each place has the value of the last of these members with its name
 abbrev pub FindsAmong : List (Bor (List ℕ) × Value) → List (Bor (List ℕ) × Value) → List (Option ℕ) → Type 0
 FindsAmong es front found = (name : List ℕ) (place : ℕ) → place_of name ≡ Some place → at es found place ≡ get_member name (members_view front)
 
--- the same of the members of a value
+-- each place has the value of the last member of a value with its name
 pub record Finds (v : Value) (es : List (Bor (List ℕ) × Value)) (found : List (Option ℕ)) : Type 0 where
   pub members : as_object (view v) ≡ Some (members_view es)
   pub finds : FindsAmong es es found

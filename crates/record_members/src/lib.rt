@@ -1,4 +1,4 @@
-//! The members of an object that a transaction's fields have names for, found in one walk.
+//! The members of an object that a transaction's fields have names for, found in one scan.
 #![tactic(auto)]
 
 ghost use Rattle.std.specs.Prelude.{◌≡◌, None, MatchOption, option_map};
@@ -71,7 +71,7 @@ fn place_of(text: &str) -> Option<usize>
     }
 }
 
-/// The same of a field's name, with no text to compare.
+/// The place of a field's name, with no text to compare.
 fn place_of_name(name: FieldName) -> Option<usize>
     ensures { result ≡ place_of_name name }
 {
@@ -100,7 +100,7 @@ fn place_of_name(name: FieldName) -> Option<usize>
     }
 }
 
-/// Where the last member of each name that has a place stands in the list.
+/// For each name that has a place: the index of the last member with that name.
 fn found_among(members: &[(&str, Value<'_>)]) -> [Option<usize>; PLACES]
     ensures { FindsAmong members.now members.now result }
 {
@@ -114,7 +114,7 @@ fn found_among(members: &[(&str, Value<'_>)]) -> [Option<usize>; PLACES]
     found
 }
 
-/// The value of the member that stands there.
+/// The value of the member at this index.
 fn value_at<'v, 'a>(members: &'v [(&'a str, Value<'a>)], at: Option<usize>) -> Option<&'v Value<'a>>
     ensures { option_map (λ v. view v.now) result ≡ value_at members.now at }
 {

@@ -100,7 +100,7 @@ asset_in quantity d = do
   held ← quantity parts.2
   Ok (record { policy = policy; name = name }, held)
 
--- the assets of an output, each once; they stand in order, whatever their order in the record
+-- the assets of an output, each once, in order, whatever their order in the record
 abbrev pub assets_in : Data → Result (List (AssetId × ℕ)) FieldFault
 assets_in d =
     without_place (distinct_list_in asset_cmp (λ (e : AssetId × ℕ). e.0) LIST_LIMIT (asset_in held_in) d)
@@ -150,7 +150,7 @@ genesis_account_in d = do
   drep ← nullable_in drep_in parts.4
   Ok (cred, deposit, rewards, pool, drep)
 
--- a pool: its id, its deposit, its cost, its pledge, its margin, its reward account, and its key, if it has one
+-- a pool: its id, deposit, cost, pledge, margin, reward account, and key, if it has one
 unfoldable pub genesis_pool_in : Data → Result GenesisPool FieldFault
 genesis_pool_in d = do
   parts ← six_or_seven_in d

@@ -39,7 +39,7 @@ abbrev pub list_by : {A : Type 0} → (Data → Result (List A) ListFault) → R
 list_by reading (Ok d) = reading d
 list_by reading (Err fault) = Err (whole_fault fault)
 
--- the same in one that may be absent or null, which is the empty list
+-- the list in a field that may be absent or null, which is the empty list
 abbrev pub optional_list_by : {A : Type 0} → (Data → Result (List A) ListFault) → Result (Option Data) FieldFault → Result (List A) ListFault
 optional_list_by reading (Ok None) = Ok []
 optional_list_by reading (Ok (Some d)) = reading d
@@ -49,7 +49,7 @@ optional_list_by reading (Err fault) = Err (whole_fault fault)
 abbrev pub needed_list : {A : Type 0} → FieldName → ℕ → (Data → Result A FieldFault) → Data → Result (List A) LineFault
 needed_list name limit reading d = listed name (list_by (list_in limit reading) (field_in (text_of_field name) d))
 
--- one whose entries have names, none of which stands twice
+-- a list of entries with names, none of them twice
 abbrev pub needed_distinct_list : {A K : Type 0} → FieldName → (K → K → Ordering) → (A → K) → ℕ → (Data → Result A FieldFault) → Data → Result (List A) LineFault
 needed_distinct_list name cmp own limit reading d = listed name (list_by (distinct_list_in cmp own limit reading) (field_in (text_of_field name) d))
 
@@ -57,7 +57,7 @@ needed_distinct_list name cmp own limit reading d = listed name (list_by (distin
 abbrev pub optional_list : {A : Type 0} → FieldName → ℕ → (Data → Result A FieldFault) → Data → Result (List A) LineFault
 optional_list name limit reading d = listed name (optional_list_by (list_in limit reading) (optional_in (text_of_field name) d))
 
--- one whose entries have names, none of which stands twice
+-- a list of entries with names, none of them twice, that may be absent or null
 abbrev pub optional_distinct_list : {A K : Type 0} → FieldName → (K → K → Ordering) → (A → K) → ℕ → (Data → Result A FieldFault) → Data → Result (List A) LineFault
 optional_distinct_list name cmp own limit reading d =
     listed name (optional_list_by (distinct_list_in cmp own limit reading) (optional_in (text_of_field name) d))

@@ -2,7 +2,8 @@
 use Rattle.std.specs.Prelude.{ℕ, Option}
 use Rattle.tx_records.specs.declared.field.FieldName.{FieldName}
 
--- it is no JSON value; it is no object, or its kind is none of the five; or the first field that is missing or bad, with the place of the entry that is, where one is
+-- it is no JSON value; it is no object or of none of the five kinds; or the first missing or bad
+-- field, with the place of the bad entry, if one entry is bad
 pub data LineFault : Type 0 where
   BadJson : LineFault
   UnknownKind : LineFault

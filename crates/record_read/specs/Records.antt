@@ -1,4 +1,5 @@
--- What a JSON value reads as, where it is a record; fields are read in this order, and the first that does not read is named. (Own)
+-- What a JSON value reads as, where it is a record. (Own)
+-- Fields are read in this order, and the first one that does not read is named.
 use Rattle.std.specs.Prelude.{ℕ, ℤ, true, List, [], Result, Ok, Err, bytes_eq, codes, if◌then◌else◌}
 use Rattle.serde_json.specs.Data.{Data}
 use Rattle.maps.specs.Maps.{with_values}
@@ -129,13 +130,13 @@ form_in d = do
   scripts ← defaulted Absent fields.Scripts scripts_in d
   Ok (record { size = size; script_fee = script_fee; witnessed = witnessed; scripts = scripts })
 
--- what is minted and burned, each asset once; the assets stand in order, whatever their order in the record
+-- what is minted and burned, each asset once, in order, whatever their order in the record
 abbrev pub mint_in : Data → Result (List (AssetId × ℤ)) LineFault
 mint_in d =
     optional_distinct_list fields.Mint asset_cmp (λ (e : AssetId × ℤ). e.0) LIST_LIMIT (asset_in moved_in) d
     >>= λ entries. Ok (with_values asset_cmp entries [])
 
--- when it may stand, what it loses where its scripts fail, and what it mints
+-- its validity interval, what it loses if its scripts fail, and what it mints
 unfoldable pub terms_in : Data → Result Terms LineFault
 terms_in d = do
   from ← optional fields.From slot_in d

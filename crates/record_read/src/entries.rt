@@ -209,7 +209,7 @@ impl Kind for Committee {
     }
 }
 
-/// An output of a genesis: its reference, its address, its lovelace, and its assets, if it has some.
+/// An output of a genesis: its reference, address, lovelace, and assets, if it has some.
 pub struct GenesisOutput;
 
 impl Kind for GenesisOutput {
@@ -268,7 +268,7 @@ fn optional_key(value: Option<&Value<'_>>) -> Result<Option<[u8; 32]>, FieldFaul
     }
 }
 
-/// A pool of a genesis: its id, its deposit, its cost, its pledge, its margin, its reward account, and its key, if it has one.
+/// A pool of a genesis: id, deposit, cost, pledge, margin, reward account, and key, if it has one.
 pub struct GenesisPoolEntry;
 
 impl Kind for GenesisPoolEntry {
@@ -320,7 +320,7 @@ impl Kind for GenesisDrep {
     }
 }
 
-/// An output of a transaction: its address, its lovelace, its size in bytes, and its assets, if it has some.
+/// An output of a transaction: its address, lovelace, size in bytes, and assets, if it has some.
 pub struct Output;
 
 impl Kind for Output {

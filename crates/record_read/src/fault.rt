@@ -4,14 +4,14 @@ use coin_frac::NoMemory;
 use std::alloc::AllocError;
 use tx_records::FieldName;
 
-/// Why a line gives no record. (Own)
+/// Why a line gives no record.
 #[derive(Clone, Copy, Debug, PartialEq, Eq)]
 pub enum RecordFault {
     /// `serde_json` reads no value.
     BadJson,
     /// The value is no object, or its kind is none of the five.
     UnknownKind,
-    /// The first field that is missing or bad, and the place in its list, from 0, where one entry is.
+    /// The first missing or bad field, and the place in its list, from 0, of a bad entry.
     BadField { name: FieldName, place: Option<u32> },
     /// Memory ran out.
     NoMemory,

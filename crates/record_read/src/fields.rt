@@ -12,7 +12,7 @@ use record_members::Members;
 use std::alloc::Global;
 use tx_records::FieldName;
 
-/// The fault of a field, with the place of the entry that is bad. Want of memory is of no field.
+/// The fault of a field, with the place of the bad entry. Out of memory: the fault of no field.
 fn fault_in(name: FieldName, place: Option<u32>, fault: FieldFault) -> RecordFault
     ensures { result ≡ fault_in name place fault }
 {
@@ -94,7 +94,7 @@ pub fn needed_list<K: Kind>(
     in_list(name, read_list::<K>(alloc, limit, value))
 }
 
-/// The same, each entry with a name of its own.
+/// A list of at most `limit` entries, each with its own name, in a field that has to be there.
 pub fn needed_distinct_list<K: Kind>(
     alloc: Global,
     object: &Members<'_, '_>,
@@ -125,7 +125,7 @@ pub fn optional_list<K: Kind>(
     }
 }
 
-/// The same, each entry with a name of its own.
+/// At most `limit` entries, each with its own name, in a field that may be absent or null.
 pub fn optional_distinct_list<K: Kind>(
     alloc: Global,
     object: &Members<'_, '_>,

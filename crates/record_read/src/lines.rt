@@ -9,7 +9,7 @@ use json_tree::{Scratch, read_value};
 use std::alloc::Global;
 use tx_records::Record;
 
-/// The record of a line, or the first thing of it that is wrong. `NoMemory` may come at any time. (Own)
+/// The record of a line, or its first fault. `NoMemory` may come at any time. (Own)
 pub fn read_record(alloc: Global, line: &[u8]) -> Result<Record, RecordFault>
     ensures reads { ReadsRecord result (record_of_line line.now) }
     ensures within { IfOk result (λ r. is_within_limits r ≡ true) }
@@ -18,7 +18,7 @@ pub fn read_record(alloc: Global, line: &[u8]) -> Result<Record, RecordFault>
     read_record_with(alloc, &mut scratch, line)
 }
 
-/// The same, with a scratch that is kept from line to line: to make one costs as much as to read a short line. (Own)
+/// The record of a line, read with a kept scratch: a new one costs as much as a short line. (Own)
 pub fn read_record_with(
     alloc: Global,
     scratch: &mut Scratch,

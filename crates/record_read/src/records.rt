@@ -228,7 +228,7 @@ struct Form {
     scripts: Scripts,
 }
 
-/// When it may stand, what it loses where its scripts fail, and what it mints.
+/// The validity interval of a transaction, what it loses if its scripts fail, and what it mints.
 struct Terms {
     from: Option<u64>,
     until: Option<u64>,
@@ -322,7 +322,7 @@ fn read_mint(alloc: Global, object: &Members<'_, '_>) -> Result<Mint, RecordFaul
     Ok(AssetList::from_entries(alloc, entries.as_slice())?)
 }
 
-/// When it may stand, what it loses where its scripts fail, and what it mints.
+/// The validity interval of a transaction, what it loses if its scripts fail, and what it mints.
 #[tactic(auto, unfolding(crate::specs::Records::terms_in))]
 fn read_terms(alloc: Global, object: &Members<'_, '_>) -> Result<Terms, RecordFault>
     ensures { ReadsRecord result (terms_in (view object.now)) }
@@ -493,7 +493,7 @@ fn kind_of<'a>(object: &Members<'_, 'a>) -> Result<&'a str, FieldFault>
     read_text(object.field(FieldName::Kind)?)
 }
 
-/// The record of a JSON value, or the first thing of it that is wrong. `NoMemory` may come at any time. (Own)
+/// The record of a JSON value, or its first fault. `NoMemory` may come at any time. (Own)
 pub fn record(alloc: Global, object: &Value<'_>) -> Result<Record, RecordFault>
     ensures { ReadsRecord result (record_in (view object.now)) }
 {

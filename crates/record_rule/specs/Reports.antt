@@ -13,12 +13,12 @@ abbrev pub report_into : Bool → World → Option EpochReport
 report_into true w = Some (report_of w)
 report_into false w = None
 
--- of a record that breaks no rule
+-- the report of a record that breaks no rule
 abbrev pub report_of_accepted : World → Record → Option EpochReport
 report_of_accepted w (records.Block slot pulse) = report_into (enters_next w.ledger slot) w
 report_of_accepted w _ = None
 
--- by the first rule that the record breaks
+-- the report by the first rule that the record breaks
 abbrev pub report_by : Option Rule → World → Record → Option EpochReport
 report_by (Some rule) w r = None
 report_by None w r = report_of_accepted w r

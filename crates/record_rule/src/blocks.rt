@@ -5,16 +5,16 @@ ghost use Rattle.run_model.specs.Step.{block_checks, enters_next, step};
 ghost use Rattle.tx_records.specs.declared.record.Record.TheVariants as records;
 
 use crate::applied::Applied;
-use coin_frac::NoMemory;
 use epoch_rule::cross;
 use ledger_state::LedgerState;
+use no_memory::NoMemory;
 use par_count::Gate;
 use std::alloc::Global;
 use std::thread::Threads;
 use tx_records::Reply;
 
-/// Applies a block: one of the next epoch that breaks no rule crosses the boundary first. (TICK and NEWEPOCH of the formal
-/// specification)
+/// Applies a block. One of the next epoch that breaks no rule crosses the boundary first.
+/// (TICK and NEWEPOCH of the formal specification)
 pub(crate) fn apply_block<R: Threads + Sync, G: Gate + Sync>(
     alloc: Global,
     rt: &R,
@@ -37,7 +37,7 @@ pub(crate) fn apply_block<R: Threads + Sync, G: Gate + Sync>(
     }
 }
 
-/// The same of a block that breaks no rule and whose slot is not in the next epoch.
+/// Applies a block of the current epoch that breaks no rule.
 fn apply_within(ledger: LedgerState, slot: u64, pulse: u32) -> Applied
     requires early { slot < 2 ^ 62 }
     requires unbroken { first_among (block_checks ledger.ledger slot pulse) ≡ None }
@@ -49,7 +49,7 @@ fn apply_within(ledger: LedgerState, slot: u64, pulse: u32) -> Applied
     Applied::within_epoch(after, reply)
 }
 
-/// The same of a block that breaks no rule and whose slot is in the next epoch.
+/// Applies a block of the next epoch that breaks no rule.
 fn apply_first_of_epoch<R: Threads + Sync, G: Gate + Sync>(
     alloc: Global,
     rt: &R,

@@ -1,4 +1,4 @@
-//! Any record applied to a ledger: a transaction, a block with the boundary that it crosses, a reward update.
+//! Applies any record to a ledger: a transaction, a block with its boundary, a reward update.
 #![tactic(auto)]
 
 mod applied;

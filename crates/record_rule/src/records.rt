@@ -5,8 +5,8 @@ ghost use Rattle.tx_records.specs.RecordLimits.{is_within_limits};
 
 use crate::applied::Applied;
 use crate::blocks::apply_block;
-use coin_frac::NoMemory;
 use ledger_state::LedgerState;
+use no_memory::NoMemory;
 use par_count::Gate;
 use std::alloc::Global;
 use std::thread::Threads;
@@ -14,10 +14,9 @@ use tx_records::rules::GENESIS_AGAIN;
 use tx_records::{Record, Reply, Rule};
 use tx_rule::apply_tx;
 
-/// Applies a record: the ledger that it leaves, its reply, and the report of the boundary that it crosses. A refused record changes
-/// nothing, nor does a print, which is accepted. So many workers, in threads that `rt` makes, share the counts of a boundary, and
-/// each enters the gate before its share; their number changes no answer. After want of memory there is no ledger. (LEDGERS, TICK
-/// and NEWEPOCH of the formal specification)
+/// Applies a record: the ledger after it, its reply, and the report of a crossed boundary. Refused
+/// records and prints change nothing. Workers, in `rt`'s threads, enter the gate and share counts.
+/// `NoMemory`: no ledger remains. (LEDGERS, TICK and NEWEPOCH of the formal specification)
 pub fn apply_record<R: Threads + Sync, G: Gate + Sync>(
     alloc: Global,
     rt: &R,

@@ -1,4 +1,4 @@
--- What stands before the pots in their line. (Own)
+-- The word before the pots in their line. (Own)
 use Rattle.std.specs.Prelude.{codes}
 use Rattle.report.specs.declared.pots.PotsWord.{PotsWord}
 use Rattle.report.specs.declared.pots.PotsWord.TheVariants.{Genesis, Pots}

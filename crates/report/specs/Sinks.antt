@@ -1,4 +1,4 @@
--- What a sink tells after a line of which it took only a part. (Own)
+-- What a sink holds after it took only a part of a line. (Own)
 use Rattle.std.specs.Prelude.{◌≡◌, ◌<◌, ℕ, List, Option, length, take}
 use Rattle.std.specs.Io.KnownBytes.{append_known}
 

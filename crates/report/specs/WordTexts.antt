@@ -1,4 +1,4 @@
--- What a word of a line is printed as. (Own)
+-- The bytes that a word of a line is printed as. (Own)
 use Rattle.std.specs.Prelude.{decimal}
 use Rattle.gov_ids.specs.Spelling.{account_text, action_id_text, address_text, asset_name_text, credential_text, drep_text, hash_text, pool_text, ref_text, voter_text}
 use Rattle.text_model.specs.Words as texts

@@ -8,7 +8,7 @@ use crate::line_list::LineList;
 use crate::lines::{LineTaker, put_listed, put_one};
 use crate::pots::PotsWord;
 use byte_lines::SinkFault;
-use coin_frac::NoMemory;
+use no_memory::NoMemory;
 use std::alloc::Global;
 use tx_records::{EpochReport, Pots};
 
@@ -28,7 +28,7 @@ fn put_count<T: LineTaker>(
     put_listed(to, text, line, &report.tallies)
 }
 
-/// The same, and what was paid and removed.
+/// Hands over these, and what was paid and removed.
 fn put_enacted<T: LineTaker>(
     to: &mut T,
     text: &mut Vec<u8>,
@@ -45,7 +45,8 @@ fn put_enacted<T: LineTaker>(
     put_listed(to, text, line, &report.removed)
 }
 
-/// Hands over the lines of a boundary, in order: its report, and the pots after it. Each is made in the buffer, in place of what it held. After an error a front of them was taken. (Own)
+/// Hands over the lines of a boundary, in order: its report, then the pots. (Own)
+/// Each line replaces the buffer. After an error a prefix of the lines was taken.
 pub fn put_epoch<T: LineTaker>(
     to: &mut T,
     text: &mut Vec<u8>,
@@ -61,7 +62,7 @@ pub fn put_epoch<T: LineTaker>(
     put_one(to, text, line, &(PotsWord::Pots, *pots))
 }
 
-/// The lines of a boundary, each with its line feed: what is handed over, left in memory. (Own)
+/// The lines of a boundary in memory, each with its line feed, as they are handed over. (Own)
 pub fn epoch_text(
     alloc: Global,
     line: u64,

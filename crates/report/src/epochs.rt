@@ -9,12 +9,12 @@ ghost use Rattle.report.specs.WordTexts.{word_text};
 use crate::lines::Printed;
 use crate::parts::{Word, push_line, push_parts};
 use crate::words::{end_line, push_digits, push_word};
-use coin_frac::NoMemory;
 use gov_actions::{ActionKind, Need, Tally, Verdict};
 use gov_ids::{Account, Drep};
+use no_memory::NoMemory;
 use tx_records::{EpochReport, Paid, Removed, Retired, Why};
 
-/// The type of an action, as lines have it. (Own)
+/// The type of an action, as in lines. (Own)
 pub fn kind_name(kind: ActionKind) -> &'static str
     ensures { result.now ≡ kind_text kind }
 {
@@ -72,7 +72,7 @@ fn to_word(to: &Option<Account>) -> Word<'_>
     }
 }
 
-/// Appends the line of the epoch that begins. After want of memory the buffer may hold anything. (Own)
+/// Appends the line of the epoch that begins. After `NoMemory` the buffer may hold anything. (Own)
 pub fn push_epoch_line(out: &mut Vec<u8>, line: u64, report: &EpochReport) -> Result<(), NoMemory>
     ensures { OnOk result (out.new.items ≡ out.old.items ++ line_of line (epoch_words report.now)) }
 {
@@ -90,7 +90,7 @@ pub fn push_epoch_line(out: &mut Vec<u8>, line: u64, report: &EpochReport) -> Re
     )
 }
 
-/// Appends the line of a DRep's stake. After want of memory the buffer may hold anything. (Own)
+/// Appends the line of a DRep's stake. After `NoMemory` the buffer may hold anything. (Own)
 pub fn push_stake_line(out: &mut Vec<u8>, line: u64, stake: &(Drep, u64)) -> Result<(), NoMemory>
     ensures { OnOk result (out.new.items ≡ out.old.items ++ line_of line (stake_words stake.now)) }
 {
@@ -105,7 +105,8 @@ pub fn push_stake_line(out: &mut Vec<u8>, line: u64, stake: &(Drep, u64)) -> Res
     )
 }
 
-/// Appends the line of a target of an enacted withdrawal. After want of memory the buffer may hold anything. (Own)
+/// Appends the line of a target of an enacted withdrawal. (Own)
+/// After `NoMemory` the buffer may hold anything.
 pub fn push_paid_line(out: &mut Vec<u8>, line: u64, paid: &Paid) -> Result<(), NoMemory>
     ensures { OnOk result (out.new.items ≡ out.old.items ++ line_of line (paid_words paid.now)) }
 {
@@ -121,7 +122,7 @@ pub fn push_paid_line(out: &mut Vec<u8>, line: u64, paid: &Paid) -> Result<(), N
     )
 }
 
-/// Appends the line of a removed proposal. After want of memory the buffer may hold anything. (Own)
+/// Appends the line of a removed proposal. After `NoMemory` the buffer may hold anything. (Own)
 pub fn push_removed_line(out: &mut Vec<u8>, line: u64, removed: &Removed) -> Result<(), NoMemory>
     ensures { OnOk result (out.new.items ≡ out.old.items ++ line_of line (removed_words removed.now)) }
 {
@@ -139,7 +140,7 @@ pub fn push_removed_line(out: &mut Vec<u8>, line: u64, removed: &Removed) -> Res
     )
 }
 
-/// Appends the line of a reaped pool. After want of memory the buffer may hold anything. (Own)
+/// Appends the line of a reaped pool. After `NoMemory` the buffer may hold anything. (Own)
 pub fn push_retired_line(out: &mut Vec<u8>, line: u64, retired: &Retired) -> Result<(), NoMemory>
     ensures { OnOk result (out.new.items ≡ out.old.items ++ line_of line (retired_words retired.now)) }
 {
@@ -185,7 +186,7 @@ fn push_roles(
     push_role(out, "pool", counts[2], needs[2])
 }
 
-/// Appends the line of a proposal's tally. After want of memory the buffer may hold anything. (Own)
+/// Appends the line of a proposal's tally. After `NoMemory` the buffer may hold anything. (Own)
 pub fn push_tally_line(out: &mut Vec<u8>, line: u64, tally: &Tally) -> Result<(), NoMemory>
     ensures { OnOk result (out.new.items ≡ out.old.items ++ line_of line (tally_words tally.now)) }
 {
@@ -270,7 +271,9 @@ impl Printed for Retired {
     }
 }
 
-/// Appends the line of an accepted block of this slot in this epoch, after which `counted` of `entries` frozen entries are counted. After want of memory the buffer may hold anything. (Own)
+/// Appends the line of an accepted block of this slot in this epoch. (Own)
+/// After it `counted` of `entries` frozen entries are counted.
+/// After `NoMemory` the buffer may hold anything.
 pub fn push_block_line(
     out: &mut Vec<u8>,
     line: u64,

@@ -1,4 +1,4 @@
-//! The lines that the program writes but for those of a state, each into a buffer that is used again for the next.
+//! All lines that the program writes except those of a state, each through one reused buffer.
 #![tactic(auto)]
 
 mod boundaries;

@@ -5,7 +5,7 @@ use byte_lines::SinkFault;
 use std::alloc::Global;
 use std::marker::Model;
 
-/// Lines that are kept in memory. (Own)
+/// Lines that are kept in memory.
 #[derive(Drop)]
 pub struct LineList {
     alloc: Global,
@@ -21,7 +21,7 @@ impl Model for LineList {
 }
 
 impl LineList {
-    /// No line yet. It takes no memory. (Own)
+    /// No line yet. It takes no memory.
     pub fn new(alloc: Global) -> Self
         ensures { result ≡ [] }
     {
@@ -31,7 +31,7 @@ impl LineList {
         }
     }
 
-    /// The lines, each with its line feed. (Own)
+    /// The lines, each with its line feed.
     pub fn into_lines(self) -> Vec<Vec<u8>>
         ensures { map (λ line. line.items) result.items ≡ self }
     {

@@ -5,22 +5,22 @@ ghost use Rattle.text_model.specs.Words.{line_of};
 ghost use Rattle.report.specs.Taking.{HasPut};
 
 use byte_lines::SinkFault;
-use coin_frac::NoMemory;
 use listed::Listed;
+use no_memory::NoMemory;
 
-/// Who takes finished lines. (Own)
+/// Who takes finished lines.
 pub trait LineTaker {
     ghost use Rattle.std.specs.Prelude.{ℕ, List};
 
     ghost Taken: { Type 0 };
 
-    // what it tells of what it took
+    // the report on what it took
     ghost taken: { Self → Taken };
 
-    // what it tells after one more line
+    // the report after one more line
     ghost with_line: { Taken → List ℕ → Taken };
 
-    // what it may tell after a line of which it did not take all
+    // the possible reports after a line that it did not take whole
     ghost IsPart: { Taken → List ℕ → Taken → Type 0 };
 
     // how many writes failed; it never falls
@@ -33,7 +33,7 @@ pub trait LineTaker {
         ensures counts { CountsFaults (result ≡ Err SinkFault.WriteFault) (faults self.old) (faults self.new) };
 }
 
-/// What is printed as one line. (Own)
+/// What is printed as one line.
 pub trait Printed {
     ghost use Rattle.std.specs.Prelude.{ℕ, List};
 
@@ -45,7 +45,7 @@ pub trait Printed {
         ensures { OnOk result (out.new.items ≡ out.old.items ++ line_of line (words self.now)) };
 }
 
-/// Hands over the line of an item, through a buffer that is used again for the next.
+/// Hands over the line of an item, through a reused buffer.
 pub fn put_one<T: LineTaker, P: Printed>(
     to: &mut T,
     text: &mut Vec<u8>,
@@ -76,7 +76,7 @@ pub fn put_each<T: LineTaker, P: Printed>(
     Ok(())
 }
 
-/// The same of a list.
+/// Hands over the line of each item of a list, in order.
 pub(crate) fn put_listed<T: LineTaker, P: Printed>(
     to: &mut T,
     text: &mut Vec<u8>,

@@ -3,23 +3,23 @@ ghost use Rattle.text_model.specs.Words.{fraction_text, line_of, spaced, version
 ghost use Rattle.report.specs.WordTexts.{word_text};
 
 use crate::words::{end_line, push_digits};
-use coin_frac::NoMemory;
 use gov_ids::{
     Account, ActionId, Address, AssetName, Credential, Drep, OutRef, PoolId, Voter, push_account,
     push_action_id, push_address, push_asset_name, push_credential, push_drep, push_hash,
     push_pool, push_ref, push_voter,
 };
+use no_memory::NoMemory;
 
-/// A word of a line, as what it is printed from. (Own)
+/// A word of a line, by its source.
 #[derive(Drop)]
 pub enum Word<'a> {
-    /// As it stands.
+    /// Unchanged.
     Text(&'a str),
     /// In decimal digits.
     Number(u64),
     /// A sum of numbers, in decimal digits.
     Sum(u128),
-    /// A count of a total, or a fraction as it was written.
+    /// A count of a total, or a fraction as written.
     Fraction(u64, u64),
     /// Major, then minor.
     Version(u32, u32),
@@ -89,7 +89,7 @@ fn push_text(out: &mut Vec<u8>, word: &Word<'_>) -> Result<(), NoMemory>
     }
 }
 
-/// Adds a word after a space. After want of memory the buffer may hold anything. (Own)
+/// Adds a word after a space. After `NoMemory` the buffer may hold anything.
 pub fn push_part(out: &mut Vec<u8>, word: &Word<'_>) -> Result<(), NoMemory>
     ensures { OnOk result (out.new.items ≡ out.old.items ++ 32 ∷ word_text word.now) }
 {
@@ -97,7 +97,7 @@ pub fn push_part(out: &mut Vec<u8>, word: &Word<'_>) -> Result<(), NoMemory>
     push_text(out, word)
 }
 
-/// Adds words, each after a space. After want of memory the buffer may hold anything. (Own)
+/// Adds words, each after a space. After `NoMemory` the buffer may hold anything.
 pub fn push_parts(out: &mut Vec<u8>, words: &[Word<'_>]) -> Result<(), NoMemory>
     ensures { OnOk result (out.new.items ≡ out.old.items ++ spaced (map word_text words.now)) }
 {
@@ -107,7 +107,8 @@ pub fn push_parts(out: &mut Vec<u8>, words: &[Word<'_>]) -> Result<(), NoMemory>
     Ok(())
 }
 
-/// Adds a line: the number of the record's line, the words, and a line feed. After want of memory the buffer may hold anything. (Own)
+/// Adds a line: the number of the record's line, the words, and a line feed. (Own)
+/// After `NoMemory` the buffer may hold anything.
 pub fn push_line(out: &mut Vec<u8>, line: u64, words: &[Word<'_>]) -> Result<(), NoMemory>
     ensures { OnOk result (out.new.items ≡ out.old.items ++ line_of line (map word_text words.now)) }
 {

@@ -7,10 +7,10 @@ ghost use Rattle.report.specs.PotsWords.{pots_word_text};
 
 use crate::lines::Printed;
 use crate::words::{end_line, push_amounts, push_digits, push_word};
-use coin_frac::NoMemory;
+use no_memory::NoMemory;
 use tx_records::Pots;
 
-/// What stands before the pots in their line. (Own)
+/// The word before the pots in their line. (Own)
 #[derive(Clone, Copy)]
 pub enum PotsWord {
     /// The answer to a genesis.
@@ -69,7 +69,7 @@ fn push_pots(line: &mut Vec<u8>, word: &str, pots: &Pots) -> Result<(), NoMemory
     Ok(())
 }
 
-/// Appends the line of the pots. After want of memory the buffer may hold anything. (Own)
+/// Appends the line of the pots. After `NoMemory` the buffer may hold anything. (Own)
 pub fn push_pots_line(
     out: &mut Vec<u8>,
     line: u64,
@@ -83,7 +83,7 @@ pub fn push_pots_line(
     end_line(out)
 }
 
-/// The line of the pots, in place of what the buffer held. After want of memory the buffer may hold anything. (Own)
+/// Replaces the buffer by the line of the pots. After `NoMemory` it may hold anything. (Own)
 pub fn pots_line(
     line: &mut Vec<u8>,
     number: u64,

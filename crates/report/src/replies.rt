@@ -7,10 +7,10 @@ ghost use Rattle.report.specs.RuleNames.{text_seen};
 
 use crate::rule_texts::{RuleText, text_of};
 use crate::words::{begin, end_line, push_digits, push_number, push_word};
-use coin_frac::NoMemory;
+use no_memory::NoMemory;
 use tx_records::{FieldName, Reply, Rule, rules};
 
-/// Adds the place of a refusal, where it has one.
+/// Adds the place of a refusal, if it has one.
 fn push_place(line: &mut Vec<u8>, place: Option<u32>) -> Result<(), NoMemory>
     ensures { OnOk result (line.new.items ≡ line.old.items ++ spaced (place_words place)) }
 {
@@ -34,7 +34,7 @@ fn push_bracketed(line: &mut Vec<u8>, place: Option<u32>) -> Result<(), NoMemory
     Ok(())
 }
 
-/// Adds what of a malformed line is wrong, with its place.
+/// Adds what is wrong in a malformed line, with its place.
 fn push_what(
     line: &mut Vec<u8>,
     what: Option<FieldName>,
@@ -74,7 +74,7 @@ fn push_refusal(line: &mut Vec<u8>, rule: &Rule, text: &RuleText) -> Result<(), 
     push_kept(line, text.words, &[rule.first, rule.second])
 }
 
-/// Adds a refusal: its number, and its text where the number is a rule's.
+/// Adds a refusal: its number, and its text if the number is a rule's.
 fn push_refused(line: &mut Vec<u8>, rule: &Rule) -> Result<(), NoMemory>
     ensures { OnOk result (line.new.items ≡ line.old.items ++ spaced (reply_words (Refused rule.now))) }
 {
@@ -100,7 +100,7 @@ fn push_reply(line: &mut Vec<u8>, reply: &Reply) -> Result<(), NoMemory>
     }
 }
 
-/// The line of a reply, in place of what the buffer held. After want of memory the buffer may hold anything. (Own)
+/// Replaces the buffer by the line of a reply. After `NoMemory` it may hold anything. (Own)
 pub fn reply_line(line: &mut Vec<u8>, number: u64, reply: &Reply) -> Result<(), NoMemory>
     ensures { OnOk result (line.new.items ≡ line_of number (reply_words reply.now)) }
 {

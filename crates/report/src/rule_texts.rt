@@ -4,7 +4,7 @@ ghost use Rattle.report.specs.RuleNames.{text_seen};
 
 use tx_records::rules;
 
-/// A rule's number, its name, and the words of the numbers that it keeps. (Own)
+/// A rule's number, its name, and the words of the numbers that it keeps.
 #[derive(Clone, Copy)]
 pub(crate) struct RuleText {
     pub(crate) number: u16,

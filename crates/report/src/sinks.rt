@@ -1,4 +1,4 @@
-//! Sinks take lines, and what is written to one.
+//! Sinks take lines; what is written to one.
 ghost use Rattle.std.specs.Prelude.{◌≡◌, ℕ, take, Err, OnErr, OnOk};
 ghost use Rattle.std.specs.Io.KnownBytes.{append_known};
 ghost use Rattle.byte_lines.specs.Faults.{CountsFaults};
@@ -30,7 +30,7 @@ impl<K: Sink> LineTaker for K {
     }
 }
 
-/// Writes the lines of a boundary to a sink, one after another, each through the buffer. (Own)
+/// Writes the lines of a boundary to a sink, one after another, through the buffer. (Own)
 pub fn write_epoch<K: Sink>(
     sink: &mut K,
     text: &mut Vec<u8>,

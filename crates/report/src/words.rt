@@ -2,10 +2,10 @@ ghost use Rattle.std.specs.Prelude.{◌≡◌, ◌++◌, ◌∷◌, decimal, map
 ghost use Rattle.text_model.specs.Words.{line_of, spaced};
 ghost use Rattle.report.specs.Amounts.{amount_words};
 
-use coin_frac::NoMemory;
 use itoa::{Buffer, Integer};
+use no_memory::NoMemory;
 
-/// Adds the digits of a number. After want of memory the buffer may hold anything. (Own)
+/// Adds the digits of a number. After `NoMemory` the buffer may hold anything.
 pub fn push_digits<I: Integer>(line: &mut Vec<u8>, n: I) -> Result<(), NoMemory>
     ensures { OnOk result (line.new.items ≡ line.old.items ++ I.text n) }
 {
@@ -53,7 +53,7 @@ pub(crate) fn push_amounts(line: &mut Vec<u8>, amounts: &[(&str, u128)]) -> Resu
     Ok(())
 }
 
-/// Begins a line with the number of its record's line, in place of what the buffer held.
+/// Replaces the line by the number of its record's line.
 pub(crate) fn begin(line: &mut Vec<u8>, number: u64) -> Result<(), NoMemory>
     ensures { OnOk result (line.new.items ≡ decimal number) }
 {
@@ -61,7 +61,7 @@ pub(crate) fn begin(line: &mut Vec<u8>, number: u64) -> Result<(), NoMemory>
     push_digits(line, number)
 }
 
-/// Ends a line. After want of memory the buffer may hold anything. (Own)
+/// Ends a line. After `NoMemory` the buffer may hold anything.
 pub fn end_line(line: &mut Vec<u8>) -> Result<(), NoMemory>
     ensures { OnOk result (line.new.items ≡ line.old.items ++ 10 ∷ []) }
 {
@@ -69,7 +69,7 @@ pub fn end_line(line: &mut Vec<u8>) -> Result<(), NoMemory>
     Ok(())
 }
 
-/// The line of these words, in place of what the buffer held. After want of memory the buffer may hold anything. (Own)
+/// Replaces the buffer by the line of these words. After `NoMemory` it may hold anything. (Own)
 pub fn words_line(line: &mut Vec<u8>, number: u64, words: &[&str]) -> Result<(), NoMemory>
     ensures { OnOk result (line.new.items ≡ line_of number (map (λ w. w.now) words.now)) }
 {

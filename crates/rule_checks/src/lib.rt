@@ -8,7 +8,7 @@ ghost use Rattle.rule_checks.specs.Places.{answer_at};
 
 use tx_records::{Rule, TxFault};
 
-/// The rules on the items of a list, with what they look at. (Own)
+/// The rules on the items of a list, with what they look at.
 pub trait ItemRules {
     ghost use Rattle.std.specs.Prelude.{◌≡◌, ℕ, List};
     ghost use Rattle.ledger_model.specs.Checks.{Check, answer_of};
@@ -18,12 +18,12 @@ pub trait ItemRules {
 
     ghost checks: { Self → ℕ → Self.Item → List Check };
 
-    /// The first rule that an item at a place of the list breaks, if there is one; the place is not told yet. (Own)
+    /// The first rule that an item at a place of the list breaks, if any, without its place.
     fn check(&self, place: usize, item: &Self::Item) -> Result<(), Rule>
         ensures { result ≡ answer_of (checks self.now place item.now) };
 }
 
-/// The first rule that an item breaks, with its place: the first item that breaks one, and of its rules the first. (Own)
+/// The first broken rule of the first item that breaks one, with the item's place.
 pub fn check_each<R: ItemRules>(rules: &R, items: &[R::Item]) -> Result<(), Rule>
     requires { length items.now ≤ 2 ^ 32 }
     ensures { result ≡ answer_of (per_place (R.checks rules.now) items.now) }
@@ -34,7 +34,7 @@ pub fn check_each<R: ItemRules>(rules: &R, items: &[R::Item]) -> Result<(), Rule
     Ok(())
 }
 
-/// The same answer, its rule at this place. (Own)
+/// The same answer, its rule at this place.
 pub fn answer_at(answer: Result<(), Rule>, place: usize) -> Result<(), Rule>
     requires { place < 2 ^ 32 }
     ensures { result ≡ answer_at place answer }
@@ -42,7 +42,7 @@ pub fn answer_at(answer: Result<(), Rule>, place: usize) -> Result<(), Rule>
     answer.map_err(|rule| rule.at(place as u32))
 }
 
-/// The same answer, as that of a call that may also run out of memory. (Own)
+/// The same answer, as that of a call that may also run out of memory.
 pub fn as_fault(answer: Result<(), Rule>) -> Result<(), TxFault>
     ensures { result ≡ as_fault answer }
 {

@@ -17,7 +17,7 @@ pub record IsGoodLedger (l : Ledger) : Type 0 where
   pub own : HaveDistinctIds l.proposals
   pub used : AllByRecursion (λ (a : ActionId). has_member txid_cmp l.used a.tx ≡ true) (ids_of l.proposals)
 
--- and what was frozen has ids of its own and still stands
+-- and what was frozen has ids of its own and is still live
 pub record IsGood (w : World) : Type 0 where
   pub ledger : IsGoodLedger w.ledger
   pub frozen_own : HaveDistinctIds w.frozen.proposals

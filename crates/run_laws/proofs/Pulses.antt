@@ -1,4 +1,4 @@
--- Positive pulses do not show: two Worlds that differ in what was counted answer the same, and stay the same but for it.
+-- Worlds that differ only in the count give the same replies and stay so: pulses do not show.
 use Rattle.std.proofs.Common.{◌≡◌, ℕ, ◌+◌, ◌==◌, ◌<◌, List, [], ◌∷◌, Bool, true, false, Option, Some, None, nat_le, nat_lt, ◌⊎◌, inl, inr, subst, refl, ap, sym, arith, ◌∙◌}
 use Rattle.std.specs.List.{AllZip}
 use Rattle.std.proofs.lemmas.Bool.{eqb-true}
@@ -18,11 +18,11 @@ use Rattle.run_model.specs.Step.{crossed, enters_next, epoch_at, pulsed, refusal
 abbrev counting : ℕ → World → World
 counting n w = record w { counted = n }
 
--- the first is the second but for what was counted
+-- the first is the second except what was counted
 abbrev IsSameBut : World → World → Type 0
 IsSameBut v w = v ≡ counting v.counted w
 
--- the same reply, and the same World but for it
+-- the same reply, and the same World except what was counted
 abbrev AreAlike : World × Reply → World × Reply → Type 0
 AreAlike a b = (a.1 ≡ b.1) × IsSameBut a.0 b.0
 

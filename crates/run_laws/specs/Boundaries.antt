@@ -1,4 +1,4 @@
--- That a boundary keeps a World sound; src/laws.rt has a function whose contract is the law. (Own)
+-- A law: a boundary keeps a World sound. A function of src/laws.rt has it as its contract. (Own)
 use Rattle.std.specs.Prelude.{◌^◌, ◌<◌}
 use Rattle.run_model.specs.Boundary.{world_after_boundary}
 use Rattle.run_model.specs.SoundWorld.{IsSoundWorld}

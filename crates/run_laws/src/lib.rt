@@ -1,4 +1,6 @@
-//! The laws over runs, for every ledger that records reach from a genesis: the balance of flows, the supply, the one list that an epoch ratifies, what stands between boundaries, what was counted, that pulses do not show, and that assets change by mint alone.
+//! The laws over runs, for every ledger that records reach from a genesis.
+//! They say: flows balance, the supply stays, only mint changes assets, an epoch ratifies one list,
+//! what holds between boundaries, what was counted, and that pulses do not show.
 #![tactic(auto)]
 
 mod laws;

@@ -1,4 +1,4 @@
--- The laws over the definitions, each for every World that records reach. They are stated here, and proved where a public call cites them.
+-- The laws on every World that records reach, stated here, proved where a public call cites them.
 use Rattle.std.specs.Prelude.{◌≡◌, ◌+◌, ◌^◌, ◌≤◌, ◌<◌, ◌⊎◌, ℤ, List, [], Some, None, Contains, true}
 use Rattle.std.specs.List.{AllZip, list_all}
 use Rattle.assets.specs.Quantities.{all_burned, all_minted, quantity_of}
@@ -39,19 +39,19 @@ FlowsBalance = (w : World) → IsReached w → (r : Record) → is_within_limits
 abbrev pub SupplyStays : Type 0
 SupplyStays = (w : World) (reached : IsReached w) → supply_of w.ledger ≡ reached.genesis.supply
 
--- what a record mints and burns: nothing, but where it is an accepted transaction whose scripts did not fail
+-- what a record mints and burns: only an accepted transaction whose scripts did not fail does so
 abbrev pub mint_of : Record → Reply → List (AssetId × ℤ)
 mint_of (records.Tx tx) replies.Accepted = tx.mint
 mint_of _ _ = []
 
--- assets change by mint alone: each record changes what unspent outputs hold of an asset by what it mints and burns of it
+-- each record changes what unspent outputs hold of an asset by what it mints and burns of it
 abbrev pub AssetsChangeByMint : Type 0
 AssetsChangeByMint = (w : World) → IsReached w → (r : Record) → is_within_limits r ≡ true → (a : AssetId) →
     let mint : List (AssetId × ℤ) = mint_of r (step w r).1 in
     assets_in (step w r).0.ledger.outputs a + quantity_of (all_burned mint) a
     ≡ assets_in w.ledger.outputs a + quantity_of (all_minted mint) a
 
--- each epoch ratifies one list of what it froze; it is the only one, and it is one delaying action or has none
+-- each epoch ratifies exactly one list of what it froze; it is one delaying action or has none
 abbrev pub EpochsRatifyOneList : Type 0
 EpochsRatifyOneList = (w : World) → IsReached w →
     IsRatified w.frozen (ratified_of w.frozen)
@@ -64,7 +64,7 @@ IsSameButPulse (records.Block slot pulse) (records.Block slot' pulse') =
     (slot ≡ slot') × ((pulse ≡ pulse') ⊎ ((0 < pulse) × (0 < pulse')))
 IsSameButPulse r s = r ≡ s
 
--- pulses do not show: the replies are the same, and the Worlds but for what was counted
+-- pulses do not show: the replies are equal, and the Worlds, except for what was counted
 abbrev pub PulsesDoNotShow : Type 0
 PulsesDoNotShow = (g : Genesis) → genesis_limits.is_within_limits g ≡ true → genesis_fault g ≡ None →
     (rs ss : List Record) → list_all is_within_limits rs ≡ true → AllZip IsSameButPulse rs ss →
@@ -95,7 +95,8 @@ pub record IsCoveredUpdate (l : Ledger) (u : Rewards) : Type 0 where
   pub reserves_cover : u.from_reserves ≤ l.reserves
   pub fees_cover : u.from_fees ≤ l.fees
 
--- what stands between boundaries: all that can be enacted is as it was frozen, but for the treasury, which has not lost; each frozen proposal is live, and at most its votes have changed
+-- between boundaries all that can be enacted is as frozen, except the treasury, which has not lost;
+-- each frozen proposal is live, and at most its votes have changed
 pub record IsAsFrozen (w : World) : Type 0 where
   pub epoch : w.frozen.epoch ≡ w.ledger.epoch
   pub state : w.ledger.state ≡ record w.frozen.start { treasury = w.ledger.state.treasury }

@@ -1,4 +1,4 @@
--- That records keep a World sound; src/ of run_laws has a function for each, whose contract is the law. (Own)
+-- The laws that records keep a World sound; src/ of run_laws has a function for each law. (Own)
 use Rattle.std.specs.Prelude.{◌≡◌, ℕ, ◌+◌, ◌≤◌, None, true, sum_by}
 use Rattle.gov_ids.specs.declared.Drep.TheVariants as drep
 use Rattle.tx_records.specs.declared.genesis.Genesis.{Genesis}
@@ -25,6 +25,6 @@ abbrev pub DrepStakesAreWithin : Type 0
 DrepStakesAreWithin = (s : ℕ) (f : Snapshot) → IsSoundSnapshot s f →
     sum_by (λ d. drep_stake f (drep.Registered d.0)) f.dreps + drep_stake f drep.Abstain + drep_stake f drep.NoConfidence ≤ s
 
--- the stakes of the pools of mark, with the deposits that count with them, are together at most twice the supply
+-- the stakes of the pools of mark, with the deposits that count, sum to at most twice the supply
 abbrev pub PoolStakesAreWithin : Type 0
 PoolStakesAreWithin = (s : ℕ) (f : Snapshot) → IsSoundSnapshot s f → AreSoundStakes s f.mark → sum_by (λ p. pool_stake f p.0) f.mark ≤ s + s

@@ -10,7 +10,7 @@ use Rattle.book_records.specs.declared.Entry.{Entry}
 use Rattle.book_records.specs.declared.Registered.{Registered}
 use Rattle.gov_actions.specs.declared.action.Action.{Action}
 use Rattle.gov_actions.specs.declared.action.Proposal.{Proposal}
-use Rattle.tx_records.specs.declared.limits.TheConstants.{SUPPLY_LIMIT}
+use Rattle.coin_frac.specs.declared.TheConstants.{SUPPLY_LIMIT}
 use Rattle.gov_model.specs.Enacted.{update_of}
 use Rattle.gov_model.specs.Laws.{HaveDistinctIds}
 use Rattle.gov_model.specs.Proposals.{deposits_of}
@@ -26,13 +26,16 @@ use Rattle.run_model.specs.World.{World}
 abbrev pub activity_set_by : Action → ℕ
 activity_set_by a = amount (λ (u : Update). unwrap_or u.drep_activity 0) (update_of a)
 
--- each proposal has an id of its own, each voter once, in order, and sets no drepActivity of 2^32 or more
+-- each proposal has an id of its own, its voters in order, each once, and sets no drepActivity of
+-- 2^32 or more
 pub record AreSoundProposals (ps : List Proposal) : Type 0 where
   pub ids : HaveDistinctIds ps
   pub votes : AllByRecursion (λ (p : Proposal). IsMap voter_cmp p.votes) ps
   pub activities : AllByRecursion (λ (p : Proposal). activity_set_by p.action ≤ 2 ^ 32) ps
 
--- the ledger: its maps are maps, its pots hold the supply, which is within its limit; slot, epoch, expiries and drepActivity are within their bounds; each proposal has the id of a used transaction; the members of the committee stand in order
+-- the ledger: its maps are maps, its pots hold the supply, which is within its limit; slot, epoch,
+-- expiries and drepActivity are within bounds; each proposal has the id of a used transaction;
+-- the members of the committee are in order
 pub record IsSoundLedger (l : Ledger) : Type 0 where
   pub maps : IsSound l
   pub proposals : AreSoundProposals l.proposals
@@ -50,7 +53,8 @@ pub record IsSoundLedger (l : Ledger) : Type 0 where
 abbrev pub held_by : Entry → ℕ
 held_by e = e.stake + amount (λ (r : Registered). r.rewards) e.registered
 
--- what is frozen: its maps are maps, and the lovelace of its entries and the deposits of its proposals are at most the supply
+-- what is frozen: its maps are maps; the lovelace of its entries and the deposits of its proposals
+-- together are at most the supply
 pub record IsSoundSnapshot (supply : ℕ) (f : Snapshot) : Type 0 where
   pub entries : IsMap credential_cmp f.entries
   pub dreps : IsMap credential_cmp f.dreps
@@ -66,7 +70,8 @@ pub record AreSoundStakes (supply : ℕ) (stakes : List (PoolId × ℕ)) : Type 
   pub pools : IsMap pool_cmp stakes
   pub sum : sum_values (λ n. n) stakes ≤ supply
 
--- the whole state: ledger, what is frozen and the snapshots of pools are sound, what is frozen still stands, and no more was counted than there is to count
+-- the state: ledger, frozen part and pool snapshots are sound, the ledger is as frozen, and no more
+-- was counted than there is to count
 pub record IsSoundWorld (w : World) : Type 0 where
   pub ledger : IsSoundLedger w.ledger
   pub frozen : IsSoundSnapshot w.ledger.supply w.frozen

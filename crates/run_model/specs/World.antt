@@ -1,4 +1,5 @@
--- The whole state as plain data: the ledger that transactions see, and what epochs add to it. (EpochState and NewEpochState of the formal specification)
+-- The whole state as plain data: the ledger that transactions see, and what epochs add to it.
+-- (EpochState and NewEpochState of the formal specification)
 use Rattle.std.specs.Prelude.{ℕ, List, Option}
 use Rattle.gov_ids.specs.declared.PoolId.{PoolId}
 use Rattle.tx_records.specs.declared.record.Rewards.{Rewards}

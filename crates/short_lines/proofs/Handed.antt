@@ -30,7 +30,7 @@ module _ {T : Type 0} {add : T → Text → T} {IsPart : T → Text → T → Ty
   put_front {t} {t'} {f} {f'} {e} {r} {xs} {zs} ys same first fault =
       put_as (sym same) (put_failed add IsPart n t t' (xs ++ ys) f f' e r fault (put_cut add IsPart n t t' xs ys f f' e first))
 
-  -- none was handed over for want of memory
+  -- none was handed over, since memory ran out
   pub put_nothing : {r : Result (Unit {0}) SinkFault} (lines : List (List Text)) (t : T) (f : ℕ) → IsErrAnd r (λ x. x ≡ NoMemory) → HasPut add IsPart n t lines t f f r
   put_nothing {r} lines t f fault =
       let none : HasPut add IsPart n t [] t f f (Err NoMemory) = record { ok = tt; err = refl; counts = record { rose = λ failed. cc; stays = λ _. refl; never_falls = omega arith } } in

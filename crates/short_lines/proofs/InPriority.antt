@@ -41,7 +41,7 @@ module _ (s : Snapshot) where
   pub none_left : (n : ℕ) (ps : List Proposal) (i : ℕ) → length ps ≤ i → lines_from n ps i ≡ []
   none_left n ps i end = at_drop_all (λ (xs : List Proposal). lines_of s (of_priority n xs)) ps i end
 
-  -- what DReps count on a proposal stands in its cell
+  -- what DReps count on a proposal is in its cell
   pub count_in : (ps : List Proposal) (cells : List TallyCell) (i : ℕ) (a : Proposal) (d : TallyCell) → i < length ps → a ≡ slice_index_or ps i a → cells ≡ map (cell_of s) ps
       → (slice_index_or cells i d).drep ≡ drep_count s a
   count_in ps cells i a d within is are =

@@ -1,4 +1,4 @@
--- What the ranking and the counts of a frozen epoch have to do with its snapshot, and the lines of some of its proposals. (Own)
+-- The ranking and counts of a frozen epoch and its snapshot; the lines of some proposals. (Own)
 use Rattle.std.specs.Prelude.{ℕ, ◌≡◌, ◌==◌, List, filter, flat_map, map}
 use Rattle.gov_actions.specs.declared.action.Proposal.{Proposal}
 use Rattle.gov_actions.specs.Kinds.{priority_of}
@@ -13,7 +13,7 @@ use Rattle.tally.specs.Cells.{cell_of}
 use Rattle.tally.specs.declared.cells.TallyCell.{TallyCell}
 use Rattle.text_model.specs.Words.{Text}
 
--- P holds of each snapshot of which they are the frozen copy, the ranking of the DReps and the counts of the proposals
+-- P holds of each snapshot with this frozen copy, this ranking and these counts of proposals
 abbrev pub ForRanked : Frozen → List (Credential × ℕ) → List TallyCell → (Snapshot → Type 0) → Type 0
 ForRanked f ranking cells P = (s : Snapshot) → f ≡ frozen_copy_of s → ranking ≡ ranked_of s → cells ≡ map (cell_of s) s.proposals → P s
 

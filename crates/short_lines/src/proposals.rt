@@ -24,12 +24,12 @@ use snapshots::Frozen;
 use std::alloc::Global;
 use tally::{TallyCell, fill_cells};
 
-// How many types of actions there are, and so how many priorities.
+// The number of action types, and so of priorities.
 const TYPES: u8 = 7;
 
-/// Hands over the lines of what each frozen proposal lacks, in order of priority, each made in the buffer, in place of what it
-/// held. The DReps are ranked and the proposals counted once; what one proposal lacks is dropped before the next is looked
-/// at. After an error a front of the lines was taken. (Own)
+/// Hands over the lines of what each frozen proposal lacks, in order of priority. (Own)
+/// Each replaces what the buffer held. After an error a prefix of the lines was taken.
+/// It ranks DReps and counts proposals once, and drops each answer before the next proposal.
 pub fn put_shortfalls<T: LineTaker>(
     alloc: Global,
     to: &mut T,
@@ -58,7 +58,7 @@ fn cells_of(alloc: Global, f: &Frozen, c: &Counted) -> Result<Vec<TallyCell>, No
     Ok(cells)
 }
 
-// The lines of all, by the ranking and the counts.
+// Hands over all lines, by the ranking and the counts.
 fn put_ranked<T: LineTaker>(
     alloc: Global,
     to: &mut T,
@@ -79,7 +79,7 @@ fn put_ranked<T: LineTaker>(
     Ok(())
 }
 
-// Those of one priority, in order of submission.
+// Hands over the lines of one priority, in order of submission.
 fn put_priority<T: LineTaker>(
     alloc: Global,
     to: &mut T,
@@ -113,7 +113,7 @@ fn put_priority<T: LineTaker>(
     Ok(())
 }
 
-// Those of a proposal that is of the priority, none of another.
+// Hands over the lines of a proposal, if it is of the priority.
 fn put_proposal<T: LineTaker>(
     alloc: Global,
     to: &mut T,

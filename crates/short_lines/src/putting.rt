@@ -12,8 +12,8 @@ use report::{LineList, LineTaker, Word};
 use shortfall_model::Short;
 use std::alloc::Global;
 
-/// Hands over the lines of what a proposal lacks, in order: what it lacks, and a line for each DRep that is chosen. Each is
-/// made in the buffer, in place of what it held. After an error a front of them was taken. (Own)
+/// Hands over the lines of what a proposal lacks: first that, then each chosen DRep. (Own)
+/// Each replaces what the buffer held. After an error a prefix of the lines was taken.
 pub fn put_short<T: LineTaker>(
     to: &mut T,
     text: &mut Vec<u8>,
@@ -40,7 +40,7 @@ pub fn put_short<T: LineTaker>(
     }
 }
 
-/// The lines of what a proposal lacks, each with its line feed: what is handed over, left in memory. (Own)
+/// The lines of what a proposal lacks, in memory, each with its line feed. (Own)
 pub fn short_text(
     alloc: Global,
     line: u64,

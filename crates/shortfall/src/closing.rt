@@ -15,8 +15,8 @@ use snapshots::Frozen;
 use std::marker::Brand;
 use std::sync::ledger::{Blank, Ledger};
 
-/// What was frozen when the epoch of a state began, and the count of it with all entries visited, of which proposals can be
-/// counted. It takes no memory. (The DRep pulser of cardano-ledger)
+/// What was frozen when a state's epoch began, and its count with all entries visited.
+/// It takes no memory. (The DRep pulser of cardano-ledger)
 pub fn close(s: LedgerState) -> (Frozen, Counted)
     ensures snapshot { AreOf s.frozen result.0 result.1 }
     ensures counted { CanBeCounted result.0 result.1 }
@@ -28,7 +28,7 @@ pub fn close(s: LedgerState) -> (Frozen, Counted)
     (frozen, counted)
 }
 
-// The count with all entries visited that are left.
+// The count after all entries that are left.
 fn finished(pulser: Pulser, book: &AccountBook) -> Counted
     requires { GoesOnIn (frozen_of credential_cmp book.now) pulser }
     ensures { (f : Snapshot) → f.entries ≡ frozen_of credential_cmp book.now → IsPulserOf f pulser →
@@ -40,7 +40,7 @@ fn finished(pulser: Pulser, book: &AccountBook) -> Counted
     }
 }
 
-// The same of a count that goes on; its visits are steps.
+// A count that goes on, after all entries that are left.
 fn visited<L: Ledger>(blank: Blank, counting: Counting, book: &AccountBook) -> Counted
     requires name { blank.name ≡ L.name }
     requires parts { blank.parts ≡ L.parts }

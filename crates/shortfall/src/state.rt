@@ -8,8 +8,9 @@ use report::LineTaker;
 use short_lines::put_shortfalls;
 use std::alloc::Global;
 
-/// Hands over the lines of what each frozen proposal of a state lacks, in order of priority, each made in the buffer, in
-/// place of what it held. It consumes the state. After an error a front of the lines was taken. (Own)
+/// Hands over the lines of what each frozen proposal of a state lacks, in order of priority. (Own)
+/// Each replaces what the buffer held. It consumes the state.
+/// After an error a prefix of the lines was taken.
 pub fn put_shortfall<T: LineTaker>(
     alloc: Global,
     to: &mut T,

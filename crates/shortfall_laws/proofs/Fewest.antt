@@ -104,7 +104,7 @@ all_with_each P (x ∷ xs) s h k = all_with_each P xs (with_key stake_cmp x s) h
 all_by_stake : (f : Snapshot) (a : Proposal) (P : Credential × ℕ → Type 0) → AllByRecursion P (silent_dreps f a) → AllByRecursion P (by_stake f a)
 all_by_stake f a P h = all_with_each P (silent_dreps f a) [] h tt
 
--- two that stand in order, each with its own stake, are of different credentials
+-- two that are in order, each with its own stake, are of different credentials
 apart_in_order : (f : Snapshot) (x y : Credential × ℕ) → HasStake f x → HasStake f y → stake_cmp x y ≡ Less → same_credential x.0 y.0 ≡ false
 apart_in_order f x y hx hy e =
     elim (same_credential x.0 y.0) as (λ b. same_credential x.0 y.0 ≡ b → b ≡ false) [

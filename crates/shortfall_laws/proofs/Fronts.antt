@@ -1,4 +1,4 @@
--- Of lists of which each item stands in a falling list, each once, none has a greater sum than the front of that list that is as long.
+-- Of lists of distinct items of a falling list none has a greater sum than its prefix as long.
 use Rattle.std.proofs.Common.{◌≡◌, ℕ, suc, zero, ◌+◌, ◌<◌, ◌≤◌, List, [], ◌∷◌, Bool, true, false, cond, ◌||◌, Some, None, length, map, sum_by, take, refl, ap, sym, subst, ◌∙◌, arith, ⊎_elim}
 use Rattle.std.specs.declared.cmp.Ordering.{Ordering}
 use Rattle.std.specs.Ordering.{eq_by_cmp}
@@ -112,7 +112,7 @@ module _ {A : Type 0} {cmp : A → A → Ordering} (o : IsTotalOrder cmp) (g : A
         | false ↦ (all-without_member cmp (λ y. eq_by_cmp cmp z y ≡ false) s zs d.0, distinct_without s zs d.1)
       ]
 
-  -- items of s and ss that do not tie with s stand in ss
+  -- items of s and ss that do not tie with s are in ss
   all_left : (s : A) (ss zs : List A) → AllByRecursion (λ z. eq_by_cmp cmp s z ≡ false) zs → AllByRecursion (λ z. has_member cmp (s ∷ ss) z ≡ true) zs → AllByRecursion (λ z. has_member cmp ss z ≡ true) zs
   all_left s ss [] n h = tt
   all_left s ss (z ∷ zs) n h = (or_right (eq_by_cmp cmp z s) (has_member cmp ss z) h.0 (back s z n.0), all_left s ss zs n.1 h.1)

@@ -29,13 +29,15 @@ pub record AreFewest (f : Snapshot) (a : Proposal) (t : Fraction) (ds : List (Cr
   pub reach : suffice t (drep_count f a) ds ≡ true
   pub fewest : (others : List (Credential × ℕ)) → AreSilent f a others → suffice t (drep_count f a) others ≡ true → length ds ≤ length others
 
--- the threshold of a need: of nothing where nothing is needed, and none where it is never reached
+-- the threshold of a need: 0 if nothing is needed, none if it is never reached
 abbrev pub threshold_of : Need → Option Fraction
 threshold_of need.Never = None
 threshold_of need.Nothing = Some zero_share
 threshold_of (need.Share t) = Some t
 
--- what an answer says of a proposal is so: no vote helps exactly where the need is never reached; else the threshold and the count are those of the pass, and no silent DReps suffice, or the chosen ones do and no fewer
+-- an answer on a proposal is right: no vote helps if and only if the need is never reached
+-- else threshold and count are those of the pass, and no silent DReps suffice
+-- or the chosen ones do and no fewer
 abbrev pub IsRight : Snapshot → Proposal → Short → Type 0
 IsRight f a short.Never = threshold_of (need_of_dreps f a) ≡ None
 IsRight f a (short.None ayes total t) =
@@ -43,6 +45,6 @@ IsRight f a (short.None ayes total t) =
 IsRight f a (short.Least ds ayes total t n) =
     (threshold_of (need_of_dreps f a) ≡ Some t) × ((ayes, total) ≡ drep_count f a) × AreFewest f a t ds × (n ≡ yes_without_last ayes ds)
 
--- each answer is right, and its number the least
+-- each answer is right, and its number is the least
 abbrev pub LeastIsLeast : Type 0
 LeastIsLeast = (f : Snapshot) (a : Proposal) → IsRight f a (short_of f a)

@@ -20,7 +20,7 @@ use Rattle.shortfall_model.specs.Silent.{short_of}
 abbrev pub count_words : ℕ → ℕ → Fraction → List Text
 count_words ayes total t = codes "yes" ∷ decimal ayes ∷ codes "of" ∷ decimal total ∷ codes "need" ∷ share_text t ∷ []
 
--- what Yes comes to without the last one, where there is one
+-- the count of Yes without the last one, if there is one
 abbrev pub without_last_words : List (Credential × ℕ) → ℕ → List Text
 without_last_words [] n = []
 without_last_words (d ∷ ds) n = codes "short" ∷ decimal n ∷ []
@@ -43,6 +43,6 @@ short_lines id (short.Least ds ayes total t n) =
 abbrev pub shortfall_lines : Snapshot → List (List Text)
 shortfall_lines f = flat_map (λ (a : Proposal). short_lines a.id (short_of f a)) (order_of f)
 
--- the text of a run, where it begins with a genesis that breaks no genesis rule
+-- the text of a run that begins with a genesis that breaks no genesis rule
 abbrev pub shortfall_of_readings : List (ℕ × Reading) → Option Text
 shortfall_of_readings rs = option_map (λ (w : World). text_of_bare (shortfall_lines w.frozen)) (world_of_readings rs)

@@ -1,4 +1,6 @@
--- The active DReps that did not vote on a frozen proposal, and the fewest of them whose Yes reaches what DReps need. (Own; the stakes, counts and needs are those of the pass)
+-- The active DReps without a vote on a frozen proposal,
+-- and the fewest of them whose Yes reaches the need of DReps.
+-- (Own; the stakes, counts and needs are those of the pass)
 use Rattle.std.specs.Prelude.{ℕ, ◌+◌, ◌-◌, Bool, List, [], Option, Some, None, filter, find, is_none, length, map, sum_by, take}
 use Rattle.std.specs.declared.cmp.Ordering.{Ordering}
 use Rattle.std.specs.List.{range_with_len}
@@ -33,7 +35,7 @@ is_silent a c = is_none (vote_of a (voter.Drep c))
 abbrev pub silent_dreps : Snapshot → Proposal → List (Credential × ℕ)
 silent_dreps f a = map (λ c. (c, drep_stake f (drep.Registered c))) (filter (is_silent a) (active_dreps f))
 
--- the greater stake first, and of equal ones the lower credential
+-- the greater stake first; of equal ones the lower credential first
 abbrev pub stake_cmp : Credential × ℕ → Credential × ℕ → Ordering
 stake_cmp x y = ordering_then (nat_cmp y.1 x.1) (credential_cmp x.0 y.0)
 
@@ -43,42 +45,43 @@ by_stake f a = in_order stake_cmp (silent_dreps f a)
 
 -- ---- what suffices
 
--- their stakes together
+-- the sum of their stakes
 abbrev pub stakes_of : List (Credential × ℕ) → ℕ
 stakes_of ds = sum_by (λ d. d.1) ds
 
--- what DReps need, nothing being enacted before
+-- the need of DReps, with nothing enacted before
 abbrev pub need_of_dreps : Snapshot → Proposal → Need
 need_of_dreps f a = need_of role.Drep f (enacted_after f []) a.action
 
--- what DReps count: yes and total
+-- the count of DReps: yes and total
 abbrev pub drep_count : Snapshot → Proposal → ℕ × ℕ
 drep_count f a = vote_count role.Drep f a
 
--- with the Yes of these silent DReps the count reaches the threshold; they are in the total already, as No
+-- with the Yes of these silent DReps the count reaches the threshold
+-- they are in the total before, as No
 abbrev pub suffice : Fraction → ℕ × ℕ → List (Credential × ℕ) → Bool
 suffice t count ds = reaches (count.0 + stakes_of ds) count.1 t
 
--- the fronts of a list, from the empty one on
+-- the prefixes of a list, from the empty one on
 abbrev pub fronts_of : {A : Type 0} → List A → List (List A)
 fronts_of xs = map (λ n. take n xs) (range_with_len 0 (length xs + 1))
 
--- the shortest front of the silent DReps that suffices, if one does
+-- the shortest prefix of the silent DReps that suffices, if one does
 abbrev pub least_front : Snapshot → Proposal → Fraction → Option (List (Credential × ℕ))
 least_front f a t = find (suffice t (drep_count f a)) (fronts_of (by_stake f a))
 
 -- ---- the answer
 
--- what Yes comes to without the last of them
+-- the count of Yes without the last of them
 abbrev pub yes_without_last : ℕ → List (Credential × ℕ) → ℕ
 yes_without_last ayes ds = ayes + stakes_of (take (length ds - 1) ds)
 
--- by the front that suffices
+-- by the prefix that suffices
 abbrev pub short_by : Fraction → ℕ × ℕ → Option (List (Credential × ℕ)) → Short
 short_by t count None = short.None count.0 count.1 t
 short_by t count (Some ds) = short.Least ds count.0 count.1 t (yes_without_last count.0 ds)
 
--- by what DReps need; where they need nothing, a threshold of nothing
+-- by the need of DReps; if they need nothing, a threshold of 0
 abbrev pub short_for : Need → Snapshot → Proposal → Short
 short_for need.Never f a = short.Never
 short_for need.Nothing f a = short_by zero_share (drep_count f a) (least_front f a zero_share)

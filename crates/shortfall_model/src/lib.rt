@@ -1,4 +1,4 @@
-//! What a proposal lacks of what DReps need: the silent DReps, and the fewest of them whose Yes reaches it.
+//! The shortfall of DReps' Yes on a proposal: silent DReps, and the fewest that reach the need.
 #![tactic(auto)]
 
 mod short;

@@ -1,4 +1,5 @@
--- What the type of a frozen epoch holds of its snapshot: all but the account entries, which the book of accounts keeps. (CIP-1694, Changes to the stake snapshot; EPOCH of the formal specification)
+-- What a `Frozen` holds of its snapshot: all except the account entries, which their book keeps.
+-- (CIP-1694, Changes to the stake snapshot; EPOCH of the formal specification)
 use Rattle.std.specs.Prelude.{map}
 use Rattle.maps.specs.Maps.{value_at}
 use Rattle.gov_ids.specs.declared.PoolId.{PoolId}
@@ -9,7 +10,7 @@ use Rattle.gov_model.specs.Stake.{pool_stake}
 use Rattle.snapshots.specs.declared.frozen.Frozen.{Frozen}
 use Rattle.snapshots.specs.declared.frozen.FrozenPool.{FrozenPool}
 
--- a pool of mark: its reward account, none where it is not registered any more, its stake and its default vote
+-- a pool of mark: its reward account (none if no longer registered), its stake and default vote
 abbrev pub frozen_pool : Snapshot → PoolId → FrozenPool
 frozen_pool s p =
     record { pool = p; account = value_at pool_cmp s.pool_accounts p; stake = pool_stake s p; default_vote = default_vote s p }

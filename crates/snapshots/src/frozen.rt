@@ -4,14 +4,15 @@ use gov_actions::{EnactState, Proposal};
 use gov_ids::{Account, Credential, PoolId};
 use listed::Listed;
 
-/// What is frozen when an epoch begins, but for the entries of the accounts, which their book keeps. (CIP-1694, Changes to the stake snapshot; EPOCH of the formal specification)
+/// What is frozen when an epoch begins, except the account entries, which their book keeps.
+/// (CIP-1694, Changes to the stake snapshot; EPOCH of the formal specification)
 #[derive(Drop)]
 pub struct Frozen {
     /// The epoch that begins.
     pub epoch: u64,
-    /// Parameters, version, committee, constitution, last enacted ids and treasury, from which a pass starts.
+    /// A pass starts from it: parameters, version, committee, constitution, last ids, treasury.
     pub start: EnactState,
-    /// The DReps in the order of their credentials, each with the last epoch in which it counts as active.
+    /// The DReps in order of credentials, each with the last epoch in which it counts as active.
     pub dreps: Listed<(Credential, u64)>,
     /// The pools of mark in the order of their ids.
     pub pools: Listed<FrozenPool>,
@@ -27,8 +28,8 @@ pub struct FrozenPool {
     pub pool: PoolId,
     /// Its reward account, none where the pool is no longer registered.
     pub account: Option<Account>,
-    /// The stake of mark and the deposits of the proposals whose return account delegates to it, in lovelace.
+    /// Lovelace: its stake of mark, and deposits of proposals whose return account delegates to it.
     pub stake: u64,
-    /// How it counts where it did not vote, but for hard forks: by the vote delegation of its reward account.
+    /// How it counts without a vote, except on hard forks: by its reward account's vote delegation.
     pub default_vote: DefaultVote,
 }

@@ -6,7 +6,9 @@ use gov_actions::HotState;
 use gov_ids::Credential;
 use std::marker::Model;
 
-/// What cold keys have authorized, that contracts see as the list of it. It knows from the day it is made whether the keys stand in order; where they do, one is found by halves. (CIP-1694, The constitutional committee; that it knows its order is own)
+/// What cold keys have authorized; contracts see the list. From its making on it knows whether the
+/// keys are in order; if they are, it finds one by binary search.
+/// (CIP-1694, The constitutional committee; that it knows its order is own)
 #[derive(Drop)]
 pub struct HotList {
     entries: Vec<(Credential, HotState)>,
@@ -28,7 +30,7 @@ impl Model for HotList {
 }
 
 impl HotList {
-    /// The list of these entries, without taking memory. (Own)
+    /// The list of these entries, without taking memory.
     pub fn from_vec(entries: Vec<(Credential, HotState)>) -> Self
         ensures { result ≡ entries.items }
     {
@@ -36,21 +38,22 @@ impl HotList {
         HotList { entries, in_order }
     }
 
-    /// The entries again, without taking memory. (Own)
+    /// The entries again, without taking memory.
     pub fn into_vec(self) -> Vec<(Credential, HotState)>
         ensures { result.items ≡ self }
     {
         self.entries
     }
 
-    /// The entries, in the order in which they stand. (Own)
+    /// The entries, in the order of the list.
     pub fn as_slice(&self) -> &[(Credential, HotState)]
         ensures { result.now ≡ self.now }
     {
         self.entries.as_slice()
     }
 
-    /// What a cold key has authorized, the first where it stands more than once. (CIP-1694, The constitutional committee)
+    /// What a cold key has authorized; its first entry, if it has several.
+    /// (CIP-1694, The constitutional committee)
     pub fn get(&self, cold: &Credential) -> Option<HotState>
         ensures { result ≡ value_at credential_cmp self.now cold.now }
     {
@@ -69,7 +72,7 @@ fn is_in_order(entries: &[(Credential, HotState)]) -> bool
     entries.is_sorted_by(|(cold, _), (next, _)| cold < next)
 }
 
-/// What a cold key has authorized, where the keys stand in order.
+/// What a cold key has authorized, where the keys are in order.
 fn found_in(entries: &[(Credential, HotState)], cold: &Credential) -> Option<HotState>
     requires { IsMap credential_cmp entries.now }
     ensures { result ≡ value_at credential_cmp entries.now cold.now }

@@ -4,7 +4,8 @@ use gov_ids::PoolId;
 use listed::Listed;
 use std::mem;
 
-/// The stakes of the registered pools at the last three boundaries, in lovelace and in the order of pool ids, and the fee pot at the last one. (Snapshots of the formal specification)
+/// The stakes of registered pools at the last three boundaries, in lovelace, in the order of pool
+/// ids, and the fee pot at the last one. (Snapshots of the formal specification)
 #[derive(Debug, Drop)]
 pub struct Snapshots {
     /// At the last boundary.
@@ -18,7 +19,8 @@ pub struct Snapshots {
 }
 
 impl Snapshots {
-    /// The stakes and the fee pot of a new boundary come in: what was mark is set now, and what was set is go. (SNAP of the formal specification)
+    /// The stakes and the fee pot of a new boundary come in: mark becomes set, and set becomes go.
+    /// (SNAP of the formal specification)
     pub fn turn(&mut self, mark: Vec<(PoolId, u64)>, fees: u64)
         ensures { self.new ≡ record { mark = mark.items; set = self.old.mark; go = self.old.set; fees = fees } }
     {

@@ -51,7 +51,7 @@ module _ (pools : List (PoolId × ℕ)) (dreps : List (Credential × ℕ)) (entr
   unpooled pool up down r l = record { in_order = s.in_order; pools = λ p. omega (arith, s.pools p, r.each p, l.each p); dreps = s.dreps }
 
   module _ (c : Credential) where
-    -- one entry in place of another
+    -- one entry instead of another
     pub recounted : (e : Entry) (pool_left pool_joined : Option PoolId) (drep_left drep_joined : Option Credential) (up down : List (PoolId × ℕ)) (more less : List (Credential × ℕ))
         → AreMoved pool_cmp (pool_of (whole_entry entries c)) (pool_of e) pool_left pool_joined → AreMoved credential_cmp (drep_of (whole_entry entries c)) (drep_of e) drep_left drep_joined
         → IsRaised pool_cmp pool_joined 1 pools up → IsRaised pool_cmp pool_left 1 down up → IsRaised credential_cmp drep_joined 1 dreps more → IsRaised credential_cmp drep_left 1 less more

@@ -12,11 +12,11 @@ use Rattle.gov_ids.proofs.Totals.{credential_total, pool_total}
 use Rattle.book_records.specs.declared.Entry.{Entry}
 use Rattle.book_records.specs.declared.Registered.{Registered}
 use Rattle.book_records.specs.Outputs.{lovelace_in}
-use Rattle.tx_records.specs.declared.limits.TheConstants.{SUPPLY_LIMIT}
+use Rattle.coin_frac.specs.declared.TheConstants.{SUPPLY_LIMIT}
 use Rattle.maps.proofs.Joined.{none_from}
 use Rattle.maps.proofs.Placed.{changed_at_absent}
 use Rattle.maps.proofs.Sets.{has_member-in_order}
-use Rattle.ledger_model.specs.Changes.{without_drep}
+use Rattle.book_records.specs.Delegations.{without_drep}
 use Rattle.maps.specs.Maps.{IsMap, value_at, with_value, without_key, has_member, in_order, changed_at, changed_where}
 use Rattle.maps.specs.Words.{amount, holds, some_and}
 use Rattle.accounts.specs.Accounts.{with_entry}
@@ -155,7 +155,7 @@ pub no_drep : (dreps : List Credential) (rs : List (Credential × Registered)) �
 no_drep [] rs e = none_changed (λ c (r : Registered). delegates_to_dreps [] r) without_drep (λ c r. refl) rs
 no_drep (d ∷ dreps) rs e = absurd (omega (arith, e))
 
--- the pools may stand in any order
+-- the pools may be in any order
 pub any_order : (pools : List PoolId) (rs : List (Credential × Registered)) → without_pools (in_order pool_cmp pools) rs ≡ without_pools pools rs
 any_order pools rs = λ i. changed_where (λ c (r : Registered). some_and (λ q. has_member-in_order pool_total pools q i) r.pool) without_pool rs
 

@@ -13,7 +13,7 @@ use Rattle.gov_ids.specs.Same.{same_pool}
 use Rattle.gov_ids.proofs.Totals.{credential_total, pool_total}
 use Rattle.book_records.specs.declared.Entry.{Entry}
 use Rattle.book_records.specs.declared.Registered.{Registered}
-use Rattle.tx_records.specs.declared.limits.TheConstants.{SUPPLY_LIMIT}
+use Rattle.coin_frac.specs.declared.TheConstants.{SUPPLY_LIMIT}
 use Rattle.maps.proofs.Kept.{IsMap-with_value, IsMap-without_key}
 use Rattle.maps.specs.Maps.{IsMap, value_at, with_value, without_key, sum_values}
 use Rattle.maps.specs.Words.{amount, holds}
@@ -100,7 +100,7 @@ counted None n = refl
 counted (Some p) n = refl
 
 module _ (held : ℕ) (pools up : List (PoolId × ℕ)) (c : Credential) (entries : List (Credential × Entry)) (s : AreSummed held pools entries) where
-  -- with one entry in place of another, once its share was added and then that of the other taken, but for what stays with the pool
+  -- one entry instead of another: its share is added, then the other's taken, except what stays
   pub entered_summed : (e : Entry) (down : List (PoolId × ℕ)) (left : ℕ) → left ≤ weight_of (whole_entry entries c) → left ≤ weight_of e → (left ≡ 0) ⊎ (pool_of (whole_entry entries c) ≡ pool_of e)
       → IsRaised pool_cmp (pool_of e) (weight_of e - left) pools up → IsRaised pool_cmp (pool_of (whole_entry entries c)) (weight_of (whole_entry entries c) - left) down up
       → weight_in (with_entry c e entries) ≤ SUPPLY_LIMIT → AreSummed (held - balance_of (whole_entry entries c) + balance_of e) down (with_entry c e entries)

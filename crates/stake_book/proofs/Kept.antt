@@ -15,7 +15,7 @@ use Rattle.book_records.specs.declared.Entry.{Entry}
 use Rattle.book_records.specs.declared.Output.{Output}
 use Rattle.book_records.specs.declared.Registered.{Registered}
 use Rattle.book_records.specs.Outputs.{lovelace_in}
-use Rattle.tx_records.specs.declared.limits.TheConstants.{SUPPLY_LIMIT}
+use Rattle.coin_frac.specs.declared.TheConstants.{SUPPLY_LIMIT}
 use Rattle.maps.proofs.Lookups.{value_at-with_value, value_at-without_key}
 use Rattle.maps.proofs.Ties.{same_key}
 use Rattle.maps.specs.Maps.{IsMap, value_at, with_value, without_key}

@@ -16,7 +16,7 @@ use Rattle.book_records.specs.declared.Entry.{Entry}
 use Rattle.book_records.specs.declared.Output.{Output}
 use Rattle.book_records.specs.declared.Registered.{Registered}
 use Rattle.book_records.specs.Outputs.{lovelace_in}
-use Rattle.tx_records.specs.declared.limits.TheConstants.{SUPPLY_LIMIT}
+use Rattle.coin_frac.specs.declared.TheConstants.{SUPPLY_LIMIT}
 use Rattle.maps.proofs.Credits.{sum_by-plus, sum-only_at}
 use Rattle.maps.proofs.Joined.{at_most}
 use Rattle.maps.proofs.Same.{value_at_first}
@@ -27,7 +27,7 @@ use Rattle.stake_book.specs.Sums.{balance_of, share_of, weight_in}
 use Rattle.stake_book.proofs.Registrations.{balances_is}
 use Rattle.stake_book.proofs.Sums.{counts, held_is}
 
--- each entry stands where its credential is looked up
+-- each entry is where a search for its credential finds it
 abbrev IsThere : List (Credential × Entry) → Credential × Entry → Type 0
 IsThere all e = value_at credential_cmp all e.0 ≡ Some e.1
 

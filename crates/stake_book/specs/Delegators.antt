@@ -20,15 +20,15 @@ credential_of _ = None
 abbrev pub drep_of : Entry → Option Credential
 drep_of e = option_and_then (λ (r : Registered). option_and_then credential_of r.drep) e.registered
 
--- 1 where it delegates to the pool
+-- 1 where the entry delegates to the pool, 0 where not
 abbrev pub joins_pool : PoolId → Entry → ℕ
 joins_pool p e = amount_for pool_cmp 1 (pool_of e) p
 
--- 1 where it delegates to the DRep
+-- 1 where the entry delegates to the DRep, 0 where not
 abbrev pub joins_drep : Credential → Entry → ℕ
 joins_drep c e = amount_for credential_cmp 1 (drep_of e) c
 
--- the numbers are those of the entries, which stand in order
+-- the counts are those of the entries, which are in order
 pub record AreCounted (by_pool : List (PoolId × ℕ)) (by_drep : List (Credential × ℕ)) (entries : List (Credential × Entry)) : Type 0 where
   pub in_order : IsMap credential_cmp entries
   pub pools : (p : PoolId) → amount_at pool_cmp by_pool p ≡ sum_values (joins_pool p) entries

@@ -1,11 +1,11 @@
--- What a clearing does to entries and registrations, for pools and for DReps. (Own)
+-- How the delegations of entries and registrations to pools or DReps end. (Own)
 use Rattle.std.specs.Prelude.{Bool, List, Option, Some, None, fold, is_some, option_map, if◌then◌else◌}
 use Rattle.std.specs.Map.{keys_of}
 use Rattle.std.specs.Option.{option_and_then}
 use Rattle.gov_ids.specs.declared.Credential.{Credential}
 use Rattle.book_records.specs.declared.Entry.{Entry}
 use Rattle.book_records.specs.declared.Registered.{Registered}
-use Rattle.ledger_model.specs.Changes.{without_drep}
+use Rattle.book_records.specs.Delegations.{without_drep}
 use Rattle.gov_ids.specs.Orders.{credential_cmp}
 use Rattle.maps.specs.Maps.{changed_at, changed_where, each_value, entries_where}
 use Rattle.stake_book.specs.declared.leaving.Leaving.{Leaving}
@@ -22,7 +22,7 @@ abbrev pub cleared : Leaving → Registered → Registered
 cleared (Pools pools) r = without_pool r
 cleared (Dreps dreps) r = without_drep r
 
--- the same, where there is such a delegation
+-- the registration without that delegation; none where it has no such delegation
 abbrev pub change_of : Leaving → Registered → Option Registered
 change_of l r = if is_cleared l r then Some (cleared l r) else None
 
@@ -38,10 +38,10 @@ entries_without l entries = each_value (λ c e. entry_without l e) entries
 abbrev pub delegating : Leaving → List (Credential × Entry) → List Credential
 delegating l entries = keys_of (entries_where (λ c (e : Entry). is_some (option_and_then (change_of l) e.registered)) entries)
 
--- the entries without such delegations of these credentials, one after another
+-- the entries after the delegations of these credentials have ended, one after another
 abbrev pub ended_at : Leaving → List Credential → List (Credential × Entry) → List (Credential × Entry)
 ended_at l cs entries = fold (λ es c. changed_at credential_cmp c (entry_without l) es) entries cs
 
--- the accounts without them
+-- the accounts without such delegations
 abbrev pub accounts_without : Leaving → List (Credential × Registered) → List (Credential × Registered)
 accounts_without l accounts = changed_where (λ c r. is_cleared l r) (cleared l) accounts

@@ -1,4 +1,5 @@
--- What a payment to an account makes of the accounts. (The credits of EPOCH and POOLREAP in the formal specification)
+-- The accounts after a payment to one of them.
+-- (The credits of EPOCH and POOLREAP in the formal specification)
 use Rattle.std.specs.Prelude.{ℕ, ◌+◌, List}
 use Rattle.gov_ids.specs.declared.Credential.{Credential}
 use Rattle.gov_ids.specs.Orders.{credential_cmp}

@@ -5,7 +5,8 @@ ghost use Rattle.stake_book.specs.Sums.{IsRaised, amount_at};
 use coin_frac::NoMemory;
 use std::collections::BTreeMap;
 
-/// Adds to the amount of a key, in one search; nothing changes where there is no key, and nothing is looked up for an amount of 0.
+/// Adds to the amount of a key, in one search. Without a key, or for 0, nothing changes.
+/// `NoMemory` changes nothing.
 pub fn raise<K: Copy + Ord>(
     amounts: &mut BTreeMap<K, u64>,
     key: Option<K>,
@@ -26,7 +27,8 @@ pub fn raise<K: Copy + Ord>(
     Ok(())
 }
 
-/// Takes from the amount of a key, which goes with the last of it; nothing changes where there is no key, and nothing is looked up for an amount of 0. It takes no memory.
+/// Takes from the amount of a key, and removes the key at 0. It takes no memory.
+/// Without a key, or for 0, nothing changes.
 pub fn lower<K: Copy + Ord>(amounts: &mut BTreeMap<K, u64>, key: Option<K>, lost: u64)
     requires enough { (k : K) → key ≡ Some k → lost ≤ amount_at K.cmp amounts.old.entries k }
     ensures { IsRaised K.cmp key lost amounts.new.entries amounts.old.entries }

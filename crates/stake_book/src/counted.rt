@@ -17,7 +17,8 @@ use gov_ids::{Credential, Drep, PoolId};
 use std::alloc::Global;
 use std::marker::Model;
 
-/// The accounts, with how many of them delegate to each pool and to each DRep. Contracts see it as the accounts. (Own)
+/// The accounts, with counts of those that delegate to each pool and each DRep.
+/// Contracts see the accounts.
 #[derive(Drop)]
 pub struct CountedAccounts {
     accounts: AccountBook,
@@ -36,14 +37,14 @@ impl Model for CountedAccounts {
     ghost invariant = { λ a. AreCounted a.pools a.dreps a.accounts.live };
 }
 
-/// The pool that an entry delegates to.
+/// The pool to which an entry delegates.
 pub fn pool(e: &Entry) -> Option<PoolId>
     ensures { result ≡ pool_of e.now }
 {
     e.registered?.pool
 }
 
-// The DRep that an entry delegates to.
+// The DRep to which an entry delegates.
 fn drep(e: &Entry) -> Option<Credential>
     ensures { result ≡ drep_of e.now }
 {
@@ -54,7 +55,7 @@ fn drep(e: &Entry) -> Option<Credential>
 }
 
 impl CountedAccounts {
-    /// No accounts. (Own)
+    /// No accounts.
     pub fn new(alloc: Global) -> CountedAccounts
         ensures { result ≡ record { live = []; frozen = [] } }
     {
@@ -65,14 +66,15 @@ impl CountedAccounts {
         }
     }
 
-    /// The accounts. (Own)
+    /// The accounts.
     pub fn book(&self) -> &AccountBook
         ensures { result.now ≡ self.now }
     {
         &self.accounts
     }
 
-    /// Puts an entry in place of `before`, the one that is there; one without stake and registration takes it away. Want of memory changes nothing. (Own)
+    /// Replaces the entry `before`; an entry without stake and registration is removed.
+    /// `NoMemory` changes nothing.
     pub fn put(&mut self, c: Credential, before: &Entry, e: Entry) -> Result<(), NoMemory>
         requires { before.now ≡ whole_entry self.old.live c }
         ensures ok { OnOk result (self.new ≡ entered c e self.old) }
@@ -96,7 +98,8 @@ impl CountedAccounts {
         Ok(())
     }
 
-    /// The credentials of the entries that delegate to what leaves, in order, in one walk; without a walk where none does. (Own)
+    /// The credentials of the entries that delegate to what leaves, in order.
+    /// It scans the accounts once; where no entry delegates to it, not at all.
     pub fn delegating(&self, alloc: Global, leaving: &Leaving) -> Result<Vec<Credential>, NoMemory>
         ensures { IfOk result (λ cs. cs.items ≡ delegating leaving.now self.now.live) }
     {
@@ -122,8 +125,8 @@ impl CountedAccounts {
         }
     }
 
-    /// Sets the entry of a credential at the last freeze, none for an absence. The live entry stays; want of memory changes
-    /// nothing. (Own)
+    /// Sets the entry of a credential at the last freeze, or its absence. The live entry stays.
+    /// `NoMemory` changes nothing.
     pub fn note_first(&mut self, c: Credential, first: Option<Entry>) -> Result<(), NoMemory>
         ensures ok { OnOk result (self.new ≡
             record self.old { frozen = with_option credential_cmp c first self.old.frozen }) }
@@ -132,7 +135,7 @@ impl CountedAccounts {
         self.accounts.note_first(c, first)
     }
 
-    /// Makes the live entries the frozen ones. It takes no memory and copies no entry. (Own)
+    /// Freezes the live entries. It takes no memory and copies no entry.
     pub fn freeze(&mut self)
         ensures fields { self.new ≡ record self.old { frozen = self.old.live } }
         ensures frozen { frozen_of credential_cmp self.new ≡ self.old.live }

@@ -9,11 +9,12 @@ use std::alloc::Global;
 use std::collections::{BTreeMap, BTreeSet};
 use std::marker::Model;
 
-/// How many accounts delegate to each pool, or to each DRep; one that nobody delegates to takes no room. Contracts see it as these numbers. (Own)
+/// How many accounts delegate to each pool, or to each DRep; a key with a count of 0 has no entry.
+/// Contracts see the counts.
 #[derive(Drop)]
 pub struct Delegators<K: Ord> {
     counts: BTreeMap<K, u64>,
-    // how many delegations were counted: all counts together are at most that
+    // how many delegations were ever counted; the counts together are at most that
     counted: u64,
 }
 
@@ -29,7 +30,7 @@ impl<K: Ord> Model for Delegators<K> {
 }
 
 impl<K: Copy + Ord> Delegators<K> {
-    /// No delegation. (Own)
+    /// No delegations.
     pub fn new(alloc: Global) -> Delegators<K>
         ensures { result ≡ [] }
     {
@@ -39,7 +40,7 @@ impl<K: Copy + Ord> Delegators<K> {
         }
     }
 
-    /// Counts one more delegation, if it is one. Want of memory changes nothing. (Own)
+    /// Counts one more delegation, if there is one. `NoMemory` changes nothing.
     pub fn join(&mut self, to: Option<K>) -> Result<(), NoMemory>
         ensures ok { OnOk result (IsRaised K.cmp to 1 self.old self.new) }
         ensures err { OnErr result (self.new ≡ self.old) }
@@ -50,7 +51,7 @@ impl<K: Copy + Ord> Delegators<K> {
         Ok(())
     }
 
-    /// Counts one delegation less, if it is one. It takes no memory. (Own)
+    /// Counts one delegation less, if there is one. It takes no memory.
     pub fn leave(&mut self, from: Option<K>)
         requires { (k : K) → from ≡ Some k → 1 ≤ amount_at K.cmp self.old k }
         ensures { IsRaised K.cmp from 1 self.new self.old }
@@ -58,7 +59,7 @@ impl<K: Copy + Ord> Delegators<K> {
         lower(&mut self.counts, from, 1);
     }
 
-    /// Whether someone delegates to one of these. (Own)
+    /// Whether an account delegates to one of these.
     pub fn have_any(&self, names: &BTreeSet<K>) -> bool
         ensures { result ≡ list_any (has_key K.cmp self.now) names.now.keys }
     {
@@ -66,7 +67,7 @@ impl<K: Copy + Ord> Delegators<K> {
     }
 }
 
-/// The delegation that ends and the one that begins; none where it stays. (Own)
+/// The delegation that ends and the one that begins; none for both where it stays.
 pub fn moved<K: Copy + Ord>(from: Option<K>, to: Option<K>) -> (Option<K>, Option<K>)
     ensures each { (k : K) → amount_for K.cmp 1 result.1 k + amount_for K.cmp 1 from k ≡
         amount_for K.cmp 1 result.0 k + amount_for K.cmp 1 to k }

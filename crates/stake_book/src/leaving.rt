@@ -6,12 +6,12 @@ use book_records::Registered;
 use gov_ids::{Credential, Drep, PoolId};
 use std::collections::BTreeSet;
 
-/// What leaves, so that the delegations to it end. (Own)
+/// The pools or DReps that leave: the delegations to them end.
 #[derive(Debug, Drop)]
 pub enum Leaving {
-    /// These pools.
+    /// Pools.
     Pools(BTreeSet<PoolId>),
-    /// The DReps of these credentials.
+    /// DReps, by credential.
     Dreps(BTreeSet<Credential>),
 }
 
@@ -26,7 +26,7 @@ fn votes_by(r: &Registered, dreps: &BTreeSet<Credential>) -> bool
 }
 
 impl Leaving {
-    /// A registration without its delegation to what leaves; none where there is no such delegation.
+    /// The registration without its delegation to what leaves; none where it has none such.
     pub fn change(&self, registered: Option<Registered>) -> Option<Registered>
         ensures { result ≡ option_and_then (change_of self.now) registered }
     {

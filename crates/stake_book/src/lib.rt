@@ -4,7 +4,7 @@
 ghost use Rattle.std.specs.Prelude.{◌≡◌, ◌+◌, ◌-◌, ◌≤◌, [], ◌∷◌, Some, OnOk, OnErr, IfOk};
 ghost use Rattle.gov_ids.specs.declared.Credential.{Credential};
 ghost use Rattle.gov_ids.specs.Orders.{credential_cmp, outref_cmp, txid_cmp};
-ghost use Rattle.tx_records.specs.declared.limits.TheConstants.{SUPPLY_LIMIT};
+ghost use Rattle.coin_frac.specs.declared.TheConstants.{SUPPLY_LIMIT};
 ghost use Rattle.book_records.specs.Outputs.{lovelace_in};
 ghost use Rattle.maps.specs.Maps.{value_at, changed_at, with_key, without_member};
 ghost use Rattle.maps.specs.Replaced.{with_option};
@@ -33,14 +33,16 @@ use std::marker::Model;
 use summed::SummedAccounts;
 use utxo_set::UtxoSet;
 
-/// The outputs and the accounts. The stake of each account and of each pool, and the reward balances, are kept as running numbers. (UTxOState and DState of the formal specification; the running numbers are own)
+/// The outputs and the accounts.
+/// Running sums hold each account's stake, each pool's stake and the reward balances.
+/// (UTxOState and DState of the formal specification; the running sums are own)
 pub struct StakeBook {
     alloc: Global,
     outputs: UtxoSet,
     accounts: SummedAccounts,
 }
 
-// What lets it go stands here once: a derived one is proved again, part by part, in each crate above.
+// By hand, so that it is proved once: each crate above would prove a derived one part by part.
 impl Drop for StakeBook {
     fn drop(self) {
         let StakeBook {
@@ -61,7 +63,7 @@ impl Model for StakeBook {
     ghost invariant = { λ a. AreKept (record { outputs = a.outputs; accounts = a.accounts }) };
 }
 
-// Adds to the stake of a stake part; nothing changes where there is no part.
+// Adds to the stake of a stake part; without one nothing changes.
 fn raise_stake(
     accounts: &mut SummedAccounts,
     part: Option<Credential>,
@@ -82,7 +84,7 @@ fn raise_stake(
     accounts.enter(c, &entry, Entry { stake, ..entry })
 }
 
-// Takes from the stake of a stake part; nothing changes where there is no part.
+// Takes from the stake of a stake part; without one nothing changes.
 fn lower_stake(
     accounts: &mut SummedAccounts,
     part: Option<Credential>,
@@ -104,7 +106,7 @@ fn lower_stake(
 }
 
 impl StakeBook {
-    /// A book with no output, no used id and no account. (UTxOState and DState of the formal specification)
+    /// An empty book. (UTxOState and DState of the formal specification)
     pub fn new(alloc: Global) -> StakeBook
         ensures { result ≡ no_stakes }
     {
@@ -123,7 +125,7 @@ impl StakeBook {
         self.accounts.book()
     }
 
-    /// The outputs and the used ids. (UTxOState of the formal specification)
+    /// The outputs and the used transaction ids. (UTxOState of the formal specification)
     pub fn outputs(&self) -> &UtxoSet
         ensures value { result.now ≡ self.now.outputs }
         ensures kept { AreKept self.now }
@@ -131,7 +133,7 @@ impl StakeBook {
         &self.outputs
     }
 
-    /// The registration of a credential, none where it is not registered. (DState of the formal specification)
+    /// The registration of a credential, if it has one. (DState of the formal specification)
     pub fn account(&self, c: &Credential) -> Option<Registered>
         ensures value { result ≡ value_at credential_cmp (accounts_of self.now) c.now }
         ensures kept { AreKept self.now }
@@ -139,7 +141,7 @@ impl StakeBook {
         self.entry(c).registered
     }
 
-    // The entry of a credential; no stake and no registration where there is none.
+    // The entry of a credential; where there is none, one without stake and registration.
     fn entry(&self, c: &Credential) -> Entry
         ensures value { result ≡ whole_entry self.now.accounts.live c.now }
         ensures registered { result.registered ≡ value_at credential_cmp (accounts_of self.now) c.now }
@@ -148,7 +150,7 @@ impl StakeBook {
         self.accounts.entry_of(c)
     }
 
-    /// The reward balances, added up, in lovelace. (DState of the formal specification)
+    /// The sum of the reward balances, in lovelace. (DState of the formal specification)
     pub fn balances(&self) -> u64
         ensures sum { result ≡ balances_in (accounts_of self.now) }
         ensures kept { AreKept self.now }
@@ -156,7 +158,8 @@ impl StakeBook {
         self.accounts.balances()
     }
 
-    /// The output stake and the balances of the accounts that delegate to a pool, in lovelace. (The stake distribution of SNAP in the formal specification)
+    /// The output stake and the balances of the accounts that delegate to a pool, in lovelace.
+    /// (The stake distribution of SNAP in the formal specification)
     pub fn pool_stake(&self, p: &PoolId) -> u64
         ensures sum { result ≡ pool_stake_in self.now p.now }
         ensures kept { AreKept self.now }
@@ -164,7 +167,8 @@ impl StakeBook {
         self.accounts.pool_stake(p)
     }
 
-    /// Removes the output at a reference and gives it, none where there is none. Want of memory changes nothing. (UTXO of the formal specification)
+    /// Removes the output at a reference and returns it, if there is one.
+    /// `NoMemory` changes nothing. (UTXO of the formal specification)
     pub fn spend(&mut self, r: &OutRef) -> Result<Option<Output>, NoMemory>
         ensures value { IfOk result (λ o. o ≡ value_at outref_cmp self.old.outputs.outputs r.now) }
         ensures ok { OnOk result (self.new ≡ spent r.now self.old) }
@@ -181,7 +185,8 @@ impl StakeBook {
         Ok(self.outputs.take(r))
     }
 
-    /// Adds an output at a new reference. Want of memory changes nothing. (UTXO of the formal specification)
+    /// Adds an output at a new reference. `NoMemory` changes nothing.
+    /// (UTXO of the formal specification)
     pub fn add(&mut self, r: OutRef, o: Output) -> Result<(), NoMemory>
         requires absent { value_at outref_cmp self.old.outputs.outputs r ≡ None }
         requires room { HasRoom o.lovelace self.old }
@@ -200,7 +205,8 @@ impl StakeBook {
         Ok(())
     }
 
-    /// Registers an account with a credential, changes its registration or ends it. Want of memory changes nothing. (DELEG of the formal specification)
+    /// Sets the registration of a credential, or ends it. `NoMemory` changes nothing.
+    /// (DELEG of the formal specification)
     pub fn set_account(&mut self, c: Credential, to: Option<Registered>) -> Result<(), NoMemory>
         requires room { lovelace_in self.old.outputs.outputs
             + balances_in (with_option credential_cmp c to (accounts_of self.old)) ≤ SUPPLY_LIMIT }
@@ -214,7 +220,7 @@ impl StakeBook {
         self.register(c, &entry, to)
     }
 
-    // Puts a registration, or none, in place of that of an entry, the one that is there.
+    // Replaces the registration of an entry, which is the current one.
     fn register(
         &mut self,
         c: Credential,
@@ -238,7 +244,9 @@ impl StakeBook {
         Ok(())
     }
 
-    /// Ends the delegations to each of some pools; all else stays. It walks the accounts once, and not at all where none delegates to them. It takes memory for these pools and the accounts that delegate to them alone. Want of memory leaves a book with some of them ended: the caller drops it. (POOLREAP of the formal specification)
+    /// Ends the delegations to these pools in one scan of the accounts; without delegators in none.
+    /// Memory is for the pools and their delegators only.
+    /// After `NoMemory` some have ended: drop the book. (POOLREAP of the formal specification)
     pub fn clear_pools(&mut self, pools: &[PoolId]) -> Result<(), NoMemory>
         ensures outputs { OnOk result (self.new.outputs ≡ self.old.outputs) }
         ensures registered { OnOk result (accounts_of self.new ≡ without_pools pools.now (accounts_of self.old)) }
@@ -253,7 +261,7 @@ impl StakeBook {
         Ok(())
     }
 
-    /// Ends the delegations to a pool, as `clear_pools` does. (POOLREAP of the formal specification)
+    /// Ends the delegations to a pool, like `clear_pools`. (POOLREAP of the formal specification)
     pub fn clear_pool(&mut self, p: &PoolId) -> Result<(), NoMemory>
         ensures outputs { OnOk result (self.new.outputs ≡ self.old.outputs) }
         ensures registered { OnOk result (accounts_of self.new ≡ without_pools (p.now ∷ []) (accounts_of self.old)) }
@@ -263,7 +271,9 @@ impl StakeBook {
         self.clear_pools(&[*p])
     }
 
-    /// Ends the delegations to each of some DReps; all else stays. It walks the accounts once, and not at all where none delegates to them. It takes memory for these DReps and the accounts that delegate to them alone. Want of memory leaves a book with some of them ended: the caller drops it. (GOVCERT of the formal specification; that they end at once is own)
+    /// Ends the delegations to these DReps in one scan of the accounts; without delegators in none.
+    /// Memory is for the DReps and their delegators only. After `NoMemory` some have ended: drop
+    /// the book. (GOVCERT of the formal specification; that they end at once is own)
     pub fn clear_dreps(&mut self, dreps: &[Credential]) -> Result<(), NoMemory>
         ensures outputs { OnOk result (self.new.outputs ≡ self.old.outputs) }
         ensures registered { OnOk result (accounts_of self.new ≡ without_dreps dreps.now (accounts_of self.old)) }
@@ -278,7 +288,8 @@ impl StakeBook {
         Ok(())
     }
 
-    /// Ends the delegations to a DRep, as `clear_dreps` does. (GOVCERT of the formal specification; that they end at once is own)
+    /// Ends the delegations to a DRep, like `clear_dreps`.
+    /// (GOVCERT of the formal specification; that they end at once is own)
     pub fn clear_drep(&mut self, c: &Credential) -> Result<(), NoMemory>
         ensures outputs { OnOk result (self.new.outputs ≡ self.old.outputs) }
         ensures registered { OnOk result (accounts_of self.new ≡ without_dreps (c.now ∷ []) (accounts_of self.old)) }
@@ -329,7 +340,7 @@ impl StakeBook {
         Ok(())
     }
 
-    /// Puts an id among the used ones. Want of memory changes nothing. (Own)
+    /// Adds an id to the used ones. `NoMemory` changes nothing.
     pub fn mark_used(&mut self, id: TxId) -> Result<(), NoMemory>
         ensures ok { OnOk result (self.new ≡ with_used (with_key txid_cmp id self.old.outputs.used) self.old) }
         ensures registered { accounts_of self.new ≡ accounts_of self.old }
@@ -338,7 +349,7 @@ impl StakeBook {
         self.outputs.mark_used(id)
     }
 
-    /// Takes an id from the used ones. (Own)
+    /// Removes an id from the used ones.
     pub fn unmark(&mut self, id: &TxId)
         ensures value { self.new ≡ with_used (without_member txid_cmp id.now self.old.outputs.used) self.old }
         ensures registered { accounts_of self.new ≡ accounts_of self.old }
@@ -346,8 +357,8 @@ impl StakeBook {
         self.outputs.unmark(id);
     }
 
-    /// Sets the entry of a credential at the last freeze, none for an absence. The live entry stays; want of memory changes
-    /// nothing. (Own)
+    /// Sets the entry of a credential at the last freeze, or its absence. The live entry stays.
+    /// `NoMemory` changes nothing.
     pub fn note_first(&mut self, c: Credential, first: Option<Entry>) -> Result<(), NoMemory>
         ensures kept { AreKept self.old }
         ensures ok { OnOk result (self.new ≡ record self.old {
@@ -358,7 +369,8 @@ impl StakeBook {
         self.accounts.note_first(c, first)
     }
 
-    /// Makes the live entries the frozen ones. It takes no memory and copies no entry. (SNAP of the formal specification; how it is kept is own)
+    /// Freezes the live entries. It takes no memory and copies no entry.
+    /// (SNAP of the formal specification; the representation is own)
     pub fn freeze(&mut self)
         ensures kept { AreKept self.old }
         ensures fields { self.new ≡ record self.old { accounts = record self.old.accounts { frozen = self.old.accounts.live } } }

@@ -11,7 +11,9 @@ use coin_frac::NoMemory;
 use gov_ids::Credential;
 
 impl StakeBook {
-    /// Adds an amount, in lovelace, to the reward balance of an account, and says whether it is registered; nothing changes where it is not. Want of memory changes nothing. (EPOCH and POOLREAP of the formal specification)
+    /// Adds lovelace to the reward balance of an account and returns whether it is registered.
+    /// Where it is not, or after `NoMemory`, nothing changes.
+    /// (EPOCH and POOLREAP of the formal specification)
     pub fn pay(&mut self, c: &Credential, amount: u64) -> Result<bool, NoMemory>
         requires room { has_key credential_cmp (accounts_of self.old) c.now ≡ true → HasRoom amount self.old }
         ensures paid { IfOk result (λ b. b ≡ has_key credential_cmp (accounts_of self.old) c.now) }

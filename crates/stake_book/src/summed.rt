@@ -1,6 +1,6 @@
 ghost use Rattle.std.specs.Prelude.{◌≡◌, ◌≤◌, ◌⊎◌, [], IfOk, OnOk, OnErr};
 ghost use Rattle.gov_ids.specs.Orders.{credential_cmp};
-ghost use Rattle.tx_records.specs.declared.limits.TheConstants.{SUPPLY_LIMIT};
+ghost use Rattle.coin_frac.specs.declared.TheConstants.{SUPPLY_LIMIT};
 ghost use Rattle.maps.specs.Maps.{IsMap, sum_values};
 ghost use Rattle.maps.specs.Replaced.{with_option};
 ghost use Rattle.view_map.specs.View.{frozen_of};
@@ -20,7 +20,7 @@ use std::alloc::Global;
 use std::collections::BTreeMap;
 use std::marker::Model;
 
-/// The accounts, with the sums over them. Contracts see it as the accounts. (Own)
+/// The accounts, with sums over them. Contracts see the accounts.
 #[derive(Drop)]
 pub struct SummedAccounts {
     accounts: CountedAccounts,
@@ -46,7 +46,7 @@ fn balance(e: &Entry) -> u64
     e.registered.map_or(0, |r| r.rewards)
 }
 
-// How much of what an entry gave to a pool stays there with the one in its place; 0 where the pool changes.
+// What stays in a pool's stake when an entry is replaced; 0 where the pool changes.
 fn left_there(from: Option<PoolId>, lost: u64, to: Option<PoolId>, gained: u64) -> u64
     ensures of_lost { result ≤ lost }
     ensures of_gained { result ≤ gained }
@@ -56,7 +56,7 @@ fn left_there(from: Option<PoolId>, lost: u64, to: Option<PoolId>, gained: u64) 
 }
 
 impl SummedAccounts {
-    /// No accounts. (Own)
+    /// No accounts.
     pub fn new(alloc: Global) -> SummedAccounts
         ensures { result ≡ record { live = []; frozen = [] } }
     {
@@ -67,14 +67,14 @@ impl SummedAccounts {
         }
     }
 
-    /// The accounts. (Own)
+    /// The accounts.
     pub fn book(&self) -> &AccountBook
         ensures { result.now ≡ self.now }
     {
         self.accounts.book()
     }
 
-    /// The entry of a credential; no stake and no registration where there is none. (Own)
+    /// The entry of a credential; where there is none, one without stake and registration.
     pub fn entry_of(&self, c: &Credential) -> Entry
         ensures value { result ≡ whole_entry self.now.live c.now }
         ensures in_order { IsMap credential_cmp self.now.live }
@@ -86,7 +86,8 @@ impl SummedAccounts {
         })
     }
 
-    /// The credentials of the entries that delegate to what leaves, in order, in one walk; without a walk where none does. (Own)
+    /// The credentials of the entries that delegate to what leaves, in order.
+    /// It scans the accounts once; where no entry delegates to it, not at all.
     pub fn delegating(&self, alloc: Global, leaving: &Leaving) -> Result<Vec<Credential>, NoMemory>
         ensures value { IfOk result (λ cs. cs.items ≡ delegating leaving.now self.now.live) }
         ensures in_order { IsMap credential_cmp self.now.live }
@@ -94,14 +95,14 @@ impl SummedAccounts {
         self.accounts.delegating(alloc, leaving)
     }
 
-    /// The balances, added up, in lovelace. (Own)
+    /// The sum of the balances, in lovelace.
     pub fn balances(&self) -> u64
         ensures { result ≡ sum_values balance_of self.now.live }
     {
         self.balances
     }
 
-    /// The stake of a pool, in lovelace. (Own)
+    /// The stake of a pool, in lovelace.
     pub fn pool_stake(&self, p: &PoolId) -> u64
         ensures value { result ≡ sum_values (share_of p.now) self.now.live }
         ensures in_order { IsMap credential_cmp self.now.live }
@@ -109,7 +110,8 @@ impl SummedAccounts {
         self.pools.get(p).copied().unwrap_or(0)
     }
 
-    /// Puts an entry in place of `before`, the one that is there; one without stake and registration takes it away. Want of memory changes nothing. (Own)
+    /// Replaces the entry `before`; an entry without stake and registration is removed.
+    /// `NoMemory` changes nothing.
     pub fn enter(&mut self, c: Credential, before: &Entry, e: Entry) -> Result<(), NoMemory>
         requires before { before.now ≡ whole_entry self.old.live c }
         requires within { weight_in (with_entry c e self.old.live) ≤ SUPPLY_LIMIT }
@@ -137,8 +139,8 @@ impl SummedAccounts {
         Ok(())
     }
 
-    /// Sets the entry of a credential at the last freeze, none for an absence. The live entry stays; want of memory changes
-    /// nothing. (Own)
+    /// Sets the entry of a credential at the last freeze, or its absence. The live entry stays.
+    /// `NoMemory` changes nothing.
     pub fn note_first(&mut self, c: Credential, first: Option<Entry>) -> Result<(), NoMemory>
         ensures ok { OnOk result (self.new ≡
             record self.old { frozen = with_option credential_cmp c first self.old.frozen }) }
@@ -147,7 +149,7 @@ impl SummedAccounts {
         self.accounts.note_first(c, first)
     }
 
-    /// Makes the live entries the frozen ones. It takes no memory and copies no entry. (Own)
+    /// Freezes the live entries. It takes no memory and copies no entry.
     pub fn freeze(&mut self)
         ensures fields { self.new ≡ record self.old { frozen = self.old.live } }
         ensures frozen { frozen_of credential_cmp self.new ≡ self.old.live }

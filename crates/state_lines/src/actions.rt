@@ -24,10 +24,10 @@ fn vote_name(vote: Vote) -> &'static str
     }
 }
 
-/// A proposal but for its votes. (GovActionState of the formal specification)
+/// A proposal except its votes. (GovActionState of the formal specification)
 #[derive(Clone, Copy)]
 pub struct Proposed<'a> {
-    /// The transaction that proposed it, and its place there.
+    /// The transaction that proposed it, and its index there.
     pub id: ActionId,
     /// What it asks for.
     pub action: &'a Action,
@@ -39,7 +39,7 @@ pub struct Proposed<'a> {
     pub expires_after: u64,
 }
 
-/// Appends the line of a proposal. After want of memory the buffer may hold anything. (Own)
+/// Appends the line of a proposal. After an out-of-memory error the buffer may hold anything. (Own)
 pub fn push_proposal_line(
     out: &mut Vec<u8>,
     line: u64,
@@ -67,7 +67,8 @@ pub fn push_proposal_line(
     )
 }
 
-/// Appends the line of a vote on the proposal of this id. After want of memory the buffer may hold anything. (Own)
+/// Appends the line of a vote on the proposal of this id. (Own)
+/// After an out-of-memory error the buffer may hold anything.
 pub fn push_vote_line<'a>(
     out: &mut Vec<u8>,
     line: u64,
@@ -88,7 +89,7 @@ pub fn push_vote_line<'a>(
     )
 }
 
-/// Which of the last three boundaries a snapshot of pools is of. (SNAP of the formal specification)
+/// The boundary of a snapshot of pools, among the last three. (SNAP of the formal specification)
 #[derive(Clone, Copy)]
 pub enum SnapshotName {
     /// The last.
@@ -112,7 +113,8 @@ impl SnapshotName {
     }
 }
 
-/// Appends the line of a pool's stake in a snapshot, in lovelace. After want of memory the buffer may hold anything. (Own)
+/// Appends the line of a pool's stake in a snapshot, in lovelace. (Own)
+/// After an out-of-memory error the buffer may hold anything.
 pub fn push_snapshot_line(
     out: &mut Vec<u8>,
     line: u64,
@@ -133,7 +135,8 @@ pub fn push_snapshot_line(
     )
 }
 
-/// Appends the line of the fee pot at the last boundary, in lovelace. After want of memory the buffer may hold anything. (Own)
+/// Appends the line of the fee pot at the last boundary, in lovelace. (Own)
+/// After an out-of-memory error the buffer may hold anything.
 pub fn push_noted_fees_line(out: &mut Vec<u8>, line: u64, fees: u64) -> Result<(), NoMemory>
     ensures { OnOk result (out.new.items ≡ out.old.items ++ line_of line (noted_fees_words fees)) }
 {
@@ -148,7 +151,8 @@ pub fn push_noted_fees_line(out: &mut Vec<u8>, line: u64, fees: u64) -> Result<(
     )
 }
 
-/// Appends the line of the pending reward update. After want of memory the buffer may hold anything. (Own)
+/// Appends the line of the pending reward update. (Own)
+/// After an out-of-memory error the buffer may hold anything.
 pub fn push_pending_line(out: &mut Vec<u8>, line: u64, update: &Rewards) -> Result<(), NoMemory>
     ensures { OnOk result (out.new.items ≡ out.old.items ++ line_of line (pending_words update.now)) }
 {
@@ -167,14 +171,16 @@ pub fn push_pending_line(out: &mut Vec<u8>, line: u64, update: &Rewards) -> Resu
     )
 }
 
-/// Appends the line that says that no reward update is pending. After want of memory the buffer may hold anything. (Own)
+/// Appends the line that says that no reward update is pending. (Own)
+/// After an out-of-memory error the buffer may hold anything.
 pub fn push_none_pending_line(out: &mut Vec<u8>, line: u64) -> Result<(), NoMemory>
     ensures { OnOk result (out.new.items ≡ out.old.items ++ line_of line none_pending_words) }
 {
     push_line(out, line, &[Word::Text("pending"), Word::Text("none")])
 }
 
-/// Appends the line of a pending reward, in lovelace. After want of memory the buffer may hold anything. (Own)
+/// Appends the line of a pending reward, in lovelace. (Own)
+/// After an out-of-memory error the buffer may hold anything.
 pub fn push_pending_reward_line(
     out: &mut Vec<u8>,
     line: u64,

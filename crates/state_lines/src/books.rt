@@ -40,7 +40,7 @@ fn retires_word(retires: &Option<u64>) -> Word<'_>
     }
 }
 
-/// Appends the line of a DRep. After want of memory the buffer may hold anything. (Own)
+/// Appends the line of a DRep. After an out-of-memory error the buffer may hold anything. (Own)
 pub fn push_drep_line(
     out: &mut Vec<u8>,
     line: u64,
@@ -110,7 +110,7 @@ fn push_pool<'a>(out: &mut Vec<u8>, id: &'a PoolId, pool: &'a Pool) -> Result<()
     push_key(out, &pool.terms.key)
 }
 
-/// Appends the line of a pool. After want of memory the buffer may hold anything. (Own)
+/// Appends the line of a pool. After an out-of-memory error the buffer may hold anything. (Own)
 pub fn push_pool_line(
     out: &mut Vec<u8>,
     line: u64,
@@ -124,7 +124,8 @@ pub fn push_pool_line(
     end_line(out)
 }
 
-/// Appends the line of a pool's future terms. After want of memory the buffer may hold anything. (Own)
+/// Appends the line of a pool's future terms. (Own)
+/// After an out-of-memory error the buffer may hold anything.
 pub fn push_next_line(
     out: &mut Vec<u8>,
     line: u64,
@@ -192,7 +193,8 @@ fn push_account(out: &mut Vec<u8>, credential: &Credential, entry: &Entry) -> Re
     push_registration(out, &entry.registered)
 }
 
-/// Appends the line of a credential that holds stake or is registered. After want of memory the buffer may hold anything. (Own)
+/// Appends the line of a credential that holds stake or is registered. (Own)
+/// After an out-of-memory error the buffer may hold anything.
 pub fn push_account_line(
     out: &mut Vec<u8>,
     line: u64,
@@ -206,7 +208,8 @@ pub fn push_account_line(
     end_line(out)
 }
 
-/// Appends the line of an unspent output. After want of memory the buffer may hold anything. (Own)
+/// Appends the line of an unspent output. (Own)
+/// After an out-of-memory error the buffer may hold anything.
 pub fn push_output_line<'a>(
     out: &mut Vec<u8>,
     line: u64,
@@ -227,7 +230,8 @@ pub fn push_output_line<'a>(
     )
 }
 
-/// Appends the line of an asset of an output. After want of memory the buffer may hold anything. (Own)
+/// Appends the line of an asset of an output. (Own)
+/// After an out-of-memory error the buffer may hold anything.
 pub fn push_asset_line(out: &mut Vec<u8>, line: u64, held: &(AssetId, u64)) -> Result<(), NoMemory>
     ensures { OnOk result (out.new.items ≡ out.old.items ++ line_of line (asset_words held.now)) }
 {

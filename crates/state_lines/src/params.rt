@@ -128,7 +128,7 @@ fn amounts(p: &Params) -> [Param<'_>; 8]
     ]
 }
 
-/// The rest but for governance, and the thresholds.
+/// The rest except governance, and the thresholds.
 fn shares_of(p: &Params) -> [Param<'_>; 8]
     ensures { map param_words result ≡ take 8 (drop 16 (param_lines p.now)) }
 {
@@ -205,7 +205,8 @@ fn put_rest<T: LineTaker>(
     put_each(to, text, line, &governance(p))
 }
 
-/// Hands over the line of each parameter, in order. Each is made in the buffer, in place of what it held. After an error a front of them was taken. (Own)
+/// Hands over the line of each parameter, in order. (Own)
+/// Each replaces what the buffer held. After an error a prefix of the lines was taken.
 pub fn put_params<T: LineTaker>(
     to: &mut T,
     text: &mut Vec<u8>,

@@ -22,7 +22,7 @@ use gov_ids::{ActionId, AssetId, Credential, OutRef, PoolId, Voter};
 use report::Printed;
 use tx_records::Rewards;
 
-/// A line of a state, as what it is printed from; that of a parameter stands apart. (Own)
+/// A line of a state except that of a parameter, as what it is printed from. (Own)
 #[derive(Drop)]
 pub enum StateLine<'a> {
     /// The slot, its epoch, the protocol version, and the dormant count.
@@ -39,17 +39,17 @@ pub enum StateLine<'a> {
     Enacted(&'a LastIds),
     /// A DRep.
     Drep(&'a Credential, &'a DrepState),
-    /// A pool, but for its future terms.
+    /// A pool, except its future terms.
     Pool(&'a PoolId, &'a Pool),
     /// A pool's future terms.
     NextTerms(&'a PoolId, &'a PoolTerms),
     /// A credential that holds stake or is registered.
     Account(&'a Credential, &'a Entry),
-    /// An unspent output, but for its assets.
+    /// An unspent output, except its assets.
     Output(&'a OutRef, &'a Output),
     /// An asset of an output.
     Asset(&'a (AssetId, u64)),
-    /// A proposal, but for its votes.
+    /// A proposal, except its votes.
     Proposal(Proposed<'a>),
     /// A vote on the action of an id.
     Vote(&'a ActionId, &'a (Voter, Vote)),
@@ -57,7 +57,7 @@ pub enum StateLine<'a> {
     Snapshot(SnapshotName, &'a (PoolId, u64)),
     /// The fee pot at the last boundary, in lovelace.
     NotedFees(u64),
-    /// The pending reward update, but for its rewards.
+    /// The pending reward update, except its rewards.
     Pending(&'a Rewards),
     /// That no reward update is pending.
     NonePending,

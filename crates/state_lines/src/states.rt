@@ -1,4 +1,4 @@
-//! The lines of the state, but for parameters, books and proposals.
+//! The lines of the state, except parameters, books and proposals.
 ghost use Rattle.std.specs.Prelude.{◌≡◌, ◌++◌, OnOk};
 ghost use Rattle.gov_ids.specs.Spelling.{action_id_text, hash_text};
 ghost use Rattle.text_model.specs.StateLines.{committee_words, hot_text, hot_words, words_of_constitution, words_of_enacted, words_of_member, words_of_now};
@@ -41,7 +41,8 @@ fn script_word(script: &Option<[u8; 28]>) -> Word<'_>
     }
 }
 
-/// Appends the line of where the chain is. After want of memory the buffer may hold anything. (Own)
+/// Appends the line of where the chain is. (Own)
+/// After an out-of-memory error the buffer may hold anything.
 pub fn push_now_line(
     out: &mut Vec<u8>,
     line: u64,
@@ -69,7 +70,8 @@ pub fn push_now_line(
     )
 }
 
-/// Appends the line of the constitution. After want of memory the buffer may hold anything. (Own)
+/// Appends the line of the constitution. (Own)
+/// After an out-of-memory error the buffer may hold anything.
 pub fn push_constitution_line<'a>(
     out: &mut Vec<u8>,
     line: u64,
@@ -89,7 +91,8 @@ pub fn push_constitution_line<'a>(
     )
 }
 
-/// Appends the line of the committee. After want of memory the buffer may hold anything. (Own)
+/// Appends the line of the committee. (Own)
+/// After an out-of-memory error the buffer may hold anything.
 pub fn push_committee_line(
     out: &mut Vec<u8>,
     line: u64,
@@ -111,7 +114,8 @@ pub fn push_committee_line(
     }
 }
 
-/// Appends the line of a member, whose cold key authorized `hot`. After want of memory the buffer may hold anything. (Own)
+/// Appends the line of a member, whose cold key authorized `hot`. (Own)
+/// After an out-of-memory error the buffer may hold anything.
 pub fn push_member_line<'a>(
     out: &mut Vec<u8>,
     line: u64,
@@ -134,7 +138,8 @@ pub fn push_member_line<'a>(
     )
 }
 
-/// Appends the line of what a cold key authorized that is no member's. After want of memory the buffer may hold anything. (Own)
+/// Appends the line of what a cold key authorized that is no member's. (Own)
+/// After an out-of-memory error the buffer may hold anything.
 pub fn push_hot_line<'a>(
     out: &mut Vec<u8>,
     line: u64,
@@ -154,7 +159,8 @@ pub fn push_hot_line<'a>(
     )
 }
 
-/// Appends the line of the last enacted ids. After want of memory the buffer may hold anything. (Own)
+/// Appends the line of the last enacted ids. (Own)
+/// After an out-of-memory error the buffer may hold anything.
 pub fn push_enacted_line(out: &mut Vec<u8>, line: u64, last: &LastIds) -> Result<(), NoMemory>
     ensures { OnOk result (out.new.items ≡ out.old.items ++ line_of line (words_of_enacted last.now)) }
 {

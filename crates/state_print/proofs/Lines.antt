@@ -31,7 +31,7 @@ pub of_first : {X : Type 0} (lines : X → List (List Text)) (all rest : List X)
 of_first {X} lines all rest x is = ap (λ (xs : List X). flat_map lines xs) (sym is)
 
 module _ {X : Type 0} where
-  -- what stands at a place and behind it
+  -- what is at an index and behind it
   there : (xs : List X) (i : ℕ) → drop i xs ≡ option_to_list (slice_get xs i) ++ drop (suc i) xs
   there [] zero = refl
   there [] (suc i) = refl

@@ -1,4 +1,4 @@
--- What outputs hold of assets stands in order.
+-- What outputs hold of assets is in order.
 use Rattle.std.proofs.Common.{ℕ, List, flat_map, map, nat_lt, sym, subst}
 use Rattle.std.specs.Map.{keys_of, values_of}
 use Rattle.book_records.specs.declared.Output.{Output}

@@ -42,7 +42,7 @@ module _ {K X : Type 0} {cmp : K → K → Ordering} (o : IsTotalOrder cmp) wher
   of_next P after (e ∷ es) h =
       elim (comes_past cmp after e.0) as (λ b. IfSome (cond b (Some e) (entry_after cmp after es)) (λ e. P e.0)) [ true ↦ h.0 | false ↦ of_next P after es h.1 ]
 
-  -- past a key that comes past another, where all stands above it
+  -- past a key that comes past another, where all is above it
   same_past : (after : Option K) (k : K) (es : List (K × X)) → comes_past cmp after k ≡ true → AllByRecursion (λ q. cmp k q ≡ Less) (keys_of es) → entries_past cmp after es ≡ entries_past cmp (Some k) es
   same_past after k [] a h = refl
   same_past after k (e ∷ es) a h = λ i. cond (sym (past_both o after k e.0 a h.0) i) (e ∷ same_past after k es a h.1 i) (same_past after k es a h.1 i)

@@ -1,4 +1,4 @@
--- What the lent parts of a ledger show. (Own)
+-- What the borrowed parts of a ledger show. (Own)
 use Rattle.std.specs.Prelude.{option_map}
 use Rattle.state_print.specs.declared.view.StateView.{StateView}
 use Rattle.text_model.specs.Shown.{Shown}

@@ -1,4 +1,4 @@
--- A walk from entry to entry. (Own)
+-- A scan from entry to entry. (Own)
 use Rattle.std.specs.Prelude.{List, [], ◌∷◌, Option, None, Some}
 
 -- the entry that was found, if there is one, and those past its key

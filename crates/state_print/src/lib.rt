@@ -1,4 +1,4 @@
-//! The print of a state: the lines of a ledger's parts, one after another, each through one buffer; and that of the assets of its outputs. No part is copied, and no text is held whole.
+//! Prints of a state and of its outputs' assets: lines one by one through a buffer, without copies.
 #![tactic(auto)]
 
 mod books;

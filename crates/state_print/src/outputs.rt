@@ -1,4 +1,4 @@
-//! The lines of the unspent outputs with their assets, and of what they hold of each asset together.
+//! The lines of the unspent outputs with their assets, and of the totals of each asset.
 ghost use Rattle.std.specs.Prelude.{flat_map, map};
 ghost use Rattle.book_records.specs.Outputs.{asset_totals};
 ghost use Rattle.report.specs.Taking.{HasPut};
@@ -61,7 +61,7 @@ pub(crate) fn put_outputs<T: LineTaker>(
     ensures { HasPut T.with_line T.IsPart line (T.taken to.old) (flat_map output_lines outputs.now.outputs)
         (T.taken to.new) (T.faults to.old) (T.faults to.new) result }
 {
-    // each reference stands once, in order
+    // each reference occurs once, in order
     let _total = outputs.total();
     let mut last = None;
     while let Some((reference, output)) = outputs.next(last.as_ref()) {
@@ -111,7 +111,8 @@ impl<'a> Walked for Totals<'a> {
     }
 }
 
-/// Hands over the lines of a print of assets: each asset that the outputs hold with how much they hold of it, in order. Each is made in the buffer, in place of what it held. After an error a front of them was taken. (Own)
+/// Hands over the line of each asset that the outputs hold, with its total, in order. (Own)
+/// Each replaces what the buffer held. After an error a prefix of the lines was taken.
 pub fn put_assets<T: LineTaker>(
     to: &mut T,
     text: &mut Vec<u8>,

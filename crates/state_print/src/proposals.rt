@@ -42,7 +42,7 @@ fn put_votes<T: LineTaker>(
     Ok(())
 }
 
-/// A proposal but for its votes.
+/// A proposal except its votes.
 fn proposed(proposal: &LiveProposal) -> Proposed<'_>
     ensures { proposed_words result ≡ proposal_words proposal.now }
 {
@@ -69,7 +69,7 @@ pub fn put_proposal<T: LineTaker>(
     put_votes(to, text, line, proposal)
 }
 
-/// Hands over the lines of the proposal at a place, where there is one.
+/// Hands over the lines of the proposal at an index, where there is one.
 fn put_at<T: LineTaker>(
     to: &mut T,
     text: &mut Vec<u8>,

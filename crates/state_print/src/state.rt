@@ -14,7 +14,7 @@ use crate::governance::put_governance;
 use crate::kept::{put_pending, put_snapshots};
 use crate::view::StateView;
 use byte_lines::{Sink, SinkFault};
-use coin_frac::NoMemory;
+use no_memory::NoMemory;
 use report::{LineList, LineTaker, PotsWord, put_one};
 use state_lines::put_params;
 use std::alloc::Global;
@@ -36,7 +36,7 @@ fn put_ledger<T: LineTaker>(
     put_books(to, text, line, state)
 }
 
-/// The same, and what boundaries keep.
+/// Hands over the lines of governance, parameters and books, and of what boundaries keep.
 fn put_all_but_pots<T: LineTaker>(
     to: &mut T,
     text: &mut Vec<u8>,
@@ -54,7 +54,8 @@ fn put_all_but_pots<T: LineTaker>(
     put_pending(to, text, line, state.pending)
 }
 
-/// Hands over the lines of a state, in order. Each is made in the buffer, in place of what it held. After an error a front of them was taken. (Own)
+/// Hands over the lines of a state, in order. (Own)
+/// Each replaces what the buffer held. After an error a prefix of the lines was taken.
 pub fn put_state<T: LineTaker>(
     to: &mut T,
     text: &mut Vec<u8>,

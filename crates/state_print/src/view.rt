@@ -7,7 +7,8 @@ use snapshots::Snapshots;
 use stake_book::StakeBook;
 use tx_records::{Pots, Rewards};
 
-/// The parts of a ledger that a print of its state shows. Whoever holds a ledger lends them; nothing is copied but the numbers. (NewEpochState of the formal specification; what is shown is own)
+/// The parts of a ledger that a print of its state shows, borrowed; only the numbers are copied.
+/// (NewEpochState of the formal specification; what is shown is own)
 #[derive(Clone, Copy)]
 pub struct StateView<'a> {
     /// The last slot.

@@ -4,7 +4,7 @@ ghost use Rattle.report.specs.Taking.{HasPut};
 use byte_lines::SinkFault;
 use report::LineTaker;
 
-/// A book whose entries are found one after another in the order of their keys, each printed as lines.
+/// A book whose entries are found in the order of their keys, each printed as lines.
 pub(crate) trait Walked {
     ghost use Rattle.std.specs.Prelude.{◌≡◌, ℕ, List, Option, option_map};
     ghost use Rattle.report.specs.Taking.{HasPut};
@@ -12,7 +12,7 @@ pub(crate) trait Walked {
 
     /// The keys.
     type Key: Copy;
-    /// What stands at a key.
+    /// The value at a key.
     type Held: Copy;
 
     // the entries past a key, or all of them

@@ -1,4 +1,5 @@
-//! Tests of the whole state between two boundaries. It has no code, so that a test is proved alone; it is a program that does nothing, since the gate makes more sums of a library than of a program.
+//! Tests of the state between two boundaries. It has no code, so that a test is proved alone.
+//! It is a program that does nothing, since the gate makes more sums of a library.
 #![tactic(auto)]
 
 #[cfg(test)]

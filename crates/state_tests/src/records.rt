@@ -1,4 +1,4 @@
-//! Blocks, transactions and reward updates of an epoch, one record after another over the state of a genesis.
+//! Blocks, transactions and reward updates of an epoch, one after another from a genesis.
 use crate::lines::Line;
 use crate::lines::Line::{Block, Genesis, Record, Tx};
 use crate::state::Sums::{Part, Whole};
@@ -9,10 +9,11 @@ use std::process::Abort;
 use std::test::Fail;
 use tx_records::Reply;
 
-/// A record, the rule that refuses it with the first number that this keeps, or zeros, and what is seen after it.
+/// A record, the rule that refuses it with its first number, or zeros, and what is seen after it.
 type Row = (Line, (u16, u128), Seen);
 
-/// A genesis, records over it, and what the pots then hold: outputs, deposits, rewards, fees, treasury and reserves.
+/// A genesis, records over it, and the pots after: outputs, deposits, rewards, fees, treasury and
+/// reserves.
 type Case = (Line, &'static [Row], [u64; 6]);
 
 const WORKED: Line = Genesis("");
@@ -22,8 +23,9 @@ const LATE: Line = Genesis(
     r#","slot":4611686018427387900,"reserves":1000,"treasury":0,"committee":null,"outputs":[],"accounts":[],"pools":[],"dreps":[]"#,
 );
 
-/// Of the three accounts that were frozen the first is counted. Then one before it comes, the next leaves with its balance
-/// and comes again for the other DRep, and the first delegates anew: what was frozen is counted.
+/// The first of the three frozen accounts is counted. Then one before it comes, the next one leaves
+/// with its balance and comes again for the other DRep, and the first delegates anew.
+/// What was frozen is counted.
 const COUNTED: [Row; 9] = [
     (Block("1", "1"), (0, 0), (1, 1, Part([67, 0]), false)),
     (
@@ -50,7 +52,7 @@ const COUNTED: [Row; 9] = [
     (Block("3", "1"), (0, 0), (3, 3, Whole([67, 33]), false)),
 ];
 
-/// The account that is counted leaves; one that is not yet leaves too, and comes again once it is; the last one delegates.
+/// The counted account leaves; an uncounted one leaves, and returns once it is; the last delegates.
 const LEFT: [Row; 7] = [
     (Block("1", "1"), (0, 0), (1, 1, Part([67, 0]), false)),
     (
@@ -89,7 +91,7 @@ const LEFT: [Row; 7] = [
     (Block("3", "1"), (0, 0), (3, 3, Whole([67, 33]), false)),
 ];
 
-/// Blocks that break a rule, alone or beside a later one, of which none counts an entry, and one that counts all at once.
+/// Blocks that break a rule, alone or beside a later one, and count nothing; one that counts all.
 const BLOCKS: [Row; 8] = [
     (Block("0", "1"), (10, 0), (0, 0, Part([0, 0]), false)),
     (Block("0", "0"), (10, 0), (0, 0, Part([0, 0]), false)),
@@ -128,7 +130,7 @@ const LATE_BLOCKS: [Row; 3] = [
     ),
 ];
 
-/// Reward updates that break a rule, alone or beside a later one, one that breaks none, and more while it is pending.
+/// Updates that break a rule, alone or beside a later one; one that breaks none; then more of them.
 const UPDATES: [Row; 11] = [
     (
         Record(
@@ -209,7 +211,7 @@ const UPDATES: [Row; 11] = [
     ),
 ];
 
-/// An asset is minted; a transaction that gives less of it than it takes is refused, and one that burns the rest is not.
+/// An asset is minted. Giving less of it than is taken is refused; burning the rest is not.
 const MINTED: [Row; 3] = [
     (
         Tx(
@@ -284,7 +286,7 @@ fn refusal(reply: Reply) -> (u16, u128) {
     }
 }
 
-/// What the pots of the state of a genesis hold after these rows, each of which leaves what it says.
+/// The pots of the state of a genesis after these rows, each of which leaves what it says.
 fn pots_after<S: Changed + Drop>(
     rt: &impl Abort,
     alloc: Global,

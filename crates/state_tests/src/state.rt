@@ -4,11 +4,11 @@ ghost use Rattle.tx_records.specs.RecordLimits.{is_within_limits};
 ghost use Rattle.tx_records.specs.TxLimits as tx_limits;
 
 use crate::lines::{Line, bytes_of};
-use coin_frac::NoMemory;
 use drep_pulser::Pulser;
 use gov_ids::{CredKind, Credential, Drep};
 use ledger_state::LedgerState;
 use live_ledger::GenesisFault;
+use no_memory::NoMemory;
 use record_read::{RecordFault, read_record};
 use std::alloc::Global;
 use thiserror::Error;
@@ -45,10 +45,10 @@ pub enum Sums {
     Whole([u64; 2]),
 }
 
-/// What is seen of a state: its slot, how many entries are counted, their stakes, and whether a reward update is pending.
+/// What is seen of a state: slot, counted entries, their stakes, if a reward update is pending.
 pub type Seen = (u64, u64, Sums, bool);
 
-/// A state that records change. What goes over many records is written over any, so that its proof opens no part of the ledger.
+/// A state that records change. Loops are over any, so that their proofs do not open the ledger.
 pub trait Changed: Sized {
     ghost use Rattle.std.specs.Prelude.{◌≡◌, true};
     ghost use Rattle.tx_records.specs.GenesisLimits as genesis_limits;
@@ -65,7 +65,7 @@ pub trait Changed: Sized {
     /// What is seen of it.
     fn seen(&self) -> Seen;
 
-    /// What its pots hold but that of the donations: outputs, deposits, rewards, fees, treasury and reserves.
+    /// Its pots except donations: outputs, deposits, rewards, fees, treasury and reserves.
     fn pots(&self) -> [u64; 6];
 }
 

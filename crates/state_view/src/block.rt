@@ -2,9 +2,9 @@
 ghost use Rattle.std.specs.Prelude.{◌≡◌};
 ghost use Rattle.drep_pulser.specs.Pulsers.{done_by, total_of_pulser};
 
-use coin_frac::NoMemory;
 use drep_pulser::Pulser;
 use ledger_state::LedgerState;
+use no_memory::NoMemory;
 use report::{Printed, push_block_line};
 
 /// The line of an accepted block that left this ledger.

@@ -10,7 +10,7 @@ use byte_lines::SinkFault;
 use ledger_state::LedgerState;
 use report::{LineTaker, put_one};
 
-/// Hands over the line of an accepted block that left this ledger. (Own)
+/// Hands over the line of an accepted block that left this ledger.
 pub fn put_block<T: LineTaker>(
     to: &mut T,
     text: &mut Vec<u8>,
@@ -23,7 +23,7 @@ pub fn put_block<T: LineTaker>(
     put_one(to, text, line, &BlockLine { state })
 }
 
-/// Hands over the lines of a print of this ledger. (Own)
+/// Hands over the lines of a print of this ledger.
 pub fn put_state<T: LineTaker>(
     to: &mut T,
     text: &mut Vec<u8>,
@@ -36,7 +36,7 @@ pub fn put_state<T: LineTaker>(
     state_print::put_state(to, text, line, &view_of(state))
 }
 
-/// Hands over the lines of the native assets of this ledger's unspent outputs. (Own)
+/// Hands over the lines of the native assets of this ledger's unspent outputs.
 pub fn put_assets<T: LineTaker>(
     to: &mut T,
     text: &mut Vec<u8>,

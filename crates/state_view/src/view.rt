@@ -6,7 +6,7 @@ ghost use Rattle.text_model.specs.Shown.{shown_of};
 use ledger_state::LedgerState;
 use state_print::StateView;
 
-/// What a print of the state shows of the ledger, lent. (Own)
+/// What a print of the state shows of the ledger, lent.
 pub fn view_of(ledger: &LedgerState) -> StateView<'_>
     ensures { shown_of_view result ≡ shown_of ledger.now }
 {

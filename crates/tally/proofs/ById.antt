@@ -1,4 +1,4 @@
--- Pools that stand in order of their ids, and a search for one by halves.
+-- Pools in order of their ids, and a binary search for one.
 use Rattle.std.proofs.Common.{◌≡◌, ℕ, ◌+◌, ◌<◌, ◌≤◌, List, length, get_or, Bool, true, false, IsTrue, ◌↔◌, Some, None, Err, ap, sym, ◌∙◌, arith}
 use Rattle.std.specs.declared.cmp.Ordering.TheVariants.{Equal}
 use Rattle.std.specs.Ordering.{is_lt}
@@ -36,7 +36,7 @@ module _ (ps : List FrozenPool) where
       let within : h.0 + 1 < length ps = h.1 in
       (h.0, omega (arith, as_long, within), λ d. h.2 d.1 ∙ (λ i. is_lt (pool_cmp (sym (at_place h.0 d (omega arith)) i).0 (sym (at_place (h.0 + 1) d within) i).0)))
 
-  -- a walk from each to the next tells whether they stand in order
+  -- a scan from each to the next finds whether they are in order
   pub told_by_id : (r : Bool) → IsAllAdjacentAnswer (λ (x y : FrozenPool) b. b ≡ is_lt (pool_cmp x.pool y.pool)) ps r → IsTrue r ↔ IsMap pool_cmp (by_id ps)
   told_by_id r h = told pool_total (by_id ps) r (carried r h)
 

@@ -106,7 +106,7 @@ by_default a b e default.No = refl
 by_default a b e default.Abstain = refl
 by_default a b e default.NoConfidence = e
 
--- two actions on which each silent pool stands on the same side
+-- two actions on which each silent pool is on the same side
 same_count : (f : Frozen) (a b : Action) → ((d : DefaultVote) → silent_pool_side d a ≡ silent_pool_side d b) → count_of_standing (silent_pools f a) ≡ count_of_standing (silent_pools f b)
 same_count f a b h = λ i. count_of_standing (map (λ (p : FrozenPool). (voter.Pool p.pool, (p.stake, h p.default_vote i))) f.pools)
 

@@ -62,7 +62,7 @@ one_first e left above (m ∷ voters) =
     λ t. none_below voter_cmp m.0 left (all_tied voter_total m.0 e.0 (keys_of left) (is_equal _ (equal.symm m.0 e.0 ∙ t)) above) in
     λ i. (m.0, same_side (eq_by_cmp voter_cmp e.0 m.0) (eq_by_cmp voter_cmp m.0 e.0) m.1 e.1 (value_at voter_cmp left m.0) (equal.symm m.0 e.0) none i) ∷ one_first e left above voters i
 
--- the others stand where they stood
+-- the sides of the others are unchanged
 others : (e : Voter × Vote) (voters all : Standing) (ks : List Voter) → AllByRecursion (λ q. voter_cmp e.0 q ≡ Less) ks
     → AllByRecursion (λ k. value_at voter_cmp voters k ≡ value_at voter_cmp all k) ks → AllByRecursion (λ k. value_at voter_cmp (moved e voters) k ≡ value_at voter_cmp all k) ks
 others e voters all [] above h = tt

@@ -1,4 +1,5 @@
--- The counts of a proposal by role, kept in a cell. (CIP-1694, Ratification; what RATIFY counts. How they are kept is own)
+-- The counts of a proposal by role, in a cell.
+-- (CIP-1694, Ratification; what RATIFY counts. The representation is own)
 use Rattle.std.specs.Prelude.{◌≡◌, List, map}
 use Rattle.gov_actions.specs.declared.action.Proposal.{Proposal}
 use Rattle.gov_actions.specs.declared.tally.Role.TheVariants as role

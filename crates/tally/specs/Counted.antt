@@ -1,4 +1,5 @@
--- What a frozen epoch and an ended count are to be, so that all proposals can be counted. (CIP-1694, Changes to the stake snapshot; the DRep pulsing snapshot of cardano-ledger)
+-- What a frozen epoch and an ended count must satisfy before all proposals can be counted.
+-- (CIP-1694, Changes to the stake snapshot; the DRep pulsing snapshot of cardano-ledger)
 use Rattle.std.specs.Prelude.{◌≡◌, ◌^◌, ◌<◌, All}
 use Rattle.maps.specs.Maps.{IsMap}
 use Rattle.gov_ids.specs.Orders.{credential_cmp, voter_cmp}
@@ -12,16 +13,17 @@ use Rattle.snapshots.specs.declared.frozen.Frozen.{Frozen}
 use Rattle.snapshots.specs.Frozen.{frozen_copy_of}
 use Rattle.tally.specs.Stakes.{drep_stakes, pool_stakes}
 
--- one list of entries stands behind both: the stakes of DReps and of pools, and the default votes, are those of the snapshot
+-- both are from one list of entries: the stakes of DReps and pools, and the default votes,
+-- are those of the snapshot
 pub record AreOf (s : Snapshot) (f : Frozen) (c : Ended) : Type 0 where
   pub frozen : f ≡ frozen_copy_of s
   pub counted : IsCountedOf s c
 
--- P holds of each snapshot that they are of
+-- P holds of each snapshot to which they belong
 abbrev pub ForSnapshot : Frozen → Ended → (Snapshot → Type 0) → Type 0
 ForSnapshot f c P = (s : Snapshot) → AreOf s f c → P s
 
--- what is named stands once, and what is added up is an amount of 64 bits
+-- each name occurs once, and each sum fits in 64 bits
 pub record CanBeCounted (f : Frozen) (c : Ended) : Type 0 where
   -- each proposal
   pub proposals : HaveDistinctIds f.proposals

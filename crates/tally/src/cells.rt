@@ -26,8 +26,8 @@ pub struct TallyCell {
     pub pool: (u64, u64),
 }
 
-/// What each role counts on a frozen proposal. It takes no memory. (CIP-1694, Ratification; RATIFY of the formal
-/// specification)
+/// The counts of each role on a frozen proposal. It takes no memory.
+/// (CIP-1694, Ratification; RATIFY of the formal specification)
 pub fn cell_of(f: &Frozen, c: &Counted, a: &Proposal) -> TallyCell
     requires counted { CanBeCounted f.now c.now }
     requires voters { IsMap voter_cmp a.now.votes }
@@ -40,9 +40,9 @@ pub fn cell_of(f: &Frozen, c: &Counted, a: &Proposal) -> TallyCell
     }
 }
 
-/// Writes the counts of frozen proposals into their cells, one after the other. Where DReps and pools stand in order, as
-/// they do where a boundary froze them, what they count where nobody votes is added up once for all cells, and a proposal
-/// costs no walk but those over its votes and over the members. It takes no memory. (Own)
+/// Writes the counts of frozen proposals into their cells. It takes no memory.
+/// Where DReps and pools are in order, as a boundary freezes them, one sum of the silent ones
+/// serves all cells: a proposal then costs a scan of its votes and of the members only.
 pub fn fill_cells(f: &Frozen, c: &Counted, proposals: &[Proposal], cells: &mut [TallyCell])
     requires counted { CanBeCounted f.now c.now }
     requires voters { All (λ (a : Proposal). IsMap voter_cmp a.votes) proposals.now }

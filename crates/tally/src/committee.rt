@@ -12,9 +12,9 @@ use gov_actions::{Committee, HotState, Proposal, Vote};
 use gov_ids::{Credential, Voter};
 use snapshots::Frozen;
 
-/// Yes and total of the committee on a frozen proposal, in members. Each member with a hot key whose term is not over
-/// counts once, also where two have one hot key, and no vote as No. (CIP-1694, Ratification; RATIFY of the formal
-/// specification)
+/// Yes and total of the committee on a frozen proposal, in members; no vote counts as No.
+/// Each member with a hot key and a current term counts once, also where two share a hot key.
+/// (CIP-1694, Ratification; RATIFY of the formal specification)
 pub fn committee_count(f: &Frozen, a: &Proposal) -> (u64, u64)
     requires in_order { IsMap voter_cmp a.now.votes }
     ensures { (s : Snapshot) → f.now ≡ frozen_copy_of s → result ≡ vote_count committee s a.now }
@@ -52,7 +52,7 @@ fn members_of(committee: &Option<Committee>) -> &[(Credential, u64)]
     }
 }
 
-// The hot key of a member that is active: its term is not over, it has a hot key and did not resign.
+// The hot key of an active member: its term is not over, it has a hot key and did not resign.
 fn active_key(f: &Frozen, member: &(Credential, u64)) -> Option<Credential>
     ensures { result ≡ active_key f.now.epoch f.now.hot member.now }
 {

@@ -14,9 +14,9 @@ use gov_actions::{Proposal, Vote};
 use gov_ids::{Drep, Voter};
 use snapshots::Frozen;
 
-/// Yes and total of the DReps on a frozen proposal, in lovelace. Each DRep whose expiry has not passed counts with its
-/// stake, and no vote as No; always-abstain counts in neither, and always-no-confidence in the total, and in yes on a
-/// motion of no confidence alone. (CIP-1694, Ratification; RATIFY of the formal specification)
+/// Yes and total of the unexpired DReps on a frozen proposal, in lovelace; no vote counts as No.
+/// Always-abstain is in neither. Always-no-confidence says Yes to a motion of no confidence,
+/// and No to all else. (CIP-1694, Ratification; RATIFY of the formal specification)
 pub fn drep_count(f: &Frozen, c: &Counted, a: &Proposal) -> (u64, u64)
     requires fits { drep_stakes f.now c.now < 2 ^ 64 }
     requires in_order { IsMap voter_cmp a.now.votes }

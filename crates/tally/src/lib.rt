@@ -1,4 +1,4 @@
-//! What each role counts on a frozen proposal, and what it needs.
+//! What each role counts on a frozen proposal, and its threshold.
 #![tactic(auto)]
 
 mod cells;

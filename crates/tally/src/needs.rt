@@ -12,8 +12,9 @@ use gov_actions::{Action, EnactState, Need, Role};
 use pparams::{Params, Update};
 use snapshots::Frozen;
 
-/// What a role must reach on an action, by the parameters and the committee of `now` and the hot keys and the epoch of the
-/// freeze. (CIP-1694, Ratification; RATIFY of the formal specification)
+/// What a role must reach on an action: by the parameters and the committee of `now`,
+/// and by the hot keys and the epoch of the freeze.
+/// (CIP-1694, Ratification; RATIFY of the formal specification)
 pub fn need(f: &Frozen, now: &EnactState, a: &Action, role: Role) -> Need
     ensures { (s : Snapshot) → f.now ≡ frozen_copy_of s → result ≡ need_of role s now.now a.now }
 {
@@ -38,7 +39,7 @@ fn committee_need(f: &Frozen, now: &EnactState, a: &Action) -> Need
     }
 }
 
-// The committee's own threshold, and never where there is none or too few members are active.
+// The committee's own threshold; never, where there is none or too few members are active.
 fn own_threshold(f: &Frozen, now: &EnactState) -> Need
     ensures { (s : Snapshot) → f.now ≡ frozen_copy_of s → result ≡ own_threshold s now.now now.now.committee }
 {
@@ -75,7 +76,7 @@ fn drep_need(now: &EnactState, a: &Action) -> Need
     }
 }
 
-// What the pools must reach: Q1 to Q5 of CIP-1694, and nothing where they do not vote.
+// What the pools must reach: Q1 to Q5 of CIP-1694; nothing where they do not vote.
 fn pool_need(now: &EnactState, a: &Action) -> Need
     ensures { result ≡ pool_need now.now a.now }
 {
@@ -95,7 +96,7 @@ fn pool_need(now: &EnactState, a: &Action) -> Need
     }
 }
 
-// The greatest of P5a to P5d over the groups that an update touches, the first of equal ones, and 0/1 where it touches none.
+// The greatest of P5a to P5d over the touched groups, the first of equal ones; 0/1 without a group.
 fn update_threshold(params: &Params, update: &Update) -> Unit
     ensures { result ≡ update_threshold params.now update.now }
 {
@@ -119,7 +120,7 @@ fn group_thresholds(params: &Params) -> (Unit, Unit, Unit, Unit)
     (thresholds[5], thresholds[6], thresholds[7], thresholds[8])
 }
 
-// The greatest so far with a threshold more, if its group is touched.
+// The greatest so far, after one more threshold, which counts if its group is touched.
 fn raised(greatest: Option<Unit>, touched: bool, threshold: Unit) -> Option<Unit>
     ensures { result ≡ raised greatest touched threshold }
 {
@@ -132,7 +133,7 @@ fn raised(greatest: Option<Unit>, touched: bool, threshold: Unit) -> Option<Unit
     }
 }
 
-// The greater of two, and the first of equal ones.
+// The greater of two, or the first of equal ones.
 fn greater_of(a: Unit, b: Unit) -> Unit
     ensures { result ≡ greater_of a b }
 {

@@ -12,8 +12,9 @@ use gov_actions::{Action, Proposal, Vote};
 use gov_ids::Voter;
 use snapshots::{DefaultVote, Frozen};
 
-/// Yes and total of the pools of mark on a frozen proposal, in lovelace. A pool that did not vote says No to a hard fork,
-/// and else goes by its default vote. (CIP-1694, Ratification; RATIFY of the formal specification)
+/// Yes and total of the pools of mark on a frozen proposal, in lovelace.
+/// A pool that did not vote says No to a hard fork, and otherwise follows its default vote.
+/// (CIP-1694, Ratification; RATIFY of the formal specification)
 pub fn pool_count(f: &Frozen, a: &Proposal) -> (u64, u64)
     requires fits { pool_stakes f.now < 2 ^ 64 }
     requires in_order { IsMap voter_cmp a.now.votes }

@@ -7,7 +7,7 @@ ghost use Rattle.tally.specs.Adding.{IsPartOf, total_of, with_side, with_vote, w
 use gov_actions::{Action, Proposal, Vote};
 use gov_ids::Voter;
 
-// Yes and total with one side more.
+// Yes and total with one more side.
 pub(crate) fn with_side(count: (u64, u64), weight: u64, vote: Vote) -> (u64, u64)
     requires part { count.0 ≤ count.1 }
     requires fits { count.1 + weight < 2 ^ 64 }
@@ -21,7 +21,7 @@ pub(crate) fn with_side(count: (u64, u64), weight: u64, vote: Vote) -> (u64, u64
     }
 }
 
-// Yes and total without a side that is in them.
+// Yes and total without a side that they contain.
 fn without_side(count: (u64, u64), weight: u64, vote: Vote) -> (u64, u64)
     requires yes { yes_of (weight, vote) ≤ count.0 }
     requires total { total_of (weight, vote) ≤ count.1 }
@@ -35,7 +35,7 @@ fn without_side(count: (u64, u64), weight: u64, vote: Vote) -> (u64, u64)
     }
 }
 
-// Yes and total with a vote in place of the side on which its voter stands; no change where it stands on none.
+// Yes and total after a vote replaces its voter's side; no change where the voter has no side.
 pub(crate) fn with_vote(count: (u64, u64), side: Option<(u64, Vote)>, vote: Vote) -> (u64, u64)
     requires { IfSome side (λ s. IsPartOf count s) }
     ensures { result ≡ with_vote count side vote }
@@ -58,7 +58,7 @@ pub(crate) fn vote_of(a: &Proposal, voter: &Voter) -> Option<Vote>
     }
 }
 
-// What always-no-confidence says to an action.
+// The side of always-no-confidence on an action.
 pub(crate) fn no_confidence_side(a: &Action) -> Vote
     ensures { result ≡ no_confidence_side a.now }
 {

@@ -16,7 +16,7 @@ use gov_actions::{Proposal, Vote};
 use gov_ids::{Credential, Drep, Voter};
 use snapshots::Frozen;
 
-// The total of the DReps where none has voted, in lovelace; none exactly where they do not stand in order.
+// The total of the DReps where none has voted, in lovelace; none if and only if they are unordered.
 pub(crate) fn silent_dreps(f: &Frozen, c: &Counted) -> Option<u64>
     requires fits { drep_stakes f.now c.now < 2 ^ 64 }
     ensures silent { IfSome result (AreSilentDreps f.now c.now) }
@@ -29,8 +29,8 @@ pub(crate) fn silent_dreps(f: &Frozen, c: &Counted) -> Option<u64>
     }
 }
 
-// Yes and total of the DReps on a frozen proposal, by what they count where none has voted; one by one where that is
-// not known.
+// Yes and total of the DReps on a frozen proposal, from the total where none has voted;
+// without that total, one by one.
 pub(crate) fn drep_count_from(
     f: &Frozen,
     c: &Counted,
@@ -48,7 +48,7 @@ pub(crate) fn drep_count_from(
     }
 }
 
-// The same by the votes alone.
+// Yes and total of the DReps, from that total and the votes.
 fn drep_count_by_votes(f: &Frozen, c: &Counted, silent: u64, a: &Proposal) -> (u64, u64)
     requires fits { drep_stakes f.now c.now < 2 ^ 64 }
     requires in_order { IsMap voter_cmp a.now.votes }
@@ -66,7 +66,7 @@ fn drep_count_by_votes(f: &Frozen, c: &Counted, silent: u64, a: &Proposal) -> (u
     )
 }
 
-// The weight of a voter that is a frozen DRep, and the side on which it stands where it does not vote.
+// The weight of a voter that is a frozen DRep, and its side where it does not vote.
 fn silent_drep(f: &Frozen, c: &Counted, voter: &Voter) -> Option<(u64, Vote)>
     requires { IsMap credential_cmp f.now.dreps }
     ensures { result ≡ value_at voter_cmp (silent_dreps f.now c.now) voter.now }
@@ -78,7 +78,7 @@ fn silent_drep(f: &Frozen, c: &Counted, voter: &Voter) -> Option<(u64, Vote)>
     Some((drep_weight(f, c, drep, expiry), Vote::No))
 }
 
-// The sum of what the frozen DReps weigh.
+// The sum of the frozen DReps' weights.
 fn silent_total(f: &Frozen, c: &Counted) -> u64
     requires { drep_stakes f.now c.now < 2 ^ 64 }
     ensures { result ≡ sum_by (drep_weight f.now c.now) f.now.dreps }
@@ -90,7 +90,7 @@ fn silent_total(f: &Frozen, c: &Counted) -> u64
     total
 }
 
-// What a frozen DRep weighs: its stake, 0 where its expiry has passed.
+// The weight of a frozen DRep: its stake, 0 where its expiry has passed.
 fn drep_weight(f: &Frozen, c: &Counted, drep: &Credential, expiry: u64) -> u64
     ensures { result ≡ drep_weight f.now c.now (drep.now, expiry) }
 {
@@ -101,7 +101,7 @@ fn drep_weight(f: &Frozen, c: &Counted, drep: &Credential, expiry: u64) -> u64
     }
 }
 
-// The expiry of one of these DReps, which stand in order.
+// The expiry of one of these DReps, which are in order.
 fn expiry_in(dreps: &[(Credential, u64)], drep: &Credential) -> Option<u64>
     requires { IsMap credential_cmp dreps.now }
     ensures { result ≡ value_at credential_cmp dreps.now drep.now }

@@ -14,7 +14,7 @@ use gov_actions::{Action, Proposal, Vote};
 use gov_ids::{PoolId, Voter};
 use snapshots::{Frozen, FrozenPool};
 
-// Yes and total of the pools where none has voted, in lovelace, by what the action is.
+// Yes and total of the pools where none has voted, in lovelace, by the type of the action.
 #[derive(Clone, Copy)]
 pub(crate) struct SilentPools {
     hard_fork: (u64, u64),
@@ -22,7 +22,7 @@ pub(crate) struct SilentPools {
     other: (u64, u64),
 }
 
-// What the pools count where none has voted; none exactly where they do not stand in order.
+// The counts of the pools where none has voted; none if and only if the pools are unordered.
 pub(crate) fn silent_pools(f: &Frozen) -> Option<SilentPools>
     requires fits { pool_stakes f.now < 2 ^ 64 }
     ensures silent { IfSome result (AreSilentPools f.now) }
@@ -43,8 +43,8 @@ pub(crate) fn silent_pools(f: &Frozen) -> Option<SilentPools>
     })
 }
 
-// Yes and total of the pools on a frozen proposal, by what they count where none has voted; one by one where that is
-// not known.
+// Yes and total of the pools on a frozen proposal, from the counts where none has voted;
+// without these counts, one by one.
 pub(crate) fn pool_count_from(f: &Frozen, silent: Option<SilentPools>, a: &Proposal) -> (u64, u64)
     requires fits { pool_stakes f.now < 2 ^ 64 }
     requires in_order { IsMap voter_cmp a.now.votes }
@@ -57,7 +57,7 @@ pub(crate) fn pool_count_from(f: &Frozen, silent: Option<SilentPools>, a: &Propo
     }
 }
 
-// The same by the votes alone.
+// Yes and total of the pools, from these counts and the votes.
 fn pool_count_by_votes(f: &Frozen, silent: SilentPools, a: &Proposal) -> (u64, u64)
     requires fits { pool_stakes f.now < 2 ^ 64 }
     requires in_order { IsMap voter_cmp a.now.votes }
@@ -71,7 +71,7 @@ fn pool_count_by_votes(f: &Frozen, silent: SilentPools, a: &Proposal) -> (u64, u
     count
 }
 
-// What the silent pools count on an action.
+// The counts of the silent pools on an action.
 fn count_on(silent: SilentPools, a: &Action) -> (u64, u64)
     ensures { result ≡ count_on silent a.now }
 {
@@ -82,7 +82,7 @@ fn count_on(silent: SilentPools, a: &Action) -> (u64, u64)
     }
 }
 
-// The stake of a voter that is a frozen pool, and the side on which it stands where it does not vote.
+// The stake of a voter that is a frozen pool, and its side where it does not vote.
 fn silent_pool(f: &Frozen, voter: &Voter, a: &Action) -> Option<(u64, Vote)>
     requires { IsMap pool_cmp (by_id f.now.pools) }
     ensures { result ≡ value_at voter_cmp (silent_pools f.now a.now) voter.now }
@@ -94,7 +94,7 @@ fn silent_pool(f: &Frozen, voter: &Voter, a: &Action) -> Option<(u64, Vote)>
     Some((p.stake, silent_side(p.default_vote, a)))
 }
 
-// What the pools count on an action where none votes.
+// The counts of the pools on an action where none votes.
 fn silent_count(f: &Frozen, a: &Action) -> (u64, u64)
     requires { pool_stakes f.now < 2 ^ 64 }
     ensures { result ≡ count_of_standing (silent_pools f.now a.now) }
@@ -106,7 +106,7 @@ fn silent_count(f: &Frozen, a: &Action) -> (u64, u64)
     count
 }
 
-// One of these pools, which stand in order.
+// One of these pools, which are in order.
 fn pool_in(pools: &[FrozenPool], pool: &PoolId) -> Option<FrozenPool>
     requires { IsMap pool_cmp (by_id pools.now) }
     ensures { result ≡ value_at pool_cmp (by_id pools.now) pool.now }

@@ -1,4 +1,5 @@
--- An action as compact JSON: fields and parameters in the order of the formats, and those that are absent left out. (Own)
+-- An action as compact JSON, with fields and parameters in the order of the formats.
+-- Absent ones are left out. (Own)
 use Rattle.std.specs.Prelude.{ℕ, List, [], ◌∷◌, ◌++◌, Option, codes, decimal, option_map, option_to_list}
 use Rattle.std.specs.List.{join_by}
 use Rattle.coin_frac.specs.Fraction.{Fraction}
@@ -31,7 +32,7 @@ array items = codes "[" ++ listed items ++ codes "]"
 abbrev pub field : Text → Text → Text
 field name value = quoted name ++ codes ":" ++ value
 
--- a field, if it is there
+-- a field, if its value is there
 abbrev pub maybe : {A : Type 0} → Text → (A → Text) → Option A → List Text
 maybe name f o = option_to_list (option_map (λ x. field name (f x)) o)
 
@@ -102,7 +103,7 @@ network_fields u =
     ++ maybe (codes "maxBlockExUnits") numbers_json u.max_block_ex_units
     ++ maybe (codes "maxCollateralInputs") decimal u.max_collateral_inputs
 
--- those of the economic group
+-- the parameters of the economic group that an update names
 abbrev pub economic_fields : Update → List Text
 economic_fields u =
     maybe (codes "minFeeA") decimal u.min_fee_a
@@ -116,7 +117,7 @@ economic_fields u =
     ++ maybe (codes "prices") prices_json u.prices
     ++ maybe (codes "minFeeRefScriptCostPerByte") fraction_json u.min_fee_ref_script_cost_per_byte
 
--- those of the technical group
+-- the parameters of the technical group that an update names
 abbrev pub technical_fields : Update → List Text
 technical_fields u =
     maybe (codes "a0") fraction_json u.a0
@@ -125,7 +126,7 @@ technical_fields u =
     ++ maybe (codes "costModels") hash_json u.cost_models
     ++ maybe (codes "collateralPercentage") decimal u.collateral_percentage
 
--- those of the governance group
+-- the parameters of the governance group that an update names
 abbrev pub governance_fields : Update → List Text
 governance_fields u =
     maybe (codes "poolVotingThresholds") fractions_json u.pool_voting_thresholds
@@ -143,11 +144,11 @@ update_json u = object (network_fields u ++ economic_fields u ++ technical_field
 
 -- ---- an action
 
--- the action before it, if it names one
+-- the previous action, if the action names one
 abbrev pub previous_field : Option ActionId → List Text
 previous_field previous = maybe (codes "previous") action_id_json previous
 
--- what an action has beside its type
+-- the fields of an action after its type
 abbrev pub fields_of_action : Action → List Text
 fields_of_action (NoConfidence previous) = previous_field previous
 fields_of_action (UpdateCommittee previous remove add threshold) =

@@ -1,4 +1,5 @@
--- Which actions and proposals have the form of the formats. An action has the form of one that is read; the rules on proposals are not asked. (Own)
+-- Which actions and proposals have the form of the formats, as a reader accepts it. (Own)
+-- The rules on proposals are no part of the form.
 use Rattle.std.specs.Prelude.{ℕ, Bool, true, ◌&&◌, not, List, Option}
 use Rattle.std.specs.List.{list_all}
 use Rattle.std.specs.Map.{keys_of}
@@ -19,7 +20,7 @@ use Rattle.tx_records.specs.declared.limits.TheConstants.{LIST_LIMIT}
 use Rattle.tx_records.specs.Limits.{is_at_most, is_slot, is_u32, is_u64}
 use Rattle.text_forms.specs.Ids.{are_u64, are_units, is_account_id, is_action_id, is_credential, is_hash, is_map, is_ratio, is_u16, is_unit, is_voter}
 
--- the parameters of the network group that an update names
+-- the parameters of the network group that an update names have the form
 abbrev pub is_network_update : Update → Bool
 is_network_update u =
     none_or is_u32 u.max_block_body_size && none_or is_u32 u.max_tx_size && none_or is_u32 u.max_block_header_size
@@ -30,20 +31,20 @@ is_network_update u =
 abbrev pub are_prices : Fraction × Fraction → Bool
 are_prices p = is_ratio p.0 && is_ratio p.1
 
--- those of the economic group
+-- the parameters of the economic group that an update names have the form
 abbrev pub is_economic_update : Update → Bool
 is_economic_update u =
     none_or is_u64 u.min_fee_a && none_or is_u64 u.min_fee_b && none_or is_u64 u.key_deposit && none_or is_u64 u.pool_deposit
     && none_or is_unit u.rho && none_or is_unit u.tau && none_or is_u64 u.min_pool_cost && none_or is_u64 u.coins_per_utxo_byte
     && none_or are_prices u.prices && none_or is_ratio u.min_fee_ref_script_cost_per_byte
 
--- those of the technical group
+-- the parameters of the technical group that an update names have the form
 abbrev pub is_technical_update : Update → Bool
 is_technical_update u =
     none_or is_ratio u.a0 && none_or is_u32 u.e_max && none_or is_u16 u.n_opt && none_or (is_hash 32) u.cost_models
     && none_or is_u16 u.collateral_percentage
 
--- those of the governance group
+-- the parameters of the governance group that an update names have the form
 abbrev pub is_governance_update : Update → Bool
 is_governance_update u =
     none_or (are_units 5) u.pool_voting_thresholds && none_or (are_units 10) u.drep_voting_thresholds
@@ -54,7 +55,7 @@ is_governance_update u =
 abbrev pub is_update : Update → Bool
 is_update u = is_network_update u && is_economic_update u && is_technical_update u && is_governance_update u
 
--- the action before it, if it names one
+-- the previous action, if one is named
 abbrev pub is_previous : Option ActionId → Bool
 is_previous previous = none_or is_action_id previous
 
@@ -97,12 +98,12 @@ is_action Info = true
 abbrev pub is_vote : Voter × Vote → Bool
 is_vote v = is_voter v.0
 
--- a proposal with its votes, which stand in order, each voter once
+-- a proposal whose votes are in order, each voter once
 abbrev pub is_proposal : Proposal → Bool
 is_proposal p =
     is_action_id p.id && is_action p.action && is_u64 p.deposit && is_account_id p.account && is_u64 p.expires_after
     && list_all is_vote p.votes && is_map voter_cmp p.votes
 
--- proposals, each with an id of its own
+-- proposals, each id once
 abbrev pub are_proposals : List Proposal → Bool
 are_proposals ps = list_all is_proposal ps && not (repeats action_id_cmp (ids_of ps))

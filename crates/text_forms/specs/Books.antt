@@ -21,7 +21,7 @@ use Rattle.tx_records.specs.declared.record.Rewards.{Rewards}
 use Rattle.tx_records.specs.Limits.{is_u64}
 use Rattle.text_forms.specs.Ids.{is_account_id, is_address, is_asset_id, is_credential, is_drep_id, is_hash, is_map, is_pool_id, is_ref, is_unit}
 
--- an asset with how much an output holds of it
+-- an asset with its amount in an output
 abbrev pub is_held_asset : AssetId × ℕ → Bool
 is_held_asset e = is_asset_id e.0 && is_held e.1
 
@@ -61,7 +61,7 @@ is_drep d = is_credential d.0 && is_u64 d.1.deposit && is_u64 d.1.expiry
 abbrev pub is_frozen_drep : Credential × ℕ → Bool
 is_frozen_drep d = is_credential d.0 && is_u64 d.1
 
--- what a cold key authorized
+-- the authorization of a cold key
 abbrev pub is_hot_state : HotState → Bool
 is_hot_state (Hot key) = is_credential key
 is_hot_state Resigned = true

@@ -1,4 +1,4 @@
--- Which ids, numbers and lists have the form of the formats, and stand in order. (Own)
+-- Which ids, numbers and lists have the form and the order of the formats. (Own)
 use Rattle.std.specs.Prelude.{ℕ, ◌^◌, ◌==◌, Bool, true, ◌&&◌, List, [], ◌∷◌, length, nat_le, nat_lt}
 use Rattle.std.specs.declared.cmp.Ordering.{Ordering}
 use Rattle.std.specs.List.{list_all}
@@ -22,12 +22,12 @@ use Rattle.tx_records.specs.Limits.{is_network, is_share, is_u64}
 
 -- ---- lists in order
 
--- each key is below those after it, so that they stand in order, each once
+-- each key is below those after it: the keys are in order, each once
 abbrev pub is_rising : {K : Type 0} → (K → K → Ordering) → List K → Bool
 is_rising cmp [] = true
 is_rising cmp (k ∷ ks) = list_all (λ q. is_lt (cmp k q)) ks && is_rising cmp ks
 
--- the same of the keys of a map
+-- the keys of a map are in order, each once
 abbrev pub is_map : {K X : Type 0} → (K → K → Ordering) → List (K × X) → Bool
 is_map cmp es = is_rising cmp (keys_of es)
 

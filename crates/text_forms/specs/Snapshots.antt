@@ -1,4 +1,4 @@
--- What is frozen: its form, and its lines in checkpoints and in certificates. (Own)
+-- What is frozen: its form, and its lines in checkpoints and certificates. (Own)
 use Rattle.std.specs.Prelude.{ℕ, Bool, ◌&&◌, List, [], ◌∷◌, codes, decimal}
 use Rattle.std.specs.List.{list_all}
 use Rattle.maps.specs.Maps.{has_key, value_at}
@@ -25,7 +25,8 @@ abbrev pub are_pool_accounts : List (PoolId × ℕ) → List (PoolId × Account)
 are_pool_accounts mark accounts =
     is_map pool_cmp accounts && list_all is_pool_account accounts && list_all (λ p. has_key pool_cmp mark p.0) accounts
 
--- what is frozen has the form of the formats: its lists stand in order, each name once, and its numbers are in their ranges
+-- what is frozen has the form of the formats:
+-- its lists are in order, each name once, and its numbers are in range
 abbrev pub is_snapshot : Snapshot → Bool
 is_snapshot f =
     is_map credential_cmp f.entries && list_all is_entry f.entries

@@ -1,2 +1,3 @@
-//! What the texts of checkpoints, certificates and shortfalls have in common: lines without a number, actions as JSON, and what has the form and the order of the formats.
+//! What the texts of checkpoints, certificates and shortfalls share.
+//! Lines without a number, actions as JSON, and the form and the order of the formats.
 #![tactic(auto)]

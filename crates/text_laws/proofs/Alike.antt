@@ -1,4 +1,5 @@
--- Pulses do not show in texts: two Worlds that differ in what was counted give the same lines but for it, and stay the same but for it.
+-- Pulses do not show in texts: two Worlds that differ only in what was counted give the same lines
+-- except for the counted numbers, and continue to differ only in these.
 use Rattle.std.proofs.Common.{◌≡◌, inl, inr, ℕ, ◌+◌, ◌==◌, List, [], ◌∷◌, ◌++◌, Bool, true, false, Option, Some, None, codes, nat_le, nat_lt, append_assoc, subst, refl, ap, sym}
 use Rattle.std.specs.List.{AllZip}
 use Rattle.run_laws.proofs.Pulses.{zero_same}
@@ -45,7 +46,7 @@ then_alike (l ∷ ls) x y h = (inl refl, then_alike ls x y h)
 abbrev counting : ℕ → World → World
 counting n w = record w { counted = n }
 
--- the first is the second but for what was counted
+-- the first is the second except for what was counted
 abbrev IsSameBut : World → World → Type 0
 IsSameBut v w = v ≡ counting v.counted w
 
@@ -157,7 +158,8 @@ same_reading n w (Read r) = same_record n w r
 same_reading n w (Malformed field place) = ((inl refl, tt), refl)
 same_reading n w TooLong = ((inl refl, tt), refl)
 
--- readings that are the same but for a pulse are the same, or two blocks; so what holds of these holds of them
+-- readings that are the same except for a pulse are equal or two blocks
+-- so what holds of these holds of them
 by_kind : (P : Reading → Reading → Type 0) → ((x : Reading) → P x x)
     → ((slot pulse pulse' : ℕ) → (pulse == 0) ≡ (pulse' == 0) → P (Read (records.Block slot pulse)) (Read (records.Block slot pulse')))
     → (x y : Reading) → IsSameButPulse x y → P x y

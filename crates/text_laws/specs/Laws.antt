@@ -20,12 +20,14 @@ use Rattle.text_model.specs.Runs.{crossing_lines, reading_lines, text_of_reading
 use Rattle.text_laws.specs.Alike.{AreAlikeButCounted, IsReadSameButPulse}
 use Rattle.text_laws.specs.Walks.{DoPotsMove, records_of_readings}
 
--- pulses do not show in the text of a run but in the number that was counted: whatever is read, where two runs differ in positive pulses alone
+-- if two runs differ only in positive pulses, whatever is read,
+-- their texts differ only in counted numbers
 abbrev pub PulsesDoNotShowInText : Type 0
 PulsesDoNotShowInText = (rs ss : List (ℕ × Reading)) → AllZip IsReadSameButPulse rs ss →
     AreAlikeButCounted (text_of_readings rs) (text_of_readings ss)
 
--- the number that the line of a block shows as counted is what the pulses of the epoch's accepted blocks count, that block's included
+-- the counted number in the line of a block is what the pulses of the epoch's accepted blocks
+-- count, with that block's
 abbrev pub CountedIsShown : Type 0
 CountedIsShown = (g : Genesis) → genesis_limits.is_within_limits g ≡ true → genesis_fault g ≡ None →
     (rs : List Record) (slot pulse : ℕ) → list_all is_within_limits (rs ++ Block slot pulse ∷ []) ≡ true →
@@ -37,12 +39,13 @@ CountedIsShown = (g : Genesis) → genesis_limits.is_within_limits g ≡ true �
     ≡ crossing_lines (enters_next w.ledger slot) w
     ++ words_of_block slot v.ledger.epoch (counted_of start (rs ++ Block slot pulse ∷ [])) (entry_count v.frozen) ∷ []
 
--- a line that says refused stands for a reading that changes nothing
+-- a line that says refused is of a reading that changes nothing
 abbrev pub RefusalsChangeNothing : Type 0
 RefusalsChangeNothing = (w : World) (r : Reading) (rule : Rule) → reading_lines w r ≡ reply_words (Refused rule) ∷ [] →
     world_after_reading w r ≡ w
 
--- from the genesis on, all along what is read, each pot moves by the flows, and the pots hold the supply of the genesis
+-- from the genesis on, each reading moves each pot by its flows
+-- and the pots hold the supply of the genesis
 abbrev pub PotsMove : Type 0
 PotsMove = (g : Genesis) (rs : List (ℕ × Reading)) → genesis_limits.is_within_limits g ≡ true → genesis_fault g ≡ None →
     list_all is_within_limits (records_of_readings rs) ≡ true → DoPotsMove g.supply (world_of_genesis g) rs

@@ -1,4 +1,5 @@
--- The pots along the readings of a run. (The preservation of value of the formal specification, in our own words)
+-- The pots along the readings of a run.
+-- (The preservation of value of the formal specification, in our own words)
 use Rattle.std.specs.Prelude.{◌≡◌, ℕ, List, [], ◌∷◌, Option, Some, None, filter_map}
 use Rattle.tx_records.specs.declared.record.Reading.{Reading}
 use Rattle.tx_records.specs.declared.record.Reading.TheVariants.{Read}
@@ -10,7 +11,7 @@ use Rattle.run_model.specs.BoundaryFlows.{flows_of}
 use Rattle.run_model.specs.World.{World}
 use Rattle.text_model.specs.Runs.{world_after_reading}
 
--- the record that was read, where one was
+-- the record that was read, if there was one
 abbrev pub record_of_reading : ℕ × Reading → Option Record
 record_of_reading (n, Read r) = Some r
 record_of_reading _ = None
@@ -19,12 +20,13 @@ record_of_reading _ = None
 abbrev pub records_of_readings : List (ℕ × Reading) → List Record
 records_of_readings rs = filter_map record_of_reading rs
 
--- what a reading moves: nothing, where it is refused or gave no record
+-- the flows of a reading: none, if it is refused or gave no record
 abbrev pub flows_of_reading : World → Reading → List Flow
 flows_of_reading w (Read r) = flows_of w r
 flows_of_reading w _ = []
 
--- the pots hold so much together before each reading and after the last one, and each reading moves each pot by its flows
+-- the pots hold so much together before each reading and after the last one
+-- each reading moves each pot by its flows
 abbrev pub DoPotsMove : ℕ → World → List (ℕ × Reading) → Type 0
 DoPotsMove supply w [] = supply_of w.ledger ≡ supply
 DoPotsMove supply w (r ∷ rs) =

@@ -1,4 +1,5 @@
-//! The laws over the texts of runs: pulses show in the number that was counted alone, what that number is, a line of a refusal stands for a record that changed nothing, and the pots move by their flows, line by line.
+//! The laws over the texts of runs: pulses show only in counted numbers, and what these are;
+//! a refused record changed nothing; the pots move by their flows, line by line.
 #![tactic(auto)]
 
 mod laws;

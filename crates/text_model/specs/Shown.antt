@@ -1,4 +1,5 @@
--- What a print of the state shows of the World. (NewEpochState of the formal specification; what is shown is own)
+-- What a print of the state shows of the World.
+-- (NewEpochState of the formal specification; what is shown is own)
 use Rattle.std.specs.Prelude.{ℕ, List, Option}
 use Rattle.gov_ids.specs.declared.Credential.{Credential}
 use Rattle.gov_ids.specs.declared.OutRef.{OutRef}
@@ -16,9 +17,9 @@ use Rattle.ledger_model.specs.Supply.{pots_of}
 use Rattle.run_model.specs.Freeze.{entries_of}
 use Rattle.run_model.specs.World.{World}
 
--- maps stand in the order of their keys, proposals in order of submission
+-- maps are in the order of their keys, proposals in order of submission
 pub record Shown : Type 0 where
-  -- where the chain is, and how many epochs ended without a proposal since a transaction proposed last
+  -- where the chain is, and how many epochs ended without a proposal since the last new one
   pub slot : ℕ
   pub epoch : ℕ
   pub dormant : ℕ

@@ -23,7 +23,8 @@ use Rattle.tx_records.specs.declared.cert.Cert.TheVariants.{AccountReg, AccountU
 use Rattle.ledger_model.specs.Ledger.{Ledger, params_of, account_at, is_account, is_drep}
 use Rattle.ledger_model.specs.Supply.{deposits_of}
 use Rattle.gov_model.specs.Proposals.{without_vote}
-use Rattle.ledger_model.specs.Changes.{changed_by, new_account, delegating, new_drep, having_acted, without_drep, delegates_to_drep}
+use Rattle.book_records.specs.Delegations.{without_drep, delegates_to_drep}
+use Rattle.ledger_model.specs.Changes.{changed_by, new_account, delegating, new_drep, having_acted}
 use Rattle.ledger_model.specs.CertRules.{cert_checks, account_deposit, drep_deposit_of, rewards_at}
 use Rattle.ledger_model.specs.Draft.{draft_with}
 use Rattle.ledger_model.specs.Flows.{deposits, hand, Flow, flow, flows_of_cert, source, sink, sum_at}

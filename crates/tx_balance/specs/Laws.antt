@@ -30,7 +30,8 @@ abbrev pub PassedBalances : Type 0
 PassedBalances = (l : Ledger) (tx : Tx) → IsSound l → HasOwnWithdrawals tx → is_failed tx.scripts ≡ false →
     is_allowed l tx ≡ true → IsMovedBy (flows_of_tx l tx) (pots_of l) (pots_of (ledger_after_tx l tx))
 
--- an allowed transaction whose scripts did not fail changes what unspent outputs hold of an asset by what it mints and burns of it
+-- an allowed transaction whose scripts did not fail changes what unspent outputs hold of an asset
+-- by what it mints and burns of it
 abbrev pub PassedMints : Type 0
 PassedMints = (l : Ledger) (tx : Tx) → IsSound l → is_failed tx.scripts ≡ false → is_allowed l tx ≡ true → (a : AssetId) →
     assets_in (ledger_after_tx l tx).outputs a + quantity_of (all_burned tx.mint) a

@@ -1,4 +1,4 @@
-//! The balance of a transaction: each allowed one moves the pots by its flows and assets by its mint, the supply stays, and the maps of a ledger stay maps.
+//! Allowed transactions move pots by their flows, assets by mint; supply stays, maps stay maps.
 #![tactic(auto)]
 
 mod laws;

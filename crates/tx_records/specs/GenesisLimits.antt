@@ -1,4 +1,4 @@
--- The same of a genesis. (Own)
+-- The limits of a genesis. (Own)
 use Rattle.std.specs.Prelude.{Bool, ◌&&◌, nat_le, nat_lt}
 use Rattle.std.specs.List.{list_all}
 use Rattle.tx_records.specs.declared.genesis.Genesis.{Genesis}

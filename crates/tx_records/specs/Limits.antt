@@ -1,4 +1,4 @@
--- What a record's parts must keep within: lists and names within their limits, and the numbers that a law asks for. (Own)
+-- The limits of a record's parts: of lists, of names, and of the numbers that a law needs. (Own)
 use Rattle.std.specs.Prelude.{ℕ, ◌^◌, ℤ, Bool, true, not, ◌&&◌, List, [], Option, Some, None, length, map, nat_le, nat_lt}
 use Rattle.std.specs.List.{list_all}
 use Rattle.std.specs.Map.{keys_of}
@@ -50,7 +50,7 @@ are_params p =
     list_all is_share p.pool_voting_thresholds && list_all is_share p.drep_voting_thresholds
     && is_u32 p.drep_activity && is_u32 p.gov_action_lifetime
 
--- the same of an update
+-- an update's parameters whose ranges the laws need
 abbrev pub is_update : Update → Bool
 is_update u =
     none_or (list_all is_share) u.pool_voting_thresholds && none_or (list_all is_share) u.drep_voting_thresholds

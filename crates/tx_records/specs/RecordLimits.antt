@@ -1,4 +1,5 @@
--- The same of a record of any kind. A call or a law that takes a record may have this as its condition. (Own)
+-- The limits of a record of any kind. (Own)
+-- A call or a law that takes a record may have this as its condition.
 use Rattle.std.specs.Prelude.{Bool, ◌&&◌, true}
 use Rattle.tx_records.specs.declared.record.Record.{Record}
 use Rattle.tx_records.specs.declared.record.Record.TheVariants.{Genesis, Block, Rewards, Tx, Print}

@@ -1,4 +1,4 @@
--- The same of a reward update. (Own)
+-- The limits of a reward update. (Own)
 use Rattle.std.specs.Prelude.{Bool, ◌&&◌, not, map}
 use Rattle.std.specs.List.{list_all}
 use Rattle.maps.specs.Words.{repeats}

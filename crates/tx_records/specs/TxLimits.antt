@@ -1,4 +1,5 @@
--- What a line that is a transaction gives: lists and names within their limits, and the numbers that a law asks for. That every field reads as its kind says stands in the reading itself. (Own)
+-- The limits of a transaction: of lists, of names, and of the numbers that a law needs. (Own)
+-- That every field reads as its kind says, the reading itself states.
 use Rattle.std.specs.Prelude.{Bool, ◌&&◌, not, map}
 use Rattle.std.specs.List.{list_all}
 use Rattle.maps.specs.Words.{none_or, repeats}
@@ -8,7 +9,7 @@ use Rattle.tx_records.specs.declared.tx.ProposalRecord.{ProposalRecord}
 use Rattle.tx_records.specs.declared.tx.Tx.{Tx}
 use Rattle.tx_records.specs.Limits.{is_action, is_at_most, is_mint, is_output, is_slot, is_u64}
 
--- each list has at most so many entries as one may have
+-- no list has more entries than its limit
 abbrev pub has_short_lists : Tx → Bool
 has_short_lists tx =
     is_at_most TX_LIST_LIMIT tx.inputs && is_at_most OUTPUT_LIMIT tx.outputs && is_at_most TX_LIST_LIMIT tx.collateral

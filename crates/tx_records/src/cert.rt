@@ -1,7 +1,8 @@
 use coin_frac::Unit;
 use gov_ids::{Account, Credential, Drep, PoolId};
 
-/// A certificate. Deposits and refunds are in lovelace; one that is not stated is the one that is due (own). (DELEG, POOL and GOVCERT of the formal specification)
+/// A certificate. Deposits and refunds are in lovelace; one not stated is what is due (own).
+/// (DELEG, POOL and GOVCERT of the formal specification)
 #[derive(Clone, Copy)]
 pub enum Cert {
     /// An account is registered and may delegate at once.
@@ -22,7 +23,8 @@ pub enum Cert {
         pool: Option<PoolId>,
         drep: Option<Drep>,
     },
-    /// A pool is registered, or its future terms are set. Cost and pledge are in lovelace; the account is the reward account, and the key is the hash of the one by which the pool makes blocks.
+    /// A pool is registered, or its future terms are set. Cost and pledge are in lovelace.
+    /// `account` is the reward account; `key` is the hash of the pool's key for blocks.
     PoolReg {
         pool: PoolId,
         cost: u64,
@@ -31,7 +33,7 @@ pub enum Cert {
         account: Account,
         key: Option<[u8; 32]>,
     },
-    /// A pool will be gone when this epoch begins.
+    /// A pool retires: it is gone when this epoch begins.
     PoolRetire {
         pool: PoolId,
         epoch: u64,
@@ -50,7 +52,7 @@ pub enum Cert {
     DrepUpdate {
         cred: Credential,
     },
-    /// A cold key gets a hot key, in place of an earlier one.
+    /// A cold key gets a hot key, which replaces an earlier one.
     HotAuth {
         cold: Credential,
         hot: Credential,

@@ -1,7 +1,7 @@
 ghost use Rattle.std.specs.Prelude.{◌≡◌};
 ghost use Rattle.tx_records.specs.FieldTexts.{text_of_field};
 
-/// What of a line can be wrong: that it is no JSON value, its kind, or a field of its record. (Own)
+/// The part of a line that is wrong: its JSON, its kind, or a field of its record. (Own)
 #[derive(Clone, Copy, Debug, PartialEq, Eq)]
 pub enum FieldName {
     /// The line is no JSON value.

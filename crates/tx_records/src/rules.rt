@@ -1,4 +1,5 @@
-//! The numbers of the rules of refusal, as they are printed. The definitions of the ledger say when each is broken. (Own)
+//! The numbers of the rules of refusal, as printed. (Own)
+//! The definitions of the ledger say when each rule is broken.
 
 // Lines.
 /// Malformed: The line is no record: what of it is wrong is given.
@@ -37,15 +38,16 @@ pub const NOT_WITNESSED: u16 = 31;
 pub const NO_INPUTS: u16 = 32;
 /// InputMissing: An input is no unspent output.
 pub const INPUT_MISSING: u16 = 33;
-/// InputRepeated: An input stands earlier in the list.
+/// InputRepeated: An input is earlier in the list too.
 pub const INPUT_REPEATED: u16 = 34;
 /// TxTooLarge: The size is above maxTxSize. Keeps `max`.
 pub const TX_TOO_LARGE: u16 = 35;
-/// OutsideValidity: The last slot is below the first that is allowed, or not below the end. Keeps `slot`.
+/// OutsideValidity: The last slot is before the first allowed, or not below the end. Keeps `slot`.
 pub const OUTSIDE_VALIDITY: u16 = 36;
 /// FeeTooSmall: The fee is below the least fee. Keeps `min`.
 pub const FEE_TOO_SMALL: u16 = 37;
-/// OutputTooSmall: An output, or the collateral return, holds less than its size asks for. Keeps `min`.
+/// OutputTooSmall: An output, or the collateral return, holds less than its size requires.
+/// Keeps `min`.
 pub const OUTPUT_TOO_SMALL: u16 = 38;
 /// OutputWrongNetwork: An output, or the collateral return, is of another network.
 pub const OUTPUT_WRONG_NETWORK: u16 = 39;
@@ -53,15 +55,16 @@ pub const OUTPUT_WRONG_NETWORK: u16 = 39;
 pub const TOO_MANY_COLLATERAL: u16 = 40;
 /// NoCollateral: There are scripts and no collateral.
 pub const NO_COLLATERAL: u16 = 41;
-/// CollateralMissing: A collateral input is no unspent output, or stands earlier in the list.
+/// CollateralMissing: A collateral input is no unspent output, or is earlier in the list too.
 pub const COLLATERAL_MISSING: u16 = 42;
 /// CollateralNotKey: There are scripts, and a collateral input belongs to a script.
 pub const COLLATERAL_NOT_KEY: u16 = 43;
-/// CollateralTooSmall: There are scripts, and the collateral is below its return or does not cover its part of the fee. Keeps `have`.
+/// CollateralTooSmall: There are scripts, and the collateral is below its return
+/// or does not cover its part of the fee. Keeps `have`.
 pub const COLLATERAL_TOO_SMALL: u16 = 44;
 /// TreasuryValueWrong: The stated treasury is not the treasury. Keeps `is`.
 pub const TREASURY_VALUE_WRONG: u16 = 45;
-/// CollateralAssetsWrong: The collateral holds another quantity of an asset than its return gives back.
+/// CollateralAssetsWrong: The collateral and its return differ in the quantity of an asset.
 pub const COLLATERAL_ASSETS_WRONG: u16 = 46;
 
 // Withdrawals.
@@ -95,13 +98,15 @@ pub const DREP_REGISTERED: u16 = 67;
 pub const POOL_COST_TOO_LOW: u16 = 68;
 /// PoolWrongNetwork: A pool's reward account is of another network.
 pub const POOL_WRONG_NETWORK: u16 = 69;
-/// RetirementEpochWrong: A retirement is not after the current epoch, or more than eMax epochs ahead. Keeps `now`.
+/// RetirementEpochWrong: A retirement is not after the current epoch,
+/// or more than eMax epochs ahead. Keeps `now`.
 pub const RETIREMENT_EPOCH_WRONG: u16 = 70;
 /// ColdKeyUnknown: The cold key is no member, and no live UpdateCommittee adds it.
 pub const COLD_KEY_UNKNOWN: u16 = 71;
 /// ColdKeyResigned: The cold key resigned.
 pub const COLD_KEY_RESIGNED: u16 = 72;
-/// PoolKeyInUse: From version 11.0 on, a pool takes a key that another pool has in its terms or its future terms.
+/// PoolKeyInUse: From version 11.0 on, a pool takes a key that another pool has
+/// in its terms or its future terms.
 pub const POOL_KEY_IN_USE: u16 = 73;
 
 // Proposals.
@@ -125,7 +130,8 @@ pub const ZERO_WITHDRAWAL: u16 = 87;
 pub const CONFLICTING_UPDATE: u16 = 88;
 /// TermTooSmall: A new term is not above the current epoch.
 pub const TERM_TOO_SMALL: u16 = 89;
-/// PreviousWrong: The previous action is neither the last enacted one of the purpose nor a live proposal of it.
+/// PreviousWrong: The previous action is neither the last enacted one of the purpose
+/// nor a live proposal of it.
 pub const PREVIOUS_WRONG: u16 = 90;
 /// CannotFollow: The version does not follow its parent's.
 pub const CANNOT_FOLLOW: u16 = 91;
@@ -145,5 +151,6 @@ pub const VOTER_NOT_SEATED: u16 = 104;
 // The balance.
 /// NotBalanced: What the transaction takes is not what it gives. Keeps `consumed` and `produced`.
 pub const NOT_BALANCED: u16 = 110;
-/// AssetNotBalanced: What the transaction takes and mints of an asset is not what it gives and burns of it. Keeps `consumed` and `produced`.
+/// AssetNotBalanced: What the transaction takes and mints of an asset
+/// is not what it gives and burns of it. Keeps `consumed` and `produced`.
 pub const ASSET_NOT_BALANCED: u16 = 111;

@@ -1,5 +1,6 @@
-// Whether the parts of a record are within the limits of the formats. The definitions speak of plain numbers, so some of what they ask
-// holds by a type: the bits of a number, which the code only reads, and that a threshold is a fraction from 0 to 1.
+// Whether the parts of a record are within the limits of the formats.
+// Some limits hold by a type: the bits of a number, and that a threshold is from 0 to 1.
+// The code only reads such numbers.
 ghost use Rattle.std.specs.Prelude.{◌≡◌, IfOk, ◌&&◌};
 ghost use Rattle.std.specs.List.{list_all};
 ghost use Rattle.tx_records.specs.declared.tx.ProposalRecord.{ProposalRecord};
@@ -18,35 +19,35 @@ use out_refs::OutRefs;
 use pparams::{Params, Update};
 use std::alloc::Global;
 
-/// Whether a list has at most so many entries.
+/// Whether a list has at most `limit` entries.
 pub fn is_at_most<T>(limit: u32, entries: &Listed<T>) -> bool
     ensures { result ≡ is_at_most limit entries.now }
 {
     entries.len() as u64 <= u64::from(limit)
 }
 
-/// The same of a list of references.
+/// Whether a list of references has at most `limit` entries.
 pub fn are_at_most(limit: u32, refs: &OutRefs) -> bool
     ensures { result ≡ is_at_most limit refs.now }
 {
     refs.len() as u64 <= u64::from(limit)
 }
 
-/// The same of a list of credentials.
+// Whether a list of credentials has at most `limit` entries.
 fn are_keys_at_most(limit: u32, keys: &CredentialList) -> bool
     ensures { result ≡ is_at_most limit keys.now }
 {
     keys.len() as u64 <= u64::from(limit)
 }
 
-/// Whether it may be a slot, a term or an expiry.
+/// Whether a number may be a slot, a term or an expiry.
 pub fn is_slot(number: u64) -> bool
     ensures { result ≡ is_slot number }
 {
     number < SLOT_LIMIT
 }
 
-/// The same of one that may be absent.
+/// Whether it is absent, or may be a slot, a term or an expiry.
 pub fn is_optional_slot(number: Option<u64>) -> bool
     ensures { result ≡ none_or is_slot number }
 {
@@ -63,7 +64,7 @@ pub fn is_network(network: u8) -> bool
     network < NETWORK_LIMIT
 }
 
-/// Whether each is a fraction from 0 to 1, as their type says.
+// Whether each is a fraction from 0 to 1, as its type says.
 fn are_shares(shares: &[Unit]) -> bool
     ensures { result ≡ list_all is_share shares.now }
 {
@@ -72,7 +73,7 @@ fn are_shares(shares: &[Unit]) -> bool
         .all(|share| 0 < share.den() && share.num() <= share.den())
 }
 
-/// The same of fractions that may be absent.
+// Whether they are absent, or fractions from 0 to 1, as their type says.
 fn are_optional_shares<const N: usize>(shares: &Option<[Unit; N]>) -> bool
     ensures { result ≡ none_or (list_all is_share) shares.now }
 {
@@ -91,7 +92,7 @@ pub fn are_params(params: &Params) -> bool
     are_shares(&params.pool_voting_thresholds) && are_shares(&params.drep_voting_thresholds)
 }
 
-/// Whether a number that may be absent has 32 bits, as its type says.
+// Whether a number is absent, or has 32 bits, as its type says.
 fn is_optional_u32(number: Option<u32>) -> bool
     ensures { result ≡ none_or is_u32 number }
 {
@@ -101,7 +102,7 @@ fn is_optional_u32(number: Option<u32>) -> bool
     }
 }
 
-/// Whether an update is within the limits.
+// Whether an update is within the limits.
 fn is_update(update: &Update) -> bool
     ensures { result ≡ is_update update.now }
 {
@@ -111,14 +112,14 @@ fn is_update(update: &Update) -> bool
         && is_optional_u32(update.gov_action_lifetime)
 }
 
-/// Whether terms of new members are within the limits.
+// Whether terms of new members are within the limits.
 fn are_terms(members: &[(Credential, u64)]) -> bool
     ensures { result ≡ list_all (λ m. is_slot m.1) members.now }
 {
     members.iter().all(|(_, term)| is_slot(*term))
 }
 
-/// Whether an account that gets an amount is within the limits.
+// Whether an account that gets an amount is within the limits.
 fn is_target(target: &(Account, u64)) -> bool
     ensures { result ≡ (is_network target.now.0.network && is_u64 target.now.1) }
 {
@@ -126,14 +127,14 @@ fn is_target(target: &(Account, u64)) -> bool
     is_network(account.network)
 }
 
-/// The same of several.
+// Whether accounts that get amounts are within the limits.
 fn are_targets(targets: &[(Account, u64)]) -> bool
     ensures { result ≡ list_all (λ t. is_network t.0.network && is_u64 t.1) targets.now }
 {
     targets.iter().all(|target| is_target(target))
 }
 
-/// Whether an action is within the limits.
+// Whether an action is within the limits.
 fn is_action(alloc: Global, action: &Action) -> Result<bool, NoMemory>
     ensures { IfOk result (λ within. within ≡ is_action action.now) }
 {
@@ -177,21 +178,22 @@ pub fn are_actions(alloc: Global, proposals: &[ProposalRecord]) -> Result<bool, 
     Ok(true)
 }
 
-/// Whether an output's assets are within the limits. Their type keeps each once, and its quantity in its range.
+/// Whether an output's assets are within the limits.
+/// Their type keeps each once, and its quantity in its range.
 pub fn are_assets(assets: &Assets) -> bool
     ensures { result ≡ are_assets assets.now }
 {
     assets.as_slice().len() as u64 <= u64::from(LIST_LIMIT)
 }
 
-/// The same of what a transaction mints.
+/// Whether what a transaction mints is within the limits.
 pub fn is_mint(mint: &Mint) -> bool
     ensures { result ≡ is_mint mint.now }
 {
     mint.as_slice().len() as u64 <= u64::from(LIST_LIMIT)
 }
 
-/// Whether an output is within the limits.
+// Whether an output is within the limits.
 fn is_output(output: &TxOutput) -> bool
     ensures { result ≡ is_output output.now }
 {
@@ -200,14 +202,14 @@ fn is_output(output: &TxOutput) -> bool
     is_network(output.address.network) && are_assets(&output.assets)
 }
 
-/// The same of several.
+/// Whether outputs are within the limits.
 pub fn are_outputs(outputs: &[TxOutput]) -> bool
     ensures { result ≡ list_all is_output outputs.now }
 {
     outputs.iter().all(|output| is_output(output))
 }
 
-/// The same of one that may be absent.
+/// Whether an output is absent, or within the limits.
 pub fn is_optional_output(output: &Option<TxOutput>) -> bool
     ensures { result ≡ none_or is_output output.now }
 {

@@ -1,4 +1,4 @@
--- The rules of a transaction that are asked once its certificates have acted. (GOV and UTXO of the formal specification)
+-- The rules after a transaction's certificates. (GOV and UTXO of the formal specification)
 use Rattle.std.specs.Prelude.{List, ◌++◌}
 use Rattle.tx_records.specs.declared.tx.Tx.{Tx}
 use Rattle.ledger_model.specs.Broken.{balance_checks}
@@ -7,7 +7,7 @@ use Rattle.ledger_model.specs.Draft.{last_draft}
 use Rattle.ledger_model.specs.Ledger.{Ledger}
 use Rattle.ledger_model.specs.ProposalRules.{proposal_checks, vote_checks}
 
--- those on proposals, on votes and on the balance
+-- the rules on proposals, on votes and on the balance
 abbrev pub drafted_checks : Ledger → Tx → List Check
 drafted_checks l tx =
     per_place (proposal_checks l (last_draft l tx)) tx.proposals

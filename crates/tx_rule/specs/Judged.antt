@@ -1,4 +1,4 @@
--- What the judgement of a transaction comes to: its changes, or the first rule that it breaks.
+-- The result of judging a transaction: its changes, or the first rule that it breaks.
 use Rattle.std.specs.Prelude.{◌≡◌, Result, Ok, Err, None}
 use Rattle.tx_records.specs.declared.reply.TxFault.{TxFault}
 use Rattle.tx_records.specs.declared.tx.Tx.{Tx}
@@ -8,7 +8,7 @@ use Rattle.draft_changes.specs.Changed.{Changed, laid_over}
 use Rattle.live_ledger.specs.Drafts.{draft_of}
 use Rattle.rule_checks.specs.Answered.{IsAnswered}
 
--- changes that laid over the ledger give the draft of a transaction that breaks no rule, or the first rule that it breaks, unless memory ran out
+-- the changes give the draft over the ledger, or the first rule is broken, unless memory ran out
 abbrev pub IsJudged : Result Changed TxFault → Ledger → Tx → Type 0
 IsJudged (Ok changes) l tx = (first_broken l tx ≡ None) × (laid_over changes l ≡ draft_of l tx)
 IsJudged (Err fault) l tx = IsAnswered (first_broken l tx) (Err fault)

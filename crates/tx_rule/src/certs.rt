@@ -12,7 +12,8 @@ use cert_deleg::is_account_or_pool_cert;
 use live_ledger::Draft;
 use tx_records::{Cert, Tx, TxFault};
 
-/// Each certificate of a transaction acts on the draft, from left to right, or the first that breaks a rule is refused with its place.
+/// Applies a transaction's certificates to the draft, in order, or refuses the first that breaks a
+/// rule, with its index.
 pub fn certify(draft: &mut Draft, tx: &Tx) -> Result<(), TxFault>
     requires within { is_within_limits tx.now ≡ true }
     requires begun { draft.old.ledger ≡ draft_after draft.old.start tx.now 0 }
@@ -30,7 +31,7 @@ pub fn certify(draft: &mut Draft, tx: &Tx) -> Result<(), TxFault>
     Ok(())
 }
 
-/// A certificate acts on the draft, or is refused with the first rule that it breaks, at this place.
+/// Applies a certificate to the draft, or refuses with the first rule it breaks, at this index.
 fn act(draft: &mut Draft, place: u32, c: &Cert) -> Result<(), TxFault>
     requires few { draft.old.changes ≤ 2 ^ 31 }
     ensures rule { IsAnswered

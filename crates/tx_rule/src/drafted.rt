@@ -13,7 +13,8 @@ use std::alloc::Global;
 use tx_records::{Tx, TxFault};
 use utxo_rules::{Spent, balance_of_spent};
 
-/// The first of the rules on proposals, on votes and on the balance that a transaction breaks, if there is one, by the draft after all its certificates and by what its inputs hold.
+/// The first broken rule on proposals, votes and balance, if any, by the draft after certificates
+/// and by what the inputs hold.
 pub fn check_drafted(alloc: Global, draft: &Draft, tx: &Tx, spent: Spent) -> Result<(), TxFault>
     requires within { is_within_limits tx.now ≡ true }
     requires drafted { draft.now.ledger ≡ last_draft draft.now.start tx.now }

@@ -20,16 +20,18 @@ mod drafted;
 use crate::certs::certify;
 use crate::drafted::check_drafted;
 use cert_deleg::withdraw;
-use coin_frac::NoMemory;
 use draft_changes::Changes;
 use govcert::refresh;
 use ledger_state::LedgerState;
 use live_ledger::{Draft, LiveLedger};
+use no_memory::NoMemory;
 use std::alloc::Global;
 use tx_records::{Reply, Rule, Scripts, Tx, TxFault};
 use utxo_rules::{Spent, check_spent};
 
-/// Judges a transaction, and applies it where it breaks no rule; the state of a refused one is the one that was given, and all that epochs add stays. After want of memory there is no state. (LEDGER of the formal specification)
+/// Judges a transaction, and applies it if it breaks no rule; a refused one changes nothing.
+/// All that epochs add stays. After an out-of-memory error there is no state.
+/// (LEDGER of the formal specification)
 pub fn apply_tx(alloc: Global, s: LedgerState, tx: &Tx) -> Result<(LedgerState, Reply), NoMemory>
     requires within { is_within_limits tx.now ≡ true }
     ensures ledger { IfOk result (λ r. r.0 ≡ on_ledger (λ l. (tx_step l tx.now).0) s) }
@@ -46,7 +48,8 @@ pub fn apply_tx(alloc: Global, s: LedgerState, tx: &Tx) -> Result<(LedgerState, 
     }
 }
 
-/// Judges a transaction and applies nothing: it would be accepted, or breaks this rule first. So a wallet asks before it sends. (LEDGER of the formal specification)
+/// Judges a transaction and applies nothing, as a wallet does before it sends: it would be accepted
+/// or breaks this rule first. (LEDGER of the formal specification)
 pub fn judge(alloc: Global, s: &LedgerState, tx: &Tx) -> Result<(), TxFault>
     requires within { is_within_limits tx.now ≡ true }
     ensures rule { IsAnswered (first_broken s.now.ledger tx.now) result }
@@ -55,7 +58,7 @@ pub fn judge(alloc: Global, s: &LedgerState, tx: &Tx) -> Result<(), TxFault>
     Ok(())
 }
 
-/// Judges a transaction: what it changes, or the first rule that it breaks. (LEDGER; the call is own)
+/// What a transaction changes, or the first rule that it breaks. (LEDGER; the call is own)
 pub fn judged(alloc: Global, s: &LedgerState, tx: &Tx) -> Result<Changes, TxFault>
     requires within { is_within_limits tx.now ≡ true }
     ensures { IsJudged result s.now.ledger tx.now }
@@ -63,7 +66,7 @@ pub fn judged(alloc: Global, s: &LedgerState, tx: &Tx) -> Result<Changes, TxFaul
     changes_of(alloc, s.live(), tx)
 }
 
-/// Applies the changes that `judged` gave of this state; without memory there is no state. (LEDGER)
+/// Applies the changes that `judged` gave of this state. `NoMemory`: there is no state. (LEDGER)
 pub fn accepted(s: LedgerState, changes: Changes, tx: &Tx) -> Result<(LedgerState, Reply), NoMemory>
     requires within { is_within_limits tx.now ≡ true }
     requires judged { IsJudged (Ok changes) s.ledger tx.now }
@@ -85,7 +88,7 @@ fn changes_of(alloc: Global, s: &LiveLedger, tx: &Tx) -> Result<Changes, TxFault
     changes_of_spent(alloc, s, tx, spent)
 }
 
-/// The same of one that breaks none of the first rules, and whose inputs hold so much.
+/// The changes of a transaction that breaks none of the first rules and whose inputs hold so much.
 fn changes_of_spent(
     alloc: Global,
     s: &LiveLedger,
@@ -107,7 +110,8 @@ fn changes_of_spent(
     }
 }
 
-/// Makes the draft of the transaction, or tells the first rule of its body that it breaks. One whose scripts failed need not keep them, and changes nothing in the draft.
+/// Makes the transaction's draft, or returns the first rule of its body that it breaks.
+/// One whose scripts failed is exempt, and changes nothing in the draft.
 fn judge_body(alloc: Global, draft: &mut Draft, tx: &Tx, spent: Spent) -> Result<(), TxFault>
     requires within { is_within_limits tx.now ≡ true }
     requires fresh { draft.old ≡ draft_at draft.old.start }
@@ -122,7 +126,8 @@ fn judge_body(alloc: Global, draft: &mut Draft, tx: &Tx, spent: Spent) -> Result
     }
 }
 
-/// The same of one whose scripts did not fail: its withdrawals, what its proposals and votes refresh, its certificates, and what is asked after them.
+/// Makes the draft of a transaction with good scripts: withdrawals, refreshes of expiries,
+/// certificates, and the rules after them.
 fn judge_passed(alloc: Global, draft: &mut Draft, tx: &Tx, spent: Spent) -> Result<(), TxFault>
     requires within { is_within_limits tx.now ≡ true }
     requires fresh { draft.old ≡ draft_at draft.old.start }

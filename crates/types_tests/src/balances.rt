@@ -42,7 +42,7 @@ fn minted_or_burned(rt: HostRuntime) {
     }
 }
 
-/// What is taken, given and minted of the asset of a policy, and the first asset of which there is more on one side.
+/// Taken, given and minted amounts of a policy's asset, and the first asset whose sides differ.
 #[test]
 fn balances(rt: HostRuntime) -> Result<(), Fail> {
     for (taken, given, moved, uneven) in [

@@ -1,4 +1,4 @@
-//! Texts of ids: those that read print as they stood, and the others read as none. And a map that is keyed by an id.
+//! Texts of ids: a valid one prints as it was read, any other reads as none. A map keyed by an id.
 ghost use Rattle.std.specs.Prelude.{◌≡◌, OnOk};
 ghost use Rattle.std.specs.BTreeMap.{insert_entry};
 ghost use Rattle.gov_ids.specs.Orders.{drep_cmp};

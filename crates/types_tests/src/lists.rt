@@ -1,4 +1,4 @@
-//! Lists, short and long: what they hold, whether it is found, and the first that stands in one twice.
+//! Short and long lists: what they hold, what is found in them, and the first repeated item.
 use credential_list::CredentialList;
 use gov_actions::MemberList;
 use gov_ids::{CredKind, Credential, OutRef, TxId};
@@ -45,7 +45,7 @@ fn keeps_items(rt: HostRuntime) -> Result<(), Fail> {
     Ok(())
 }
 
-/// A list of up to eight is searched as it stands, a longer one by a set.
+/// A list of up to eight is searched directly, a longer one by a set.
 #[test]
 fn finds_credentials(rt: HostRuntime) -> Result<(), Fail> {
     for (bytes, sought, found) in [

@@ -10,7 +10,7 @@ use Rattle.ledger_model.specs.Checks.{Check, breaks_keeping_two, per_place}
 use Rattle.ledger_model.specs.Ledger.{Ledger}
 use Rattle.ledger_model.specs.UtxoRules.{id_checks, input_checks, fee_checks, output_checks, collateral_list_checks, collateral_checks, collateral_sum_checks, treasury_checks, unless_failed}
 
--- all that look at the ledger before the transaction, but the one on the assets of the collateral
+-- all that read the ledger before the transaction, except the rule on the collateral's assets
 abbrev pub plain_checks : Ledger → Tx → List Check
 plain_checks l tx =
     id_checks l tx

@@ -9,7 +9,7 @@ use Rattle.ledger_model.specs.UtxoRules.{has_scripts, is_script}
 use Rattle.tx_records.specs.declared.rules.TheConstants.{COLLATERAL_MISSING, COLLATERAL_NOT_KEY, INPUT_MISSING, INPUT_REPEATED}
 use Rattle.tx_records.specs.declared.tx.Tx.{Tx}
 
--- the place is there, and it is i
+-- the index is there, and it is i
 abbrev pub is_at : Option ℕ → ℕ → Bool
 is_at place i = some_and (λ p. p == i) place
 

@@ -7,7 +7,7 @@ use Rattle.ledger_model.specs.UtxoRules.{assets_at, lovelace_at}
 use Rattle.maps.specs.Words.{is_empty}
 use Rattle.utxo_rules.specs.declared.holdings.Spent.{Spent}
 
--- an answer that comes with a value, as that of a call that checks alone
+-- an answer that has a value, without the value
 abbrev pub without_value : {X E : Type 0} → Result X E → Result ⊤ E
 without_value (Ok x) = Ok tt
 without_value (Err e) = Err e
@@ -20,7 +20,7 @@ has_assets_at l r = not (is_empty (assets_at l r))
 abbrev pub both : Spent → Spent → Spent
 both some others = record { lovelace = some.lovelace + others.lovelace; has_assets = some.has_assets || others.has_assets }
 
--- this is what the unspent outputs at these references hold, the lovelace of each being a number of 64 bits
+-- what the unspent outputs at these references hold; the lovelace of each fits in 64 bits
 pub record IsSpent (l : Ledger) (refs : List OutRef) (spent : Spent) : Type 0 where
   pub sum : spent.lovelace ≡ sum_by (lovelace_at l) refs
   pub fits : spent.lovelace ≤ length refs * (2 ^ 64 - 1)

@@ -17,7 +17,7 @@ pub fn spent_by(s: &LiveLedger, refs: &[OutRef]) -> Spent
     spent
 }
 
-/// The same of one reference.
+/// What the unspent output at a reference holds, or nothing where there is none.
 fn spent_at(s: &LiveLedger, at: &OutRef) -> Spent
     ensures { IsSpent s.now.ledger (at.now ∷ []) result }
 {

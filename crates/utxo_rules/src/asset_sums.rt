@@ -13,9 +13,9 @@ ghost use Rattle.utxo_rules.specs.Plain.{names_assets};
 use crate::holdings::Spent;
 use asset_fronts::{front, lowest_with};
 use assets::AssetBalance;
-use coin_frac::NoMemory;
 use gov_ids::{AssetId, OutRef};
 use live_ledger::LiveLedger;
+use no_memory::NoMemory;
 use std::alloc::Global;
 use tx_records::rules::ASSET_NOT_BALANCED;
 use tx_records::{Rule, Tx, TxFault, TxOutput};
@@ -63,9 +63,8 @@ pub fn check_assets(alloc: Global, s: &LiveLedger, tx: &Tx) -> Result<(), TxFaul
     }
 }
 
-/// The first asset of which more or less is given than taken: its place, how much is taken and
-/// how much is given of it. It takes the fronts of the assets of the inputs and what is minted,
-/// and gives the assets of the outputs and what is burned.
+/// The first asset that is not taken and given alike: its index, and how much is taken and given.
+/// It takes prefixes of the inputs' assets and the mint; it gives the outputs' and burned ones.
 fn first_uneven(
     alloc: Global,
     s: &LiveLedger,
@@ -97,8 +96,8 @@ fn named_by(tx: &Tx) -> Result<usize, NoMemory>
     Ok(named)
 }
 
-/// A balance that takes the fronts of the assets of the unspent outputs at these references,
-/// one entry more of each than are named, and gives none yet.
+/// A balance that takes prefixes of the assets of the unspent outputs at these references, one
+/// entry more of each than are named, and gives none yet.
 pub fn taken_by(
     alloc: Global,
     s: &LiveLedger,
@@ -116,8 +115,8 @@ pub fn taken_by(
     Ok(balance)
 }
 
-/// The lowest asset of the unspent outputs at these references, with how much the first of
-/// their entries have of it. It takes no memory.
+/// The lowest asset of the unspent outputs at these references, and how much the first of their
+/// entries have of it. It takes no memory.
 pub fn lowest_taken(s: &LiveLedger, refs: &[OutRef]) -> Option<(AssetId, u128)>
     ensures lowest { result ≡ lowest_of (fronts (assets_at s.now.ledger) 0 refs.now) }
     ensures sound { AreSound (assets_at s.now.ledger) refs.now }
@@ -129,8 +128,7 @@ pub fn lowest_taken(s: &LiveLedger, refs: &[OutRef]) -> Option<(AssetId, u128)>
     lowest
 }
 
-/// The assets of the unspent output at a reference; a reference that has none counts as having
-/// no asset.
+/// The assets of the unspent output at a reference; no output counts as no asset.
 fn assets_at<'a>(s: &'a LiveLedger, at: &OutRef) -> &'a [(AssetId, u64)]
     ensures value { result.now ≡ assets_at s.now.ledger at.now }
     ensures sound { IsSound result.now }
@@ -152,7 +150,7 @@ fn give(balance: &mut AssetBalance, outputs: &[TxOutput]) -> Result<(), NoMemory
     Ok(())
 }
 
-/// A place as it is told, in 32 bits.
+/// An index in 32 bits, as it is reported.
 fn told_place(place: usize) -> u32
     ensures { result ≡ min place u32.MAX }
 {

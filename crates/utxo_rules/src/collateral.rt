@@ -8,9 +8,9 @@ ghost use Rattle.tx_records.specs.TxLimits.{is_within_limits};
 
 use crate::amounts::spent_by;
 use crate::asset_sums::{lowest_taken, taken_by};
-use coin_frac::NoMemory;
 use gov_ids::{AssetId, CredKind, OutRef};
 use live_ledger::LiveLedger;
+use no_memory::NoMemory;
 use rule_checks::{ItemRules, check_each};
 use std::alloc::Global;
 use tx_records::rules::{
@@ -78,8 +78,7 @@ pub fn check_collateral(s: &LiveLedger, tx: &Tx) -> Result<(), Rule>
     check_each(&Collateral { s, tx, repeated }, tx.collateral.as_slice())
 }
 
-/// The rule on what the collateral holds. The return is taken off, and the rest must cover its
-/// part of the fee.
+/// The rule on what the collateral holds: without the return, it must cover its part of the fee.
 pub fn check_collateral_sum(s: &LiveLedger, tx: &Tx) -> Result<(), Rule>
     requires { is_within_limits tx.now ≡ true }
     ensures { result ≡ answer_of (collateral_sum_checks s.now.ledger tx.now) }
@@ -111,8 +110,8 @@ pub fn check_collateral_assets(alloc: Global, s: &LiveLedger, tx: &Tx) -> Result
     Ok(())
 }
 
-/// Whether the collateral holds more or less of an asset than its return gives back. It takes
-/// memory where the return has assets.
+/// Whether the collateral holds more or less of an asset than its return gives back.
+/// It takes memory where the return has assets.
 fn is_collateral_uneven(alloc: Global, s: &LiveLedger, tx: &Tx) -> Result<bool, NoMemory>
     ensures uneven { IfOk result (λ uneven. uneven ≡ is_collateral_uneven s.now.ledger tx.now) }
     ensures memory { OnErr result (is_empty (returned_assets tx.now) ≡ false) }
@@ -127,7 +126,7 @@ fn is_collateral_uneven(alloc: Global, s: &LiveLedger, tx: &Tx) -> Result<bool, 
     Ok(balance.first_uneven().is_some())
 }
 
-/// The assets that the collateral return gives back, none where there is none.
+/// The assets that the collateral return gives back; none without a return.
 fn returned_assets(tx: &Tx) -> &[(AssetId, u64)]
     ensures { result.now ≡ returned_assets tx.now }
 {

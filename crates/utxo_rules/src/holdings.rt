@@ -4,7 +4,7 @@ ghost use Rattle.utxo_rules.specs.Spent.{both};
 
 use book_records::Output;
 
-/// What unspent outputs hold. (Own)
+/// What unspent outputs hold.
 #[derive(Clone, Copy)]
 pub struct Spent {
     /// In lovelace.

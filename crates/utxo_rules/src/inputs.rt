@@ -28,7 +28,7 @@ pub fn check_id(s: &LiveLedger, tx: &Tx) -> Result<(), Rule>
     Ok(())
 }
 
-/// What an input at a place holds, or the first rule that it breaks, with its place.
+/// What an input at an index holds, or the first rule that it breaks, with its index.
 fn held_at(
     s: &LiveLedger,
     repeated: Option<usize>,
@@ -49,7 +49,8 @@ fn held_at(
     Ok(held_in(output))
 }
 
-/// What these inputs hold, or the first rule that one of them breaks. The rules are tried up to the first repeated one, which breaks one of them.
+/// What these inputs hold, or the first rule that one of them breaks.
+/// The rules are tried up to the first repeated input, which breaks one of them.
 fn held_by(s: &LiveLedger, repeated: Option<usize>, refs: &[OutRef]) -> Result<Spent, Rule>
     requires { length refs.now ≤ 2 ^ 32 }
     ensures rule { without_value result ≡
@@ -63,7 +64,7 @@ fn held_by(s: &LiveLedger, repeated: Option<usize>, refs: &[OutRef]) -> Result<S
     Ok(held)
 }
 
-/// What the inputs hold, or the first of the rules on each input that is broken. Each is looked up once.
+/// What the inputs hold, or the first broken rule on an input. Each is looked up once.
 pub fn check_inputs(s: &LiveLedger, tx: &Tx) -> Result<Spent, Rule>
     requires { is_within_limits tx.now ≡ true }
     ensures rule { without_value result ≡

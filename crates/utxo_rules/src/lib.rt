@@ -35,9 +35,9 @@ use std::alloc::Global;
 use tx_records::rules::NOT_BALANCED;
 use tx_records::{Rule, Tx, TxFault};
 
-/// The first of the rules on id, inputs, size, time, fee, outputs, collateral with its assets,
-/// and treasury value that the transaction breaks, if there is one. It takes memory where the
-/// collateral return has assets. (UTXO and UTXOW of the formal specification)
+/// The first broken rule on id, inputs, size, time, fee, outputs, collateral with its assets, and
+/// treasury value, if there is one. It takes memory where the collateral return has assets.
+/// (UTXO and UTXOW of the formal specification)
 pub fn check(alloc: Global, s: &LiveLedger, tx: &Tx) -> Result<(), TxFault>
     requires { is_within_limits tx.now ≡ true }
     ensures rule { IsAnswered (first_among (utxo_checks s.now.ledger tx.now)) result }
@@ -47,8 +47,8 @@ pub fn check(alloc: Global, s: &LiveLedger, tx: &Tx) -> Result<(), TxFault>
     Ok(())
 }
 
-/// What the inputs of a transaction hold, or the first of the rules of `check` that it breaks:
-/// `balance_of_spent` asks for it. Each input is looked up once. (Own)
+/// What the inputs hold, for `balance_of_spent`, or the first broken rule of `check`.
+/// Each input is looked up once.
 pub fn check_spent(alloc: Global, s: &LiveLedger, tx: &Tx) -> Result<Spent, TxFault>
     requires { is_within_limits tx.now ≡ true }
     ensures rule { IsAnswered (first_among (utxo_checks s.now.ledger tx.now)) (without_value result) }
@@ -64,7 +64,7 @@ pub fn check_spent(alloc: Global, s: &LiveLedger, tx: &Tx) -> Result<Spent, TxFa
     }
 }
 
-/// The same by all rules of `check` but the one on the assets of the collateral.
+/// What the inputs hold, by all rules of `check` except the one on the collateral's assets.
 fn check_plain(s: &LiveLedger, tx: &Tx) -> Result<Spent, Rule>
     requires { is_within_limits tx.now ≡ true }
     ensures rule { without_value result ≡ answer_of (plain_checks s.now.ledger tx.now) }
@@ -81,11 +81,9 @@ fn check_plain(s: &LiveLedger, tx: &Tx) -> Result<Spent, Rule>
     Ok(spent)
 }
 
-/// Whether what a transaction takes is what it gives, in lovelace, with what its certificates
-/// gave back and paid in the draft, and then of each asset; else NotBalanced or
-/// AssetNotBalanced with both sums. It takes memory where outputs or mint have assets. A
-/// transaction whose scripts failed need not keep it. (UTXO of the formal specification, the
-/// preservation of value)
+/// Whether a transaction takes what it gives: in lovelace, with the draft's refunds and deposits,
+/// then of each asset; else NotBalanced or AssetNotBalanced with both sums. Failed scripts: exempt.
+/// Assets take memory. (UTXO of the formal specification, the preservation of value)
 pub fn balance(alloc: Global, d: &Draft, tx: &Tx) -> Result<(), TxFault>
     requires within { is_within_limits tx.now ≡ true }
     requires refunds { d.now.refunds ≡ sum_at sink hand (flows_of_certs d.now.start tx.now) }
@@ -97,9 +95,9 @@ pub fn balance(alloc: Global, d: &Draft, tx: &Tx) -> Result<(), TxFault>
     balance_of_spent(alloc, d, tx, spent)
 }
 
-/// The same, by what the inputs of the transaction hold, as `check_spent` told it. It looks up
-/// no input, but where there are assets. (UTXO of the formal specification, the preservation of
-/// value)
+/// Whether a transaction takes what it gives, by what `check_spent` returned of its inputs.
+/// It looks up inputs only where there are assets.
+/// (UTXO of the formal specification, the preservation of value)
 pub fn balance_of_spent(alloc: Global, d: &Draft, tx: &Tx, spent: Spent) -> Result<(), TxFault>
     requires within { is_within_limits tx.now ≡ true }
     requires refunds { d.now.refunds ≡ sum_at sink hand (flows_of_certs d.now.start tx.now) }
@@ -116,7 +114,7 @@ pub fn balance_of_spent(alloc: Global, d: &Draft, tx: &Tx, spent: Spent) -> Resu
     }
 }
 
-/// Whether as much lovelace is taken as is given, where the inputs hold so much.
+/// Whether as much lovelace is taken as is given, if the inputs hold so much.
 fn balance_of_lovelace(d: &Draft, tx: &Tx, spent: u128) -> Result<(), Rule>
     requires within { is_within_limits tx.now ≡ true }
     requires refunds { d.now.refunds ≡ sum_at sink hand (flows_of_certs d.now.start tx.now) }

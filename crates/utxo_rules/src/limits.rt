@@ -24,7 +24,7 @@ pub fn check_fee(s: &LiveLedger, tx: &Tx) -> Result<(), Rule>
     Ok(())
 }
 
-/// Whether the transaction may not stand at the last slot.
+/// Whether the last slot is outside the transaction's interval.
 fn is_outside(s: &LiveLedger, tx: &Tx) -> bool
     ensures { result ≡ is_outside s.now.ledger tx.now }
 {

@@ -8,7 +8,8 @@ use rule_checks::{ItemRules, answer_at, check_each};
 use tx_records::rules::{OUTPUT_TOO_SMALL, OUTPUT_WRONG_NETWORK};
 use tx_records::{Rule, Tx, TxOutput};
 
-/// Bytes that each output counts besides its own. (The constant overhead of cardano-ledger's least lovelace of an output, since Babbage)
+/// Bytes that each output counts besides its own.
+/// (The constant overhead of cardano-ledger's least lovelace of an output, since Babbage)
 const OVERHEAD: u128 = 160;
 
 /// The rules on each output.
@@ -37,7 +38,7 @@ impl<'a> ItemRules for Outputs<'a> {
     }
 }
 
-/// The rules on each output and on the collateral return, whose place is after the last output.
+/// The rules on each output and on the collateral return, whose index is after the last output.
 pub fn check_outputs(s: &LiveLedger, tx: &Tx) -> Result<(), Rule>
     requires { is_within_limits tx.now ≡ true }
     ensures { result ≡ answer_of (per_place

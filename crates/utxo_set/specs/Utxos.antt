@@ -11,7 +11,7 @@ pub record Utxos : Type 0 where
   pub outputs : List (OutRef × Output)
   pub used : List TxId
 
--- each reference and each id stands once, in order
+-- each reference and each id is there once, in order
 pub record IsInOrder (u : Utxos) : Type 0 where
   pub outputs : IsMap outref_cmp u.outputs
   pub used : IsSet txid_cmp u.used

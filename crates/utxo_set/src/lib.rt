@@ -9,14 +9,15 @@ ghost use Rattle.utxo_set.specs.Utxos.{IsInOrder};
 
 use assets::AssetTotals;
 pub use book_records::Output;
-use coin_frac::NoMemory;
 use gov_ids::{AssetId, OutRef, TxId};
 use maps::keys_past;
+use no_memory::NoMemory;
 use std::alloc::Global;
 use std::collections::{BTreeMap, BTreeSet};
 use std::marker::Model;
 
-/// The unspent outputs and the used ids, with what the outputs hold of lovelace and of each asset. (UTxO of the formal specification; that used ids and totals are kept is own)
+/// The unspent outputs and the used ids, with the outputs' totals of lovelace and of each asset.
+/// (UTxO of the formal specification; that used ids and totals are kept is own)
 #[derive(Drop)]
 pub struct UtxoSet {
     outputs: BTreeMap<OutRef, Output>,
@@ -55,7 +56,7 @@ impl UtxoSet {
         }
     }
 
-    /// The output at a reference, none where there is none. (UTxO of the formal specification)
+    /// The output at a reference, if there is one. (UTxO of the formal specification)
     pub fn get(&self, r: &OutRef) -> Option<&Output>
         ensures value { option_map (λ o. o.now) result ≡ value_at outref_cmp self.now.outputs r.now }
         ensures in_order { IsInOrder self.now }
@@ -63,7 +64,8 @@ impl UtxoSet {
         self.outputs.get(r)
     }
 
-    /// Adds an output at a new reference. Want of memory changes nothing. (UTxO of the formal specification)
+    /// Adds an output at a new reference. `NoMemory` leaves the book unchanged.
+    /// (UTxO of the formal specification)
     pub fn put(&mut self, r: OutRef, o: Output) -> Result<(), NoMemory>
         requires absent { value_at outref_cmp self.old.outputs r ≡ None }
         requires fits { lovelace_in self.old.outputs + o.lovelace < 2 ^ 64 }
@@ -80,7 +82,8 @@ impl UtxoSet {
         Ok(())
     }
 
-    /// Removes the output at a reference and gives it, none where there is none. (UTxO of the formal specification)
+    /// Removes and returns the output at a reference, if there is one.
+    /// (UTxO of the formal specification)
     pub fn take(&mut self, r: &OutRef) -> Option<Output>
         ensures value { result ≡ value_at outref_cmp self.old.outputs r.now }
         ensures rest { self.new ≡ record self.old { outputs = without_key outref_cmp r.now self.old.outputs } }
@@ -99,7 +102,7 @@ impl UtxoSet {
         self.total
     }
 
-    /// What all outputs hold of an asset. (Own)
+    /// What all outputs hold of an asset.
     pub fn asset_total(&self, a: &AssetId) -> u128
         ensures sum { result ≡ assets_in self.now.outputs a.now }
         ensures in_order { IsInOrder self.now }
@@ -107,14 +110,14 @@ impl UtxoSet {
         self.assets.total(a)
     }
 
-    /// The first asset past an asset that outputs hold, or the first of all, in order, with how much they hold of it; none at the end. (Own)
+    /// The next asset in order after this one, or the first of all, with its total.
     pub fn next_asset(&self, after: Option<&AssetId>) -> Option<(AssetId, u128)>
         ensures { result ≡ entry_after asset_cmp (option_map (λ a. a.now) after.entry) (asset_totals self.now.outputs) }
     {
         self.assets.next(after)
     }
 
-    /// Whether an id is a used one: of a transaction that was applied, or of one that made an output of the genesis. (Own)
+    /// Whether an id is used: by an applied transaction, or one that made a genesis output.
     pub fn used(&self, id: &TxId) -> bool
         ensures member { result ≡ has_member txid_cmp self.now.used id.now }
         ensures in_order { IsInOrder self.now }
@@ -122,7 +125,7 @@ impl UtxoSet {
         self.used.contains(id)
     }
 
-    /// Puts an id among the used ones. Want of memory changes nothing. (Own)
+    /// Marks an id as used. `NoMemory` leaves the book unchanged.
     pub fn mark_used(&mut self, id: TxId) -> Result<(), NoMemory>
         ensures ok { OnOk result (self.new ≡ record self.old { used = with_key txid_cmp id self.old.used }) }
         ensures err { OnErr result (self.new ≡ self.old) }
@@ -131,14 +134,15 @@ impl UtxoSet {
         Ok(())
     }
 
-    /// Takes an id from the used ones. (Own)
+    /// Removes an id from the used ones.
     pub fn unmark(&mut self, id: &TxId)
         ensures { self.new ≡ record self.old { used = without_member txid_cmp id.now self.old.used } }
     {
         self.used.remove(id);
     }
 
-    /// The first output past a reference, or the first of all, in the order of references; none at the end. (UTxO of the formal specification)
+    /// The next output in order of references after this one, or the first of all.
+    /// (UTxO of the formal specification)
     pub fn next(&self, after: Option<&OutRef>) -> Option<(OutRef, &Output)>
         ensures { option_map (λ e. (e.0, e.1.now)) result ≡
             entry_after outref_cmp (option_map (λ r. r.now) after.entry) self.now.outputs }
@@ -147,7 +151,7 @@ impl UtxoSet {
         Some((*r, o))
     }
 
-    /// The first used id past an id, or the first of all, in the order of ids; none at the end. (Own)
+    /// The next used id in order after this one, or the first of all.
     pub fn next_used(&self, after: Option<&TxId>) -> Option<TxId>
         ensures { result ≡ key_after txid_cmp (option_map (λ id. id.now) after.entry) self.now.used }
     {

@@ -15,7 +15,7 @@ use Rattle.maps.specs.Maps.{IsMap, value_at, with_value, without_key}
 use Rattle.view_map.specs.View.{key_in}
 use Rattle.view_map.proofs.Entries.{without_key-with_value, no_entry}
 
--- a key with no value stands nowhere
+-- a key without a value is not in the list
 pub key_absent : {K X : Type 0} (cmp : K → K → Ordering) (es : List (K × X)) (k : K) → value_at cmp es k ≡ None → k ≡ key_in cmp es k
 key_absent cmp [] k m = refl
 key_absent {K} {X} cmp (e ∷ es) k m =
@@ -25,7 +25,7 @@ key_absent {K} {X} cmp (e ∷ es) k m =
     ] m
 
 module _ {K X : Type 0} {cmp : K → K → Ordering} (o : IsTotalOrder cmp) where
-  -- the value that stands at a key, put there once more
+  -- the value at a key, put there once more
   pub same_value : (k : K) (v : X) (es : List (K × X)) → IsMap cmp es → value_at cmp es k ≡ Some v → with_value cmp k v es ≡ es
   unfolding IsStrictlySortedBy
   same_value k v [] h m = cc
@@ -36,7 +36,7 @@ module _ {K X : Type 0} {cmp : K → K → Ordering} (o : IsTotalOrder cmp) wher
         | Greater ↦ λ p m. ap (λ (l : List (K × X)). e ∷ l) (same_value k v es h.1 m)
       ] refl m
 
-  -- the value that stood at a key, written there in place of another
+  -- the old value of a key, written there instead of another
   written_back : (k : K) (v b : X) (es : List (K × X)) → IsMap cmp es → value_at cmp es k ≡ Some b → set_value (is_at (cmp k)) (with_value cmp k v es) b ≡ es
   unfolding IsStrictlySortedBy
   written_back k v b [] h m = cc
@@ -51,7 +51,7 @@ module _ {K X : Type 0} {cmp : K → K → Ordering} (o : IsTotalOrder cmp) wher
             ∙ ap (λ (l : List (K × X)). e ∷ l) (written_back k v b es h.1 m)
       ] refl m
 
-  -- what was at a key, put back in place of another value, leaves the list as it was
+  -- the old value of a key, put back instead of another, leaves the list as it was
   pub restored : (k : K) (v : X) (before : Option X) (es with new : List (K × X)) → IsMap cmp es → with ≡ with_value cmp k v es → before ≡ value_at cmp es k
       → MatchOption before (new ≡ without_key cmp k with) (λ b. new ≡ set_value (is_at (cmp k)) with b) → new ≡ es
   restored k v None es with new h put is back =

@@ -1,4 +1,4 @@
--- The entry at a key, with the key as it stands in the list.
+-- The entry at a key, with its key in the list.
 use Rattle.std.proofs.Common.{◌≡◌, List, [], ◌∷◌, Bool, true, false, cond, is_some, Option, Some, None, option_map, unwrap_or, refl, ap, sym, ◌∙◌}
 use Rattle.std.specs.declared.cmp.Ordering.{Ordering}
 use Rattle.std.specs.declared.cmp.Ordering.TheVariants.{Less, Equal, Greater}
@@ -26,7 +26,7 @@ value_of-entry cmp [] q = refl
 value_of-entry {K} {X} cmp (e ∷ es) q =
     elim (eq_by_cmp cmp q e.0) as (λ b. cond b (Some e.1) (value_at cmp es q) ≡ option_map (λ (e : K × X). e.1) (cond b (Some e) (entry_at cmp es q))) [ true ↦ refl | false ↦ value_of-entry cmp es q ]
 
--- it is the key as it stands there with the value there
+-- it is the key in the list with the value there
 pub entry_is : {K X : Type 0} (cmp : K → K → Ordering) (es : List (K × X)) (k : K) → entry_at cmp es k ≡ option_map (λ v. (key_in cmp es k, v)) (value_at cmp es k)
 entry_is cmp [] k = refl
 entry_is {K} {X} cmp (e ∷ es) k =
@@ -35,7 +35,7 @@ entry_is {K} {X} cmp (e ∷ es) k =
       | false ↦ entry_is cmp es k
     ]
 
--- its key is the key as it stands there
+-- its key is the key in the list
 pub key_of-entry : {K X : Type 0} (cmp : K → K → Ordering) (es : List (K × X)) (q : K) → key_in cmp es q ≡ unwrap_or (option_map (λ (e : K × X). e.0) (entry_at cmp es q)) q
 key_of-entry cmp [] q = refl
 key_of-entry {K} {X} cmp (e ∷ es) q =
@@ -48,11 +48,11 @@ some_entry {K} {X} cmp (e ∷ es) k = elim (eq_by_cmp cmp k e.0) as (λ b. is_so
 pub no_entry : {K X : Type 0} (cmp : K → K → Ordering) (es : List (K × X)) (k : K) → has_key cmp es k ≡ false → entry_at cmp es k ≡ None
 no_entry cmp es k h = none_from (entry_at cmp es k) (sym (some_entry cmp es k) ∙ h)
 
--- a key that stands nowhere leaves nothing behind
+-- a key that is not in the list leaves nothing behind
 pub untouched : {K X : Type 0} (cmp : K → K → Ordering) (k : K) (es : List (K × X)) → has_key cmp es k ≡ false → without_key cmp k es ≡ es
 untouched cmp k es h = without_key_absent cmp k es (none_from (value_at cmp es k) h)
 
--- a key that stands nowhere stands for itself
+-- a key that is not in the list is its own key
 key_in-absent : {K X : Type 0} (cmp : K → K → Ordering) (es : List (K × X)) (k : K) → entry_at cmp es k ≡ None → key_in cmp es k ≡ k
 key_in-absent cmp [] k m = refl
 key_in-absent {K} {X} cmp (e ∷ es) k m =
@@ -78,7 +78,7 @@ module _ {K X : Type 0} {cmp : K → K → Ordering} (o : IsTotalOrder cmp) wher
       ap (λ b. cond b (Some e) (entry_at cmp es q)) ((eq_by_cmp_equiv o).congr q k e.0 t)
       ∙ ap (λ (r : Option (K × X)). cond (eq_by_cmp cmp k e.0) (Some e) r) (entry_at-tied q k es t)
 
-  -- a key ties with how it stands in a list
+  -- a key ties with its key in a list
   pub key_in-tied : (es : List (K × X)) (k : K) → eq_by_cmp cmp k (key_in cmp es k) ≡ true
   key_in-tied [] k = (eq_by_cmp_equiv o).refl k
   key_in-tied (e ∷ es) k =
@@ -107,7 +107,7 @@ module _ {K X : Type 0} {cmp : K → K → Ordering} (o : IsTotalOrder cmp) wher
         | Greater ↦ λ p. ap (λ (r : Option (K × X)). cond (eq_by_cmp cmp q f.0) (Some f) r) (entry_at-with_value_other k v es q e)
       ] refl
 
-  -- a key that is put, as it stands there
+  -- the key in the list of a key that is put
   pub entry_at-with_value : (k : K) (v : X) (es : List (K × X)) (q : K) → IsMap cmp es
       → entry_at cmp (with_value cmp k v es) q ≡ cond (eq_by_cmp cmp (key_in cmp es k) q) (Some (key_in cmp es k, v)) (entry_at cmp es q)
   unfolding IsStrictlySortedBy

@@ -138,7 +138,7 @@ module _ {K V : Type 0} {cmp : K → K → Ordering} (o : IsTotalOrder cmp) wher
   IsMap-option j None es g = IsMap-without_key cmp j es g
   IsMap-option j (Some v) es g = IsMap-with_value o j v es g
 
-  -- what is noted at a key, as it stands there, is noted in the list
+  -- a note at a key, as it is in the list, is noted in the list
   pub merged-noted : (k : K) (x : Option V) (kept u : List (K × V)) → IsMap cmp kept → IsMap cmp u
       → merged cmp (with_option cmp (key_in cmp (merged cmp kept u) k) x kept) (without_key cmp k u) ≡ with_option cmp k x (merged cmp kept u)
   merged-noted k None kept u g h =

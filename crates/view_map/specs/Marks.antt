@@ -7,14 +7,15 @@ use Rattle.maps.specs.Maps.{IsMap, has_key, with_value}
 use Rattle.view_map.specs.View.{View}
 use Rattle.view_map.specs.Walk.{merged}
 
--- the marked entries, what is kept of those that changed or left, how many freezes there were, and how many entries are frozen
+-- the marked entries, the kept entries of keys that changed or left since the freeze,
+-- the number of freezes, and the number of frozen entries
 pub record Marks (K V : Type 0) : Type 0 where
   pub live : List (K × (V × ℕ))
   pub kept : List (K × V)
   pub mark : ℕ
   pub frozen_len : ℕ
 
--- the value of a marked entry, where it has not changed since the freeze
+-- the value of a marked entry, if it has not changed since the freeze
 abbrev pub unchanged_value : {V : Type 0} → ℕ → V × ℕ → Option V
 unchanged_value mark m = if m.1 == mark then None else Some m.0
 
@@ -23,7 +24,7 @@ module _ {K V : Type 0} where
   abbrev pub values_in : List (K × (V × ℕ)) → List (K × V)
   values_in es = map (λ e. (e.0, e.1.0)) es
 
-  -- those that have not changed since the freeze
+  -- the entries that have not changed since the freeze
   abbrev pub unchanged_in : ℕ → List (K × (V × ℕ)) → List (K × V)
   unchanged_in mark es = values_in (filter (λ e. not (e.1.1 == mark)) es)
 
@@ -36,7 +37,7 @@ module _ {K V : Type 0} where
   AllBefore mark es = AllByRecursion (λ m. m.1 < mark) (values_of es)
 
 module _ {K V : Type 0} (cmp : K → K → Ordering) where
-  -- with a value kept at k, where there is one to keep
+  -- with a value kept at k, if there is one to keep
   abbrev pub kept_with : K → Option V → List (K × V) → List (K × V)
   kept_with k None kept = kept
   kept_with k (Some v) kept = with_value cmp k v kept
@@ -45,7 +46,8 @@ module _ {K V : Type 0} (cmp : K → K → Ordering) where
   abbrev pub view_of : Marks K V → View K V
   view_of m = record { live = values_in m.live; frozen = merged cmp m.kept (unchanged_in m.mark m.live) }
 
-  -- each key stands once in each map, in order; nothing is kept of what has not changed; and the frozen entries are counted
+  -- each key occurs once in each map, in order; an unchanged entry has no kept one;
+  -- and the frozen entries are counted
   pub record IsMarked (m : Marks K V) : Type 0 where
     pub live : IsMap cmp m.live
     pub kept : IsMap cmp m.kept

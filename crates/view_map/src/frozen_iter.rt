@@ -9,8 +9,8 @@ use crate::unchanged::Unchanged;
 use std::collections::btree_map::Range;
 use std::marker::Model;
 
-/// What is left of a walk over the frozen entries of a `ViewMap`. Contracts see it as the list of those entries, in the
-/// order of keys. (Own)
+/// The frozen entries of a `ViewMap` that are still to come.
+/// Contracts see the list of those entries, in the order of keys.
 #[derive(Drop)]
 pub struct FrozenIter<'a, K: Ord, V> {
     live: Unchanged<'a, K, V>,
@@ -27,7 +27,7 @@ impl<'a, K: Ord, V> Model for FrozenIter<'a, K, V> {
 }
 
 impl<'a, K: Ord, V> FrozenIter<'a, K, V> {
-    // A walk over a range of the marked entries and the same range of what is kept.
+    // An iterator over a range of the marked entries and the same range of the kept entries.
     pub(crate) fn new(
         mark: u64,
         live: Range<'a, K, (V, u64)>,
@@ -41,7 +41,7 @@ impl<'a, K: Ord, V> FrozenIter<'a, K, V> {
         }
     }
 
-    /// Takes the next entry and shows it where it lies, none at the end. It copies nothing. (Own)
+    /// The next entry by reference, none at the end. It copies nothing.
     #[inline]
     pub fn next_entry(&mut self) -> Option<(&'a K, &'a V)>
         ensures { TakesFirst deref_pair self.old result self.new }

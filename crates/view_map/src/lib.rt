@@ -1,4 +1,4 @@
-//! A map with the list that it was at its last freeze, kept by marks in its entries.
+//! A map with its list at the last freeze, by marks in its entries.
 #![tactic(auto)]
 
 ghost use Rattle.std.specs.Prelude.{◌≡◌, true, [], MatchOption, OnOk, OnErr, IfOk, is_some, length, option_map, unwrap_or, if◌then◌else◌};
@@ -16,23 +16,24 @@ mod live_iter;
 mod peeked;
 mod unchanged;
 
-use coin_frac::NoMemory;
 pub use frozen_iter::FrozenIter;
 pub use live_iter::LiveIter;
 use maps::keys_past;
+use no_memory::NoMemory;
 use std::alloc::Global;
 use std::collections::BTreeMap;
 use std::collections::btree_map::Entry;
 use std::marker::Model;
 
-/// A live list, and a frozen one that no change of the live one alters. Contracts see both as lists in the order of keys. (Own)
+/// A live list, and a frozen list that no change of the live one alters.
+/// Contracts see both as lists in the order of keys.
 #[derive(Drop)]
 pub struct ViewMap<K: Ord, V> {
-    // The live entries, each value with how many freezes there were when it changed.
+    // The live entries, each value with the number of freezes at its last change.
     live: BTreeMap<K, (V, u64)>,
-    // What stood at the last freeze at the keys that have changed or left since.
+    // The frozen entries whose keys changed or left since the last freeze.
     kept: BTreeMap<K, V>,
-    // How many freezes there were.
+    // The number of freezes.
     mark: u64,
     frozen_len: u64,
 }
@@ -58,7 +59,7 @@ impl<K: Ord, V> Model for ViewMap<K, V> {
     }) };
 }
 
-// Puts a value at a key, in one search, and gives the key as it stands in the list with the value that was there.
+// Inserts or replaces a value, in one search. Returns the key in the list and the old value.
 fn replace<K: Copy + Ord, V: Copy>(
     live: &mut BTreeMap<K, V>,
     k: K,
@@ -84,7 +85,7 @@ fn replace<K: Copy + Ord, V: Copy>(
     }
 }
 
-// Puts back what was at a key, in place of the value that is there. It takes no memory.
+// Restores the old value of a key that has one now. It takes no memory.
 fn put_back<K: Copy + Ord, V: Copy>(live: &mut BTreeMap<K, V>, k: &K, before: Option<V>)
     requires present { has_key K.cmp live.old.entries k.now ≡ true }
     ensures { MatchOption before (live.new.entries ≡ without_key K.cmp k.now live.old.entries)
@@ -99,7 +100,7 @@ fn put_back<K: Copy + Ord, V: Copy>(live: &mut BTreeMap<K, V>, k: &K, before: Op
     }
 }
 
-// Keeps what stood at a key at the freeze, where its entry has not changed since.
+// Keeps the entry that a key had at the freeze, if it has not changed since.
 fn keep<K: Copy + Ord, V: Copy>(
     kept: &mut BTreeMap<K, V>,
     mark: u64,
@@ -119,7 +120,7 @@ fn keep<K: Copy + Ord, V: Copy>(
     Ok(())
 }
 
-// Sets what is kept at a key.
+// Sets the kept entry of a key.
 fn set_kept<K: Copy + Ord, V: Copy>(
     kept: &mut BTreeMap<K, V>,
     k: K,
@@ -167,7 +168,7 @@ fn clear_marks<K: Copy + Ord, V: Copy>(live: &mut BTreeMap<K, (V, u64)>)
     });
 }
 
-// The number of the next freeze; past the greatest one the marks begin again.
+// The number of the next freeze. After the greatest number all marks become 0, and it is 1.
 fn next_mark<K: Copy + Ord, V: Copy>(live: &mut BTreeMap<K, (V, u64)>, mark: u64) -> u64
     requires { AllMarked mark live.old.entries }
     ensures marks { AllBefore result live.new.entries }
@@ -199,7 +200,7 @@ fn unchanged_at<K: Copy + Ord, V: Copy>(
     }
 }
 
-// The entry that is kept at a key.
+// The kept entry at a key.
 fn kept_at<K: Copy + Ord, V: Copy>(kept: &BTreeMap<K, V>, k: &K) -> Option<(K, V)>
     ensures { result ≡ entry_at K.cmp kept.now.entries k.now }
 {
@@ -207,7 +208,7 @@ fn kept_at<K: Copy + Ord, V: Copy>(kept: &BTreeMap<K, V>, k: &K) -> Option<(K, V
     Some((*key, *v))
 }
 
-// The key of an entry, and k where there is none.
+// The key of the entry; without one, `k`.
 fn key_or<K: Copy, V: Copy>(entry: Option<(K, V)>, k: K) -> K
     ensures { result ≡ unwrap_or (option_map (λ e. e.0) entry) k }
 {
@@ -217,7 +218,7 @@ fn key_or<K: Copy, V: Copy>(entry: Option<(K, V)>, k: K) -> K
     }
 }
 
-// How many entries there are: one or none.
+// The number of entries: one or none.
 fn count<T>(entry: &Option<T>) -> u64
     ensures { result ≡ (if is_some entry.now then 1 else 0) }
 {
@@ -225,7 +226,7 @@ fn count<T>(entry: &Option<T>) -> u64
 }
 
 impl<K: Copy + Ord, V: Copy> ViewMap<K, V> {
-    /// A map whose lists are empty. (Own)
+    /// A map with empty lists.
     pub fn new(alloc: Global) -> ViewMap<K, V>
         ensures { result ≡ record { live = []; frozen = [] } }
     {
@@ -237,7 +238,7 @@ impl<K: Copy + Ord, V: Copy> ViewMap<K, V> {
         }
     }
 
-    /// The live value at a key, none where there is none. (Own)
+    /// The live value at a key, none without an entry.
     pub fn get(&self, k: &K) -> Option<V>
         ensures value { result ≡ value_at K.cmp self.now.live k.now }
         ensures in_order { IsInOrder K.cmp self.now }
@@ -248,7 +249,7 @@ impl<K: Copy + Ord, V: Copy> ViewMap<K, V> {
         }
     }
 
-    // The entry at a key at the last freeze, its key as it stands there.
+    // The frozen entry at a key, with the key of the list.
     fn frozen_entry(&self, k: &K) -> Option<(K, V)>
         ensures { result ≡ entry_at K.cmp self.now.frozen k.now }
     {
@@ -258,7 +259,7 @@ impl<K: Copy + Ord, V: Copy> ViewMap<K, V> {
         }
     }
 
-    /// The value at a key at the last freeze, none where there was none. (Own)
+    /// The value at a key at the last freeze, none without an entry.
     pub fn frozen_get(&self, k: &K) -> Option<V>
         ensures { result ≡ value_at K.cmp (frozen_of K.cmp self.now) k.now }
     {
@@ -266,7 +267,7 @@ impl<K: Copy + Ord, V: Copy> ViewMap<K, V> {
         Some(v)
     }
 
-    /// Puts a live value at a key, in place of what was there. Want of memory changes nothing. (Own)
+    /// Inserts or replaces the live value at a key. `NoMemory` leaves the map unchanged.
     pub fn put(&mut self, k: K, v: V) -> Result<(), NoMemory>
         ensures ok { OnOk result (self.new ≡ record self.old { live = with_value K.cmp k v self.old.live }) }
         ensures err { OnErr result (self.new ≡ self.old) }
@@ -279,7 +280,8 @@ impl<K: Copy + Ord, V: Copy> ViewMap<K, V> {
         Ok(())
     }
 
-    /// Takes the live entry at a key away and gives its value. None where there is none, which changes nothing; want of memory changes nothing either. (Own)
+    /// Removes the live entry at a key and returns its value; without an entry, no change.
+    /// `NoMemory` leaves the map unchanged.
     pub fn remove(&mut self, k: &K) -> Result<Option<V>, NoMemory>
         ensures value { IfOk result (λ v. v ≡ value_at K.cmp self.old.live k.now) }
         ensures ok { OnOk result (self.new ≡ record self.old { live = without_key K.cmp k.now self.old.live }) }
@@ -294,8 +296,8 @@ impl<K: Copy + Ord, V: Copy> ViewMap<K, V> {
         Ok(Some(before.0))
     }
 
-    /// Sets what was at a key at the last freeze, none for an absence. The live entry stays; want of memory changes
-    /// nothing. (Own)
+    /// Sets the frozen value at a key; none removes it. The live entry stays.
+    /// `NoMemory` leaves the map unchanged.
     pub fn note_first(&mut self, k: K, first: Option<V>) -> Result<(), NoMemory>
         ensures ok { OnOk result (self.new ≡ record self.old { frozen = with_option K.cmp k first self.old.frozen }) }
         ensures err { OnErr result (self.new ≡ self.old) }
@@ -312,7 +314,8 @@ impl<K: Copy + Ord, V: Copy> ViewMap<K, V> {
         Ok(())
     }
 
-    /// Makes the live list the frozen one. It takes no memory, and visits only what was kept, but once in 2^64 freezes. (Own)
+    /// Makes the live list the frozen one. It takes no memory.
+    /// It visits only the kept entries, except once in 2^64 freezes.
     pub fn freeze(&mut self)
         ensures { self.new ≡ record self.old { frozen = self.old.live } }
     {
@@ -321,14 +324,14 @@ impl<K: Copy + Ord, V: Copy> ViewMap<K, V> {
         self.frozen_len = self.live.len() as u64;
     }
 
-    /// The live entries in the order of keys, in one walk. It takes no memory. (Own)
+    /// The live entries in the order of keys, in one pass. It takes no memory.
     pub fn iter(&self) -> LiveIter<'_, K, V>
         ensures { result ≡ self.now.live }
     {
         LiveIter::new(self.live.iter())
     }
 
-    /// The first live entry past a key, or the first of all, in the order of keys; none at the end. (Own)
+    /// The first live entry after a key, or the first of all; none at the end.
     pub fn next(&self, after: Option<&K>) -> Option<(K, V)>
         ensures { result ≡ entry_after K.cmp (option_map (λ k. k.now) after.entry) self.now.live }
     {
@@ -336,8 +339,8 @@ impl<K: Copy + Ord, V: Copy> ViewMap<K, V> {
         Some((*k, *v))
     }
 
-    /// The frozen entries past a key, or all of them, in the order of keys. It searches once, and then goes on step by
-    /// step. It takes no memory. (Own)
+    /// The frozen entries after a key, or all of them, in the order of keys.
+    /// It searches once, then goes on step by step. It takes no memory.
     pub fn frozen_past(&self, after: Option<&K>) -> FrozenIter<'_, K, V>
         ensures { result ≡ entries_past K.cmp (option_map (λ k. k.now) after.entry) (frozen_of K.cmp self.now) }
     {
@@ -346,14 +349,14 @@ impl<K: Copy + Ord, V: Copy> ViewMap<K, V> {
         FrozenIter::new(self.mark, live, kept)
     }
 
-    /// The first frozen entry past a key, or the first of all, in the order of keys; none at the end. (Own)
+    /// The first frozen entry after a key, or the first of all; none at the end.
     pub fn frozen_next(&self, after: Option<&K>) -> Option<(K, V)>
         ensures { result ≡ entry_after K.cmp (option_map (λ k. k.now) after.entry) (frozen_of K.cmp self.now) }
     {
         self.frozen_past(after).next()
     }
 
-    /// How long the frozen list is. (Own)
+    /// The length of the frozen list.
     pub fn frozen_len(&self) -> u64
         ensures len { result ≡ length (frozen_of K.cmp self.now) }
         ensures in_order { IsMap K.cmp (frozen_of K.cmp self.now) }
@@ -362,8 +365,9 @@ impl<K: Copy + Ord, V: Copy> ViewMap<K, V> {
     }
 }
 
-/// Does nothing. Its clause is a law: a live map with what differs noted is the other map, where keys that compare as equal
-/// are equal; so after a freeze and a note of each difference the frozen list is the other map. (Own)
+/// Does nothing. Its clause is a law, for keys that are equal if they compare as equal.
+/// A live map with each difference to another map noted is the other map.
+/// So after a freeze and a note of each difference the frozen list is the other map.
 pub fn noted_are_frozen<K: Ord, V>()
     ensures { NotedAreFrozen V K.cmp }
 {}

@@ -6,8 +6,8 @@ ghost use Rattle.view_map.specs.Marks.{values_in};
 use std::collections::btree_map::Iter;
 use std::marker::Model;
 
-/// What is left of a walk over the live entries of a `ViewMap`. Contracts see it as the list of those entries, in the order
-/// of keys. (Own)
+/// The live entries of a `ViewMap` that are still to come.
+/// Contracts see the list of those entries, in the order of keys.
 #[derive(Drop)]
 pub struct LiveIter<'a, K, V> {
     rest: Iter<'a, K, (V, u64)>,
@@ -23,7 +23,7 @@ impl<'a, K, V> Model for LiveIter<'a, K, V> {
 }
 
 impl<'a, K, V> LiveIter<'a, K, V> {
-    // A walk over marked entries.
+    // An iterator over marked entries.
     pub(crate) fn new(rest: Iter<'a, K, (V, u64)>) -> LiveIter<'a, K, V>
         ensures { result ≡ values_in rest.entry }
     {

@@ -4,7 +4,7 @@ ghost use Rattle.std.specs.Map.Iter.{TakesFirst, deref_pair};
 use std::collections::btree_map::Range;
 use std::marker::Model;
 
-// A range of a map that shows its first entry. Contracts see it as the list of its entries.
+// A range of a map that shows its first entry. Contracts see the list of its entries.
 #[derive(Drop)]
 pub(crate) struct Peeked<'a, K, V> {
     first: Option<(&'a K, &'a V)>,
@@ -39,7 +39,7 @@ impl<'a, K, V> Peeked<'a, K, V> {
         self.first
     }
 
-    // Takes the first entry, none at the end.
+    // Removes and returns the first entry, none at the end.
     #[inline]
     pub(crate) fn next(&mut self) -> Option<(&'a K, &'a V)>
         ensures { TakesFirst deref_pair self.old result self.new }

@@ -7,8 +7,8 @@ use std::cmp::Ordering;
 use std::collections::btree_map::Range;
 use std::marker::Model;
 
-// What is left of a range of marked entries that have not changed since the freeze. It shows the first of them.
-// Contracts see it as their list.
+// The rest of a range: its entries that have not changed since the freeze. It shows the first.
+// Contracts see the list of those entries.
 #[derive(Drop)]
 pub(crate) struct Unchanged<'a, K, V> {
     mark: u64,
@@ -29,7 +29,7 @@ impl<'a, K, V> Model for Unchanged<'a, K, V> {
     ghost invariant = { λ a. IfNone a.first (unchanged_in a.mark a.rest ≡ []) };
 }
 
-// Takes the entries up to the first that has not changed since the freeze, and gives that; none at the end.
+// The next entry that has not changed since the freeze, none at the end. It skips the changed ones.
 fn next_unchanged<'a, K, V>(mark: u64, rest: &mut Range<'a, K, (V, u64)>) -> Option<(&'a K, &'a V)>
     ensures { TakesFirst deref_pair (unchanged_in mark rest.old) result (unchanged_in mark rest.new) }
 {
@@ -57,7 +57,7 @@ impl<'a, K, V> Unchanged<'a, K, V> {
         self.first
     }
 
-    // Takes the first entry, none at the end.
+    // Removes and returns the first entry, none at the end.
     #[inline]
     pub(crate) fn next(&mut self) -> Option<(&'a K, &'a V)>
         ensures { TakesFirst deref_pair self.old result self.new }
@@ -69,7 +69,7 @@ impl<'a, K, V> Unchanged<'a, K, V> {
 }
 
 impl<'a, K: Ord, V> Unchanged<'a, K, V> {
-    // Takes the first entry, where it comes before a key. It passes over one at the key.
+    // Removes and returns the first entry if it is before a key. It drops an entry at the key.
     pub(crate) fn next_before(&mut self, key: &K) -> Option<(&'a K, &'a V)>
         ensures { (option_map deref_pair result, self.new) ≡ taken_before K.cmp key.now self.old }
     {

@@ -51,7 +51,9 @@ impl<'a> ItemRules for Votes<'a> {
     }
 }
 
-/// The first of the rules on votes that the transaction breaks, if there is one, with the place of the vote. Voters are those of the draft, which is to be the one after all certificates; live proposals are those of the ledger before the transaction. It takes no memory. (CIP-1694, Votes; GOV of the formal specification; that live proposals are those before the transaction is own)
+/// The first broken rule on votes, if any, with the vote's index. It takes no memory. Voters are of
+/// the draft after all certificates; live proposals are of the ledger before the transaction.
+/// (CIP-1694, Votes; GOV of the formal specification; that live proposals are those before is own)
 pub fn check(d: &Draft, tx: &Tx) -> Result<(), Rule>
     requires { is_within_limits tx.now ≡ true }
     ensures { result ≡ answer_of (per_place (vote_checks d.now.start d.now.ledger) tx.now.votes) }

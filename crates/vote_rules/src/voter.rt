@@ -4,7 +4,8 @@ ghost use Rattle.ledger_model.specs.ProposalRules.{is_known_voter, is_unseated};
 use gov_ids::Voter;
 use live_ledger::Draft;
 
-/// Whether a voter may vote at all: it is a hot key of some cold key, a registered DRep or a registered pool. (CIP-1694, Votes)
+/// Whether a voter may vote at all: a hot key, a registered DRep or a registered pool.
+/// (CIP-1694, Votes)
 pub fn is_known_voter(d: &Draft, voter: &Voter) -> bool
     ensures { result ≡ is_known_voter d.now.ledger voter.now }
 {

@@ -18,7 +18,9 @@ use snapshots::Frozen;
 use std::alloc::Global;
 
 impl LedgerState {
-    /// The state in which the epoch of these books begins: all that its pass will read is frozen, and its count, for so many workers, has visited none. It takes all memory of the epoch's count. After want of memory there is no state. (NEWEPOCH of the formal specification; the DRep pulser of cardano-ledger)
+    /// The state in which these books' epoch begins: what its pass reads is frozen, and a count for
+    /// so many workers has all its memory and no visits. After `NoMemory` there is no state.
+    /// (NEWEPOCH of the formal specification; the DRep pulser of cardano-ledger)
     pub fn begin_epoch(alloc: Global, b: Books, workers: u32) -> Result<LedgerState, NoMemory>
         requires some { 1 ≤ workers }
         requires few { workers ≤ 64 }
@@ -54,7 +56,7 @@ fn begun_with(alloc: Global, b: Books, f: Boxed<Frozen>, p: Pulser) -> Result<Le
     }
 }
 
-/// What is frozen of these books, whose live entries are the frozen ones, in memory of its own, and the count of it, with none visited.
+/// A copy of what is frozen, where the live entries are the frozen ones, and its unvisited count.
 fn begun_parts(
     alloc: Global,
     books: &Books,

@@ -12,7 +12,8 @@ use draft_changes::Changes;
 use tx_records::Tx;
 
 impl LedgerState {
-    /// The state after an allowed transaction, whose changes these are; all that epochs add stays. After want of memory there is no state. (UTXO and LEDGER of the formal specification)
+    /// The state after an allowed transaction with these changes; all that epochs add stays.
+    /// `NoMemory`: there is no state. (UTXO and LEDGER of the formal specification)
     pub fn commit(self, changes: Changes, tx: &Tx) -> Result<LedgerState, NoMemory>
         requires within { is_within_limits tx.now ≡ true }
         requires allowed { is_allowed self.ledger tx.now ≡ true }

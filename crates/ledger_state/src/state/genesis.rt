@@ -15,7 +15,8 @@ use std::alloc::Global;
 use tx_records::Genesis;
 
 impl LedgerState {
-    /// The state of a genesis that breaks no genesis rule, its epoch frozen, and its count, for so many workers, begun; otherwise the first rule that it breaks, or `NoMemory`, which may come at any time. (Own)
+    /// The state of a genesis, its epoch frozen, and its count, for so many workers, begun.
+    /// Errors: the first genesis rule that it breaks, or `NoMemory`, which may come at any time.
     pub fn from_genesis(
         alloc: Global,
         genesis: &Genesis,
@@ -32,7 +33,7 @@ impl LedgerState {
     }
 }
 
-/// The books of a first ledger: mark has the stakes of its pools, and the two snapshots before are empty.
+/// The books of a first ledger. Mark has its pools' stakes; the two older snapshots are empty.
 fn first_books(alloc: Global, live: LiveLedger) -> Result<Books, NoMemory>
     ensures ledger { IfOk result (λ b. ledger_of_books b ≡ live.ledger) }
     ensures marks { IfOk result (λ b. b.snapshots ≡ record { mark = pool_stakes live.ledger; set = []; go = []; fees = 0 }) }

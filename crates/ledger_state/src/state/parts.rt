@@ -11,7 +11,8 @@ use snapshots::Frozen;
 use std::alloc::Global;
 
 impl LedgerState {
-    /// The parts of the state: its books, its frozen copy and its count, of which it can be made again. It takes no memory. (Own)
+    /// The books, the frozen copy and the count, of which the state can be made again.
+    /// It takes no memory.
     pub fn into_books(self) -> (Books, Frozen, Pulser)
         ensures world { world_of_parts result.0 result.1 result.2 ≡ self }
         ensures held { IsHeldBy self result.1 result.2 }
@@ -28,7 +29,7 @@ impl LedgerState {
         (books, frozen.into_value(), pulser)
     }
 
-    /// The state of these parts. It takes no memory. (Own)
+    /// The state of these parts. It takes no memory.
     pub fn from_books(alloc: Global, b: Box<Books>, f: Boxed<Frozen>, p: Pulser) -> LedgerState
         requires { IsHeldBy (world_of_parts b.value f p) f p }
         ensures { result ≡ world_of_parts b.value f p }

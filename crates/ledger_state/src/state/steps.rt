@@ -16,14 +16,17 @@ use tx_records::rules::{
 use tx_records::{Reply, Rewards, Rule};
 
 impl LedgerState {
-    /// The first rule that a block of this slot breaks, or whether it begins the next epoch. (TICK of the formal specification; the rules are own)
+    /// The first rule that a block of this slot breaks, or whether it begins the next epoch.
+    /// (TICK of the formal specification; the rules are own)
     pub fn check_block(&self, slot: u64, pulse: u32) -> Result<bool, Rule>
         ensures { result ≡ block_answer self.now.ledger slot pulse }
     {
         answer(self.live(), slot, pulse)
     }
 
-    /// The state after a block that does not begin the next epoch, which counts the next `pulse` frozen entries, and its reply; that of a refused block is the one that was given. It takes no memory. (TICK of the formal specification; the DRep pulser of cardano-ledger)
+    /// The state after a block within the epoch that counts the next `pulse` entries; its reply.
+    /// A refused block changes nothing. It takes no memory.
+    /// (TICK of the formal specification; the DRep pulser of cardano-ledger)
     pub fn block(self, slot: u64, pulse: u32) -> (LedgerState, Reply)
         requires early { slot < 2 ^ 62 }
         requires current { StaysInEpoch self.ledger slot pulse }
@@ -97,7 +100,9 @@ impl LedgerState {
         Ok(())
     }
 
-    /// The state after a reward update, which is pending then with its rewards in order of credential, and its reply; that of a refused update is the one that was given. After want of memory there is no state. (RewardUpdate of the formal specification; that it is a record is own)
+    /// Makes a reward update pending, its rewards by credential; returns the state and the reply.
+    /// A refused update changes nothing. After an out-of-memory error there is no state.
+    /// (RewardUpdate of the formal specification; that it is a record is own)
     pub fn rewards(self, update: &Rewards) -> Result<(LedgerState, Reply), NoMemory>
         requires { is_within_limits (records.Rewards update.now) ≡ true }
         ensures { IfOk result (λ r. r ≡ step self (records.Rewards update.now)) }

@@ -18,7 +18,7 @@ ghost use Rattle.live_ledger.specs.Standing.{on_ledger};
 ghost use Rattle.maps.specs.Maps.{IsMap, value_at, without_keys};
 ghost use Rattle.stake_book.specs.Stakes.{accounts_of, balances_in};
 ghost use Rattle.tx_records.specs.TxLimits.{is_within_limits};
-ghost use Rattle.tx_records.specs.declared.limits.TheConstants.{SUPPLY_LIMIT};
+ghost use Rattle.coin_frac.specs.declared.TheConstants.{SUPPLY_LIMIT};
 ghost use Rattle.tx_records.specs.declared.tx.ProposalRecord.{ProposalRecord};
 ghost use Rattle.tx_records.specs.declared.tx.TxOutput.{TxOutput};
 
@@ -34,7 +34,8 @@ use std::alloc::Global;
 use tx_records::{Scripts, Tx};
 
 impl LiveLedger {
-    /// The ledger after an allowed transaction, whose changes these are. What was frozen stays. After want of memory there is no ledger. (UTXO and LEDGER of the formal specification)
+    /// The ledger after an allowed transaction with these changes; frozen entries remain.
+    /// After `NoMemory` there is no ledger. (UTXO and LEDGER of the formal specification)
     pub fn commit(self, changes: Changes, tx: &Tx) -> Result<LiveLedger, NoMemory>
         requires within { is_within_limits tx.now ≡ true }
         requires allowed { is_allowed self.ledger tx.now ≡ true }
@@ -92,7 +93,8 @@ impl LiveLedger {
     }
 }
 
-/// Changes the books as an allowed transaction says whose scripts did not fail: its changes are laid over them, its inputs are spent, its outputs are made, its votes and then its proposals join the others, and its fee and donation their pots. After want of memory the caller drops the books.
+/// Applies an allowed transaction whose scripts did not fail: changes, inputs, outputs, votes,
+/// then proposals; fee and donation join their pots. After `NoMemory` the caller drops the books.
 fn pass(alloc: Global, b: &mut Books, changes: Changes, tx: &Tx) -> Result<(), NoMemory>
     requires kept { IsLiveLedger (ledger_of_books b.old) }
     requires within { is_within_limits tx.now ≡ true }
@@ -111,7 +113,8 @@ fn pass(alloc: Global, b: &mut Books, changes: Changes, tx: &Tx) -> Result<(), N
     Ok(())
 }
 
-/// Changes the books as an allowed transaction says whose scripts failed: its collateral is spent, and what the return leaves of it joins the fees. After want of memory the caller drops the books.
+/// Applies an allowed transaction whose scripts failed: its collateral is spent,
+/// and the fees grow by what its return leaves. After `NoMemory` the caller drops the books.
 fn fail(alloc: Global, b: &mut Books, tx: &Tx) -> Result<(), NoMemory>
     requires kept { IsLiveLedger (ledger_of_books b.old) }
     requires within { is_within_limits tx.now ≡ true }
@@ -126,7 +129,8 @@ fn fail(alloc: Global, b: &mut Books, tx: &Tx) -> Result<(), NoMemory>
     Ok(())
 }
 
-/// Changes the outputs and the proposals as an allowed transaction says, over which its changes are laid. After want of memory the caller drops both.
+/// Spends inputs, makes outputs, casts votes and adds proposals of an allowed transaction,
+/// whose changes are laid over the books before. After `NoMemory` the caller drops both.
 fn apply(
     alloc: Global,
     last: u64,
@@ -154,7 +158,7 @@ fn apply(
     Ok(())
 }
 
-/// What the collateral return of a transaction gives back, 0 where it has none, in lovelace.
+/// What the collateral return of a transaction gives back, in lovelace; 0 if it has none.
 fn returned(tx: &Tx) -> u64
     ensures { result ≡ returned tx.now }
 {

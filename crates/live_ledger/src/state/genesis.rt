@@ -24,7 +24,8 @@ use std::alloc::Global;
 use tx_records::Genesis;
 
 impl LiveLedger {
-    /// The ledger of a genesis that breaks no genesis rule; its own account entries frozen; otherwise the first rule that it breaks, or `NoMemory`, which may come at any time. (Own)
+    /// The ledger of a genesis that breaks no genesis rule, with its own account entries frozen.
+    /// Errors: the first rule that it breaks, or `NoMemory`, which may come at any time.
     pub fn from_genesis(alloc: Global, genesis: &Genesis) -> Result<LiveLedger, GenesisFault>
         requires within { is_within_limits genesis.now ≡ true }
         ensures { StartsAs result genesis.now }
@@ -57,7 +58,7 @@ impl LiveLedger {
                 Ok(LiveLedger { alloc, books })
             }
             Err(error) => {
-                // let go in one call: a `?` would prove it part by part
+                // dropped in one call: a `?` would prove it part by part
                 drop(state);
                 Err(error.into())
             }
@@ -65,7 +66,7 @@ impl LiveLedger {
     }
 }
 
-/// These books, in memory of their own.
+/// These books in a box.
 fn boxed(alloc: Global, books: Books) -> Result<Box<Books>, NoMemory>
     ensures { IfOk result (λ boxed. boxed.value ≡ books) }
 {
@@ -98,7 +99,7 @@ fn first_books(
     }
 }
 
-/// What can be enacted, at the start, in memory of its own.
+/// What can be enacted, at the start, in a box.
 fn first_state(alloc: Global, genesis: &Genesis) -> Result<Boxed<EnactState>, NoMemory>
     ensures { IfOk result (λ state. state ≡ state_of_genesis genesis.now) }
 {

@@ -12,7 +12,7 @@ use std::mem;
 use tx_records::Rewards;
 
 impl LiveLedger {
-    /// The parts of the ledger, beside these snapshots and this pending update. It takes no memory. (Own)
+    /// The ledger's parts, with these snapshots and this pending update. It takes no memory.
     pub fn into_books(self, snapshots: Snapshots, pending: Option<Rewards>) -> Books
         ensures ledger { ledger_of_books result ≡ self.ledger }
         ensures frozen { frozen_entries result ≡ self.frozen }
@@ -27,7 +27,7 @@ impl LiveLedger {
         }
     }
 
-    /// The ledger of these parts, and those that are none of it. It takes no memory. (Own)
+    /// The ledger of these parts, and the parts outside it. It takes no memory.
     pub fn of_books(alloc: Global, b: Box<Books>) -> (LiveLedger, Snapshots, Option<Rewards>)
         requires { IsLiveLedger (ledger_of_books b.value) }
         ensures ledger { result.0.ledger ≡ ledger_of_books b.value }
@@ -54,7 +54,7 @@ impl LiveLedger {
     }
 }
 
-/// The stakes of no pool, and no fees. (Own)
+/// The stakes of no pool, and no fees.
 pub(crate) fn no_snapshots(alloc: Global) -> Snapshots {
     Snapshots {
         mark: Listed::new(alloc),

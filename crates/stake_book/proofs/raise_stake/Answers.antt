@@ -1,7 +1,7 @@
 use Rattle.std.proofs.Common.{◌+◌, ◌≤◌, Option, refl, ap, subst, arith}
 use Rattle.gov_ids.specs.declared.Credential.{Credential}
 use Rattle.book_records.specs.declared.Entry.{Entry}
-use Rattle.tx_records.specs.declared.limits.TheConstants.{SUPPLY_LIMIT}
+use Rattle.coin_frac.specs.declared.TheConstants.{SUPPLY_LIMIT}
 use Rattle.accounts.specs.Accounts.{with_entry}
 use Rattle.stake_book.specs.Stakes.{stake_at, registered_at, with_stake}
 use Rattle.stake_book.specs.Sums.{weight_of, weight_in}

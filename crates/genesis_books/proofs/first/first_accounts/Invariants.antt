@@ -1,6 +1,6 @@
 use Rattle.std.proofs.Common.{◌≡◌, ◌+◌, ◌≤◌, [], drop, sum_by}
 use Rattle.stake_book.specs.Stakes.{accounts_of, balances_in}
-use Rattle.tx_records.specs.declared.limits.TheConstants.{SUPPLY_LIMIT}
+use Rattle.coin_frac.specs.declared.TheConstants.{SUPPLY_LIMIT}
 use Rattle.genesis_books.proofs.FirstBook.{listed_rewards, with_listed}
 use Rattle.genesis_books.proofs.first.first_accounts.Given as goal
 

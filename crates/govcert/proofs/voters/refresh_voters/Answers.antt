@@ -8,7 +8,7 @@ use Rattle.govcert.specs.Acted.{acted_all}
 use Rattle.govcert.proofs.Acting.{all_acted, next_acts}
 use Rattle.govcert.proofs.voters.refresh_voters.Goals as goal
 
--- what stands past the end of the votes
+-- what is past the end of the votes
 abbrev some_vote : VoteRecord
 some_vote = record { voter = voter.Committee (record { hash = []; kind = Key }); action = record { tx = record { 0 = [] }; index = 0 }; vote = Yes }
 

@@ -2,7 +2,7 @@ use Rattle.std.proofs.Common.{◌≡◌, ◌+◌, ◌≤◌, List, None, ap, sub
 use Rattle.gov_ids.specs.declared.OutRef.{OutRef}
 use Rattle.gov_ids.specs.Orders.{outref_cmp}
 use Rattle.book_records.specs.declared.Output.{Output}
-use Rattle.tx_records.specs.declared.limits.TheConstants.{SUPPLY_LIMIT}
+use Rattle.coin_frac.specs.declared.TheConstants.{SUPPLY_LIMIT}
 use Rattle.maps.specs.Maps.{value_at, without_key}
 use Rattle.utxo_set.specs.Utxos.{Utxos}
 use Rattle.accounts.specs.Accounts.{Accounts}

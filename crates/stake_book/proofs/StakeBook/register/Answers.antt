@@ -5,7 +5,7 @@ use Rattle.book_records.specs.Outputs.{lovelace_in}
 use Rattle.book_records.specs.declared.Registered.{Registered}
 use Rattle.maps.specs.Maps.{IsMap}
 use Rattle.book_records.specs.declared.Entry.{Entry}
-use Rattle.tx_records.specs.declared.limits.TheConstants.{SUPPLY_LIMIT}
+use Rattle.coin_frac.specs.declared.TheConstants.{SUPPLY_LIMIT}
 use Rattle.maps.specs.Replaced.{with_option}
 use Rattle.accounts.specs.Accounts.{Accounts, with_entry, entered}
 use Rattle.stake_book.specs.Stakes.{Stakes, AreKept, HasRoom, registrations, accounts_of, balances_in, stake_at, whole_entry, with_account}

@@ -2,7 +2,7 @@ use Rattle.std.proofs.Common.{◌-◌, ◌≤◌, Option, ap, subst, sym, ◌∙
 use Rattle.std.specs.Option.{option_and_then}
 use Rattle.gov_ids.specs.Orders.{outref_cmp}
 use Rattle.book_records.specs.declared.Output.{Output}
-use Rattle.tx_records.specs.declared.limits.TheConstants.{SUPPLY_LIMIT}
+use Rattle.coin_frac.specs.declared.TheConstants.{SUPPLY_LIMIT}
 use Rattle.maps.specs.Maps.{value_at, without_key}
 use Rattle.accounts.specs.Accounts.{Accounts}
 use Rattle.stake_book.specs.Stakes.{Stakes, AreKept, registrations, accounts_of, stake_at, stake_held, with_stake, spent}

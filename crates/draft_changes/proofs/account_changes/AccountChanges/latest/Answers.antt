@@ -2,7 +2,7 @@ use Rattle.std.proofs.Common.{◌≡◌, Option, Some, None, cond, option_map, u
 use Rattle.gov_ids.specs.Derived.{credential_is}
 use Rattle.gov_ids.specs.Orders.{credential_cmp}
 use Rattle.book_records.specs.declared.Registered.{Registered}
-use Rattle.ledger_model.specs.Changes.{without_drep}
+use Rattle.book_records.specs.Delegations.{without_drep}
 use Rattle.maps.specs.Maps.{IsMap, value_at}
 use Rattle.stake_book.specs.Stakes.{delegates_to_dreps}
 use Rattle.draft_changes.specs.ChangedAccounts.{ChangedAccounts}
@@ -18,7 +18,7 @@ pub returns-in-None-clause-in_order : goal.returns-in-None-clause-in_order
 returns-in-None-clause-in_order c =
     subst (λ (a : ChangedAccounts). IsMap credential_cmp a.accounts) c.self.view_is (IsMap-mapped (stands c.self.inside.left.entries) credential_cmp c.self.inside.entries.entries c.self.invariant.entries_map)
 
--- the registration where no change stands: as it was before, without a delegation that ended
+-- the registration if there is no change: as it was before, without a delegation that ended
 abbrev or_before : ChangedAccounts → Option (Option Registered) → Option Registered → Option Registered
 or_before a o before = unwrap_or o (option_map (λ (r : Registered). cond (delegates_to_dreps a.left r) (without_drep r) r) before)
 

@@ -3,7 +3,7 @@ use Rattle.gov_ids.specs.declared.Credential.{Credential}
 use Rattle.gov_ids.specs.Orders.{credential_cmp}
 use Rattle.book_records.specs.declared.Registered.{Registered}
 use Rattle.maps.specs.Maps.{IsMap, value_at}
-use Rattle.ledger_model.specs.Changes.{without_drep}
+use Rattle.book_records.specs.Delegations.{without_drep}
 use Rattle.ledger_model.specs.Ledger.{account_at}
 use Rattle.stake_book.specs.Stakes.{delegates_to_dreps}
 use Rattle.live_ledger.specs.Drafts.{Drafted}
