@@ -2,8 +2,9 @@
 docs/use/formats.md, Text.
 
 A record has `line`, the number of the line that is answered, and `event`, the first word of the
-text; the summary of `load` and the text of `shortfall` have no `line`. `line`, `at` (an index) and
-`rule` (the number of a rule) are numbers; all else is text, amounts as their digits."""
+text; the summary of `load` and the texts of `shortfall` and `outlook` have no `line`. `line`, `at`
+(an index) and `rule` (the number of a rule) are numbers; all else is text, amounts as their
+digits."""
 
 import re
 
@@ -46,7 +47,7 @@ FORMS = {
     "pending": ["pending <update>", "pending reward <cred> <amount>", "pending reserves <reserves> fees <fees> treasury <treasury>"],
 }
 COUNT = "yes <yes> of <total> need <need>"
-# the summary of `load`, and the text of `shortfall`: their lines have no number
+# the summary of `load`, and the texts of `shortfall` and `outlook`: their lines have no number
 SUMMARY = {
     "load": ["load seed <seed> accounts <accounts> epochs <epochs>"],
     "records": ["records <records> accepted <accepted> refused <refused> blocks <blocks>"],
@@ -57,6 +58,8 @@ SUMMARY = {
         f"shortfall <id> <answer> <votes> {COUNT} short <short>",
     ],
     "add": ["add <cred> <stake>"],
+    "epoch": FORMS["epoch"],
+    "tally": FORMS["tally"],
     "ratified": ["ratified <ratified> expired <expired> waiting <waiting>"],
     "pots": FORMS["pots"],
 }

@@ -26,7 +26,7 @@ VISIBLE = r"pub(?:\([a-z]+\))? "
 FUNCTION = re.compile(rf"^(?P<indent> *)(?P<words>(?:{VISIBLE}|const |unsafe )*)fn (?P<name>\w+)", re.M)
 BLOCK = re.compile(rf"^(?P<visible>{VISIBLE})?(?P<kind>impl|trait)\b(?P<head>[^{{;]*)\{{", re.M)
 # what is before the brace of a clause
-CLAUSE = re.compile(r"\b(?:requires|ensures)(?:\s+\w+\*?|\s*\*)?\s*$")
+CLAUSE = re.compile(r"\b(?:(?:requires|ensures)(?:\s+\w+\*?|\s*\*)?|ghost\s+\w+:)\s*$")
 
 
 class Function(NamedTuple):

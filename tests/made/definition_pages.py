@@ -1,7 +1,7 @@
 """docs/read/definitions.md."""
 
 from made.entries import PAGES, Book
-from made.markdown import code, counted, folded, listed, slug, table
+from made.markdown import code, counted, folded, listed, slug, table, to_line
 from made.pinned import Pinned
 from made.specs import CRATES, TOP, crates
 
@@ -14,7 +14,7 @@ MOST = 8
 
 
 def source_link(definition, text):
-    return f"[{text}](../../{definition.file.relative_to(TOP)}#L{definition.line})"
+    return f"[{text}](../../{definition.file.relative_to(TOP)}{to_line(definition.line)})"
 
 
 def place_link(definition):

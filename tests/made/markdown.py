@@ -28,3 +28,8 @@ def listed(names):
 
 def counted(number, word):
     return f"{number} {word}" if number == 1 else f"{number} {word}s"
+
+
+def to_line(line):
+    """The end of a link to a line of a file. The first lines are seen without one."""
+    return f"#L{line}" if line and line >= 10 else ""

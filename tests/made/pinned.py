@@ -9,7 +9,7 @@ from made.specs import CRATES, TOP, crates, imports_of, names_in
 from mistakes.trials import WRONG, wrong_in
 
 # the modules of rows that are on definitions themselves
-ROWS = [CRATES / it / "proofs/DefinitionRows.antt" for it in ("ledger_rows", "further_rows")]
+ROWS = [CRATES / "ledger_rows/proofs/DefinitionRows.antt", *(CRATES / f"further_rows/proofs/{it}.antt" for it in ("UndoRows", "FormRows", "WidthRows", "CommandRows"))]
 ROW = re.compile(r"^pub (\w+) ", re.M)
 
 

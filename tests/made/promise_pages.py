@@ -5,7 +5,7 @@ from typing import NamedTuple
 
 from made.contracts import exported_by, functions_of, is_given, sources_of
 from made.entries import PAGES
-from made.markdown import code, table
+from made.markdown import code, table, to_line
 from made.specs import CRATES, TOP
 
 BODIES = TOP / "tests/mistakes/bodies"
@@ -93,7 +93,7 @@ class Crate:
 
 def source_link(crate, file, line=None):
     short, at = file.relative_to(CRATES / crate), f":{line}" if line else ""
-    return f"[{short}{at}](../../{file.relative_to(TOP)}{f'#L{line}' if line else ''})"
+    return f"[{short}{at}](../../{file.relative_to(TOP)}{to_line(line)})"
 
 
 def contract_text(function):
