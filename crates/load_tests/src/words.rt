@@ -148,7 +148,7 @@ const WRONG: [&str; 40] = [
 ];
 
 /// Words of each command, and words of none.
-const COMMANDS: [(&str, Option<Command>); 24] = [
+const COMMANDS: [(&str, Option<Command>); 27] = [
     ("replay", Some(Command::Replay { workers: 1 })),
     ("replay --workers 2", Some(Command::Replay { workers: 2 })),
     ("checkpoint", Some(Command::Checkpoint { workers: 1 })),
@@ -168,6 +168,8 @@ const COMMANDS: [(&str, Option<Command>); 24] = [
     ),
     ("follow", Some(Command::Follow { workers: 1 })),
     ("follow --workers 6", Some(Command::Follow { workers: 6 })),
+    ("outlook", Some(Command::Outlook { workers: 1 })),
+    ("outlook --workers=7", Some(Command::Outlook { workers: 7 })),
     ("check --workers 1", None),
     ("check x", None),
     ("check ", None),
@@ -176,6 +178,7 @@ const COMMANDS: [(&str, Option<Command>); 24] = [
     ("certify --workers 2 --workers 2", None),
     ("shortfall --workers", None),
     ("follow --seed 7", None),
+    ("outlook 2", None),
     ("load", None),
     ("Check", None),
     ("", None),
