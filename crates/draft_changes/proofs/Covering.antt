@@ -12,7 +12,7 @@ use Rattle.maps.proofs.Same.{map_from_value_at}
 use Rattle.maps.specs.Maps.{IsMap, entries_where, has_key, value_at, with_value, without_key}
 use Rattle.maps.specs.Replaced.{with_option}
 use Rattle.draft_changes.specs.Covered.{covered_entries}
-use Rattle.draft_changes.proofs.Laid.{IsMap-with_option, value_at-with_option}
+use Rattle.maps.proofs.Replaced.{IsMap-with_option, value_at-with_option}
 
 -- no change covers anything
 pub nothing_covered : {K X : Type 0} (cmp : K → K → Ordering) (es : List (K × X)) → covered_entries cmp [] es ≡ []

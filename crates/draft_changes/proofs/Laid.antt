@@ -9,8 +9,9 @@ use Rattle.std.specs.Map.{keys_of}
 use Rattle.std.specs.Option.{option_or}
 use Rattle.std.proofs.lemmas.Cmp.{eq_by_cmp_equiv}
 use Rattle.std.proofs.lemmas.Map.Keys.{IsDistinct-from_sorted}
-use Rattle.maps.proofs.Kept.{IsMap-with_value, IsMap-with_values, IsMap-without_key}
-use Rattle.maps.proofs.Lookups.{none_below, value_at-with_value, value_at-without_key}
+use Rattle.maps.proofs.Kept.{IsMap-with_value, IsMap-with_values}
+use Rattle.maps.proofs.Lookups.{none_below, value_at-with_value}
+use Rattle.maps.proofs.Replaced.{IsMap-with_option, value_at-with_option}
 use Rattle.maps.proofs.Same.{map_from_value_at}
 use Rattle.maps.proofs.Several.{value_at-with_values_distinct}
 use Rattle.maps.proofs.Ties.{all_tied, is_equal}
@@ -43,29 +44,21 @@ module _ {K X : Type 0} {cmp : K → K → Ordering} (o : IsTotalOrder cmp) wher
       ∙ ap (λ (x : Option X). cond (eq_by_cmp cmp k q) (Some v) x) (sym (value_at-with_map new es q g))
       ∙ sym (value_at-with_value o k v (with_values cmp new es) q))
 
-  pub value_at-with_option : (k : K) (r : Option X) (es : List (K × X)) (q : K) → IsMap cmp es → value_at cmp (with_option cmp k r es) q ≡ cond (eq_by_cmp cmp k q) r (value_at cmp es q)
-  value_at-with_option k None es q h = value_at-without_key o k es q h
-  value_at-with_option k (Some v) es q h = value_at-with_value o k v es q
-
-  pub IsMap-with_option : (k : K) (r : Option X) (es : List (K × X)) → IsMap cmp es → IsMap cmp (with_option cmp k r es)
-  IsMap-with_option k None es h = IsMap-without_key cmp k es h
-  IsMap-with_option k (Some v) es h = IsMap-with_value o k v es h
-
   -- with each of these changes
   abbrev pub with_options : List (K × Option X) → List (K × X) → List (K × X)
   with_options changes es = fold (λ fs p. with_option cmp p.0 p.1 fs) es changes
 
   pub IsMap-with_options : (changes : List (K × Option X)) (es : List (K × X)) → IsMap cmp es → IsMap cmp (with_options changes es)
   IsMap-with_options [] es h = h
-  IsMap-with_options (e ∷ changes) es h = IsMap-with_options changes (with_option cmp e.0 e.1 es) (IsMap-with_option e.0 e.1 es h)
+  IsMap-with_options (e ∷ changes) es h = IsMap-with_options changes (with_option cmp e.0 e.1 es) (IsMap-with_option o e.0 e.1 es h)
 
   -- the change at a key decides, and what was there where there is none
   pub value_at-with_options : (changes : List (K × Option X)) (es : List (K × X)) (q : K) → IsMap cmp changes → IsMap cmp es → value_at cmp (with_options changes es) q ≡ unwrap_or (value_at cmp changes q) (value_at cmp es q)
   unfolding IsStrictlySortedBy
   value_at-with_options [] es q g h = refl
   value_at-with_options (e ∷ changes) es q g h =
-      value_at-with_options changes (with_option cmp e.0 e.1 es) q g.1 (IsMap-with_option e.0 e.1 es h)
-      ∙ ap (λ (x : Option X). unwrap_or (value_at cmp changes q) x) (value_at-with_option e.0 e.1 es q h)
+      value_at-with_options changes (with_option cmp e.0 e.1 es) q g.1 (IsMap-with_option o e.0 e.1 es h)
+      ∙ ap (λ (x : Option X). unwrap_or (value_at cmp changes q) x) (value_at-with_option o e.0 e.1 es q h)
       ∙ elim (eq_by_cmp cmp q e.0) as (λ b. eq_by_cmp cmp q e.0 ≡ b
       → unwrap_or (value_at cmp changes q) (cond (eq_by_cmp cmp e.0 q) e.1 (value_at cmp es q)) ≡ unwrap_or (cond b (Some e.1) (value_at cmp changes q)) (value_at cmp es q)) [
         | true ↦ λ t.
@@ -81,9 +74,9 @@ module _ {K X : Type 0} {cmp : K → K → Ordering} (o : IsTotalOrder cmp) wher
   with_options-with_value exact k r changes es g h =
       let laid : IsMap cmp (with_options changes es) = IsMap-with_options changes es h in
       map_from_value_at o exact (with_options (with_value cmp k r changes) es) (with_option cmp k r (with_options changes es))
-      (IsMap-with_options (with_value cmp k r changes) es h) (IsMap-with_option k r (with_options changes es) laid)
+      (IsMap-with_options (with_value cmp k r changes) es h) (IsMap-with_option o k r (with_options changes es) laid)
       (λ q. value_at-with_options (with_value cmp k r changes) es q (IsMap-with_value o k r changes g) h
       ∙ ap (λ (x : Option (Option X)). unwrap_or x (value_at cmp es q)) (value_at-with_value o k r changes q)
       ∙ decides (eq_by_cmp cmp k q) r (value_at cmp changes q) (value_at cmp es q)
       ∙ ap (λ (x : Option X). cond (eq_by_cmp cmp k q) r x) (sym (value_at-with_options changes es q g h))
-      ∙ sym (value_at-with_option k r (with_options changes es) q laid))
+      ∙ sym (value_at-with_option o k r (with_options changes es) q laid))

@@ -28,7 +28,8 @@ use Rattle.draft_changes.specs.Changed.{with_registered, with_registrations}
 use Rattle.draft_changes.specs.ChangedAccounts.{standing_of}
 use Rattle.draft_changes.specs.declared.account_changes.Written.{Written}
 use Rattle.draft_changes.proofs.AccountChanging.{IsMap-mapped, stands}
-use Rattle.draft_changes.proofs.Laid.{IsMap-with_option, value_at-with_option, value_at-with_options}
+use Rattle.draft_changes.proofs.Laid.{value_at-with_options}
+use Rattle.maps.proofs.Replaced.{IsMap-with_option, value_at-with_option}
 
 -- ---- maps of which each value is at most that of another at its key
 

@@ -24,7 +24,7 @@ use Rattle.proposal_store.specs.Leaving.{is_drep_among}
 use Rattle.stake_book.specs.Stakes.{delegates_to_dreps, without_dreps}
 use Rattle.draft_changes.specs.Changed.{dormant_by, dreps_by}
 use Rattle.draft_changes.specs.Names.{LaidOverChangesNames, LeavingKeepsOtherVotes}
-use Rattle.draft_changes.proofs.Laid.{IsMap-with_option, value_at-with_option}
+use Rattle.maps.proofs.Replaced.{IsMap-with_option, value_at-with_option}
 
 neither : (a b : Bool) → (a || b) ≡ false → (a ≡ false) × (b ≡ false)
 neither true b h = cc

@@ -1,2 +1,1 @@
-mod Handed
 mod Twice

@@ -1,2 +1,2 @@
-mod Handed
+mod Chosen
 mod InPriority

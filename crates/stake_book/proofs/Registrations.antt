@@ -13,8 +13,8 @@ use Rattle.gov_ids.proofs.Exacts.{credential_exact}
 use Rattle.gov_ids.proofs.Totals.{credential_total}
 use Rattle.book_records.specs.declared.Entry.{Entry}
 use Rattle.book_records.specs.declared.Registered.{Registered}
-use Rattle.maps.proofs.Kept.{IsMap-with_value, IsMap-without_key}
 use Rattle.maps.proofs.Lookups.{none_below, value_at-with_value, value_at-without_key}
+use Rattle.maps.proofs.Replaced.{IsMap-with_option, value_at-with_option}
 use Rattle.maps.proofs.Same.{map_from_value_at}
 use Rattle.maps.proofs.Ties.{is_equal, same_key, all_tied}
 use Rattle.maps.specs.Maps.{IsMap, value_at, with_value, without_key, sum_values}
@@ -81,23 +81,15 @@ registered_at-with_entry c e es q h =
           ∙ elim (same_credential c q) as (λ b. registration_of (cond b (Some e) (value_at credential_cmp es q)) ≡ cond b e.registered (registered_at es q)) [ true ↦ refl | false ↦ refl ]
     ] refl
 
-IsMap-with_option : (c : Credential) (o : Option Registered) (es : List (Credential × Registered)) → IsMap credential_cmp es → IsMap credential_cmp (with_option credential_cmp c o es)
-IsMap-with_option c None es h = IsMap-without_key credential_cmp c es h
-IsMap-with_option c (Some r) es h = IsMap-with_value credential_total c r es h
-
-value_at-with_option : (c : Credential) (o : Option Registered) (es : List (Credential × Registered)) (q : Credential) → IsMap credential_cmp es → value_at credential_cmp (with_option credential_cmp c o es) q ≡ cond (same_credential c q) o (value_at credential_cmp es q)
-value_at-with_option c None es q h = value_at-without_key credential_total c es q h
-value_at-with_option c (Some r) es q h = value_at-with_value credential_total c r es q
-
 pub registrations-with_entry : (c : Credential) (e : Entry) (es : List (Credential × Entry)) → IsMap credential_cmp es → registrations (with_entry c e es) ≡ with_option credential_cmp c e.registered (registrations es)
 registrations-with_entry c e es h =
     let after : IsMap credential_cmp (with_entry c e es) = IsMap-with_entry c e es h in
     let before : IsMap credential_cmp (registrations es) = IsMap-registrations es h in
-    map_from_value_at credential_total credential_exact _ _ (IsMap-registrations _ after) (IsMap-with_option c e.registered (registrations es) before) (λ q.
+    map_from_value_at credential_total credential_exact _ _ (IsMap-registrations _ after) (IsMap-with_option credential_total c e.registered (registrations es) before) (λ q.
     value_at-registrations (with_entry c e es) q after
     ∙ registered_at-with_entry c e es q h
     ∙ ap (λ (x : Option Registered). cond (same_credential c q) e.registered x) (sym (value_at-registrations es q h))
-    ∙ sym (value_at-with_option c e.registered (registrations es) q before))
+    ∙ sym (value_at-with_option credential_total c e.registered (registrations es) q before))
 
 -- an entry that keeps its registration
 pub registrations-kept : (c : Credential) (n : ℕ) (es : List (Credential × Entry)) → IsMap credential_cmp es → registrations (with_entry c (record { stake = n; registered = registered_at es c }) es) ≡ registrations es

@@ -7,8 +7,7 @@ use Rattle.std.specs.FinMap.{IsAntisymmetric}
 use Rattle.std.specs.List.{AllByRecursion, AllZip}
 use Rattle.std.specs.Map.{keys_of}
 use Rattle.std.proofs.lemmas.Cmp.{eq_by_cmp_equiv}
-use Rattle.maps.proofs.Kept.{IsMap-with_value, IsMap-without_key}
-use Rattle.maps.proofs.Lookups.{value_at-with_value, value_at-without_key}
+use Rattle.maps.proofs.Replaced.{IsMap-with_option, value_at-with_option}
 use Rattle.maps.proofs.Same.{map_from_value_at, set_from_has_member}
 use Rattle.maps.proofs.Sets.{IsSet-without_member, has_member-without_member}
 use Rattle.maps.proofs.Ties.{same_key}
@@ -28,17 +27,9 @@ use Rattle.undo_model.specs.Undone.{old_votes_on, with_old, with_old_votes, with
 -- ---- maps
 
 module _ {K X : Type 0} {cmp : K → K → Ordering} (o : IsTotalOrder cmp) where
-  value_at-with_option : (k : K) (r : Option X) (es : List (K × X)) (q : K) → IsMap cmp es → value_at cmp (with_option cmp k r es) q ≡ cond (eq_by_cmp cmp k q) r (value_at cmp es q)
-  value_at-with_option k None es q h = value_at-without_key o k es q h
-  value_at-with_option k (Some v) es q h = value_at-with_value o k v es q
-
-  IsMap-with_option : (k : K) (r : Option X) (es : List (K × X)) → IsMap cmp es → IsMap cmp (with_option cmp k r es)
-  IsMap-with_option k None es h = IsMap-without_key cmp k es h
-  IsMap-with_option k (Some v) es h = IsMap-with_value o k v es h
-
   IsMap-with_old : (olds : List (K × Option X)) (es : List (K × X)) → IsMap cmp es → IsMap cmp (with_old cmp olds es)
   IsMap-with_old [] es h = h
-  IsMap-with_old (old ∷ olds) es h = IsMap-with_old olds (with_option cmp old.0 old.1 es) (IsMap-with_option old.0 old.1 es h)
+  IsMap-with_old (old ∷ olds) es h = IsMap-with_old olds (with_option cmp old.0 old.1 es) (IsMap-with_option o old.0 old.1 es h)
 
   module _ (exact : IsAntisymmetric cmp) (before : List (K × X)) where
     -- a map that has at q what it had before, or has an old value to come there, has it once all are put back
@@ -48,8 +39,8 @@ module _ {K X : Type 0} {cmp : K → K → Ordering} (o : IsTotalOrder cmp) wher
         → value_at cmp (with_old cmp olds es) q ≡ value_at cmp before q
     value_at-with_old [] es q h values others = others refl
     value_at-with_old (old ∷ olds) es q h values others =
-        value_at-with_old olds (with_option cmp old.0 old.1 es) q (IsMap-with_option old.0 old.1 es h) values.1
-        (λ absent. value_at-with_option old.0 old.1 es q h
+        value_at-with_old olds (with_option cmp old.0 old.1 es) q (IsMap-with_option o old.0 old.1 es h) values.1
+        (λ absent. value_at-with_option o old.0 old.1 es q h
         ∙ elim (eq_by_cmp cmp old.0 q) as (λ b. eq_by_cmp cmp old.0 q ≡ b → cond b old.1 (value_at cmp es q) ≡ value_at cmp before q) [
           | true ↦ λ t. sym values.0 ∙ ap (λ k. value_at cmp before k) (same_key exact old.0 q t)
           | false ↦ λ t. others (ap (λ b. b || has_member cmp (keys_of olds) q) ((eq_by_cmp_equiv o).symm q old.0 ∙ t) ∙ absent)

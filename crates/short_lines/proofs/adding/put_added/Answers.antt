@@ -4,7 +4,7 @@ use Rattle.gov_ids.specs.declared.CredKind.TheVariants.{Key}
 use Rattle.gov_ids.specs.declared.Credential.{Credential}
 use Rattle.report.proofs.Puts.{put_ended}
 use Rattle.shortfall_model.specs.ShortLines.{add_words}
-use Rattle.short_lines.proofs.Handed.{put_both, put_front}
+use Rattle.report.proofs.Handed.{put_both, put_front}
 use Rattle.short_lines.proofs.adding.put_added.Goals as goal
 
 abbrev nobody : Credential × ℕ

@@ -4,7 +4,7 @@ use Rattle.report.proofs.Puts.{put_none}
 use Rattle.snapshots.specs.declared.frozen.Frozen.{Frozen}
 use Rattle.tally.specs.Cells.{cell_of}
 use Rattle.short_lines.specs.Ranked.{lines_of, of_priority}
-use Rattle.short_lines.proofs.Handed.{put_as, put_both, put_front}
+use Rattle.report.proofs.Handed.{put_as, put_both, put_front}
 use Rattle.short_lines.proofs.InPriority.{count_in, from_next, lines_from, none_left}
 use Rattle.short_lines.proofs.proposals.put_priority.Goals as goal
 

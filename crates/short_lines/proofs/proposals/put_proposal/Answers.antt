@@ -4,7 +4,7 @@ use Rattle.report.proofs.Puts.{put_none}
 use Rattle.shortfall_model.specs.ShortLines.{short_lines}
 use Rattle.short_lines.specs.Ranked.{lines_of, of_priority}
 use Rattle.std.proofs.Common.{[], ◌∷◌}
-use Rattle.short_lines.proofs.Handed.{put_as, put_nothing}
+use Rattle.report.proofs.Handed.{put_as, put_nothing}
 use Rattle.short_lines.proofs.InPriority.{of_another, of_it}
 use Rattle.short_lines.proofs.proposals.put_proposal.Goals as goal
 

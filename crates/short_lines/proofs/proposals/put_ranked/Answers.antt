@@ -1,6 +1,6 @@
 use Rattle.std.proofs.Common.{◌+◌, sym}
 use Rattle.report.proofs.Puts.{put_none}
-use Rattle.short_lines.proofs.Handed.{put_as, put_both, put_front}
+use Rattle.report.proofs.Handed.{put_as, put_both, put_front}
 use Rattle.short_lines.proofs.InPriority.{all_priorities, lines_later, next_priority, none_later}
 use Rattle.short_lines.proofs.proposals.put_ranked.Goals as goal
 

@@ -1,5 +1,5 @@
 use Rattle.shortfall_model.specs.ShortLines.{shortfall_lines}
-use Rattle.short_lines.proofs.Handed.{put_nothing}
+use Rattle.report.proofs.Handed.{put_nothing}
 use Rattle.short_lines.proofs.proposals.put_shortfalls.Goals as goal
 
 pub returns-in_err-ranking : goal.returns-in_err-ranking

@@ -1,6 +1,7 @@
 use Rattle.std.proofs.Common.{map, sym, ◌∙◌}
 use Rattle.shortfall_model.specs.ShortLines.{add_words}
-use Rattle.short_lines.proofs.Handed.{chosen_lines, empty_lines, put_as, put_both, put_front}
+use Rattle.report.proofs.Handed.{put_as, put_both, put_front}
+use Rattle.short_lines.proofs.Chosen.{chosen_lines, empty_lines}
 use Rattle.short_lines.proofs.putting.put_chosen.Goals as goal
 
 pub returns-then-is_empty : goal.returns-then-is_empty

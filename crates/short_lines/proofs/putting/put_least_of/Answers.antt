@@ -1,7 +1,7 @@
 use Rattle.std.proofs.Common.{[], ◌∷◌, codes, decimal}
 use Rattle.gov_ids.specs.Spelling.{action_id_text}
 use Rattle.text_model.specs.Words.{fraction_text}
-use Rattle.short_lines.proofs.Handed.{put_as}
+use Rattle.report.proofs.Handed.{put_as}
 use Rattle.short_lines.proofs.putting.put_least_of.Goals as goal
 
 pub returns : goal.returns

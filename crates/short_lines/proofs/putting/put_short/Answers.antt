@@ -2,7 +2,7 @@ use Rattle.std.proofs.Common.{ℕ, List, ap, sym, ◌∙◌}
 use Rattle.gov_ids.specs.declared.Credential.{Credential}
 use Rattle.shortfall_model.specs.declared.short.Short.TheVariants.{Least}
 use Rattle.shortfall_model.specs.ShortLines.{short_lines}
-use Rattle.short_lines.proofs.Handed.{put_as}
+use Rattle.report.proofs.Handed.{put_as}
 use Rattle.short_lines.proofs.putting.put_short.Goals as goal
 
 pub returns-in-Least : goal.returns-in-Least

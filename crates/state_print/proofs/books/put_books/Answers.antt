@@ -3,7 +3,7 @@ use Rattle.state_print.specs.Views.{shown_of_view}
 use Rattle.text_model.specs.StateLines.{account_words, drep_words, output_lines, pool_lines, proposal_lines}
 use Rattle.utxo_set.specs.Utxos.{Utxos}
 use Rattle.report.proofs.Puts.{put_first, put_second, put_third}
-use Rattle.state_print.proofs.Lines.{put_as}
+use Rattle.report.proofs.Handed.{put_as}
 use Rattle.state_print.proofs.books.put_books.Goals as goal
 
 pub returns-in_err-put_registered : goal.returns-in_err-put_registered

@@ -1,7 +1,7 @@
 use Rattle.gov_ids.specs.Orders.{credential_cmp}
 use Rattle.text_model.specs.StateLines.{account_words}
 use Rattle.state_print.proofs.Walks.{singles}
-use Rattle.state_print.proofs.Lines.{put_as}
+use Rattle.report.proofs.Handed.{put_as}
 use Rattle.state_print.proofs.books.put_entries.Goals as goal
 
 pub returns : goal.returns

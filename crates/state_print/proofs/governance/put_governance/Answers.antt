@@ -2,7 +2,7 @@ use Rattle.std.proofs.Common.{ℕ, [], ◌∷◌, ap}
 use Rattle.state_print.specs.Views.{shown_of_view}
 use Rattle.text_model.specs.StateLines.{committee_lines, words_of_constitution, words_of_enacted, words_of_now}
 use Rattle.report.proofs.Puts.{put_first, put_second, put_third}
-use Rattle.state_print.proofs.Lines.{put_as}
+use Rattle.report.proofs.Handed.{put_as}
 use Rattle.state_print.proofs.governance.put_governance.Goals as goal
 
 pub returns-in_err-put_head : goal.returns-in_err-put_head

@@ -2,7 +2,7 @@ use Rattle.std.proofs.Common.{[], ◌∷◌, Option, flat_map, map, ap, sym, ◌
 use Rattle.std.proofs.lemmas.List.Concat.{flat_map_single}
 use Rattle.gov_actions.specs.declared.state.Committee.{Committee}
 use Rattle.gov_model.specs.Sides.{members_of}
-use Rattle.state_print.proofs.Lines.{put_as}
+use Rattle.report.proofs.Handed.{put_as}
 use Rattle.text_model.specs.StateLines.{member_among}
 use Rattle.state_print.proofs.governance.put_members.Goals as goal
 

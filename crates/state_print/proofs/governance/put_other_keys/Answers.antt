@@ -1,5 +1,5 @@
 use Rattle.state_print.proofs.Walks.{others}
-use Rattle.state_print.proofs.Lines.{put_as}
+use Rattle.report.proofs.Handed.{put_as}
 use Rattle.state_print.proofs.governance.put_other_keys.Goals as goal
 
 pub returns : goal.returns

@@ -1,23 +1,18 @@
 use Rattle.std.proofs.Common.{flat_map, ◌+◌, drop, ap, sym}
-use Rattle.state_print.proofs.Lines.{next_lines, cut_lines, nothing, of_first, from_place, past_places}
+use Rattle.report.proofs.Handed.{put_both, put_front, nothing, of_first, from_place, past_places}
 use Rattle.state_print.proofs.items.put_items.Goals as goal
 
 pub returns-in_err-put_item : goal.returns-in_err-put_item
 returns-in_err-put_item g c =
     c.loop-item.invariant (g.T.LineTaker.taken c.put_item.new.to) (g.T.LineTaker.faults c.put_item.new.to) c.from_residual.result
-    (cut_lines g.T.LineTaker.with_line g.T.LineTaker.IsPart c.args.line _ _ _
-    (of_first (g.P.ItemLines.lines c.args.printer.now) (drop c.loop-item.item-index c.args.items.now) (drop (c.loop-item.item-index + 1) c.args.items.now) c.item-item.result
-    (from_place c.args.items.now c.loop-item.item-index c.item-item.result c.loop-item-test.true c.item-item.is))
-    (g.T.LineTaker.taken c.loop-item.to) (g.T.LineTaker.taken c.put_item.new.to) (g.T.LineTaker.faults c.loop-item.to) (g.T.LineTaker.faults c.put_item.new.to) c.in_err-put_item.field-0.0 c.from_residual.result
-    c.in_err-put_item.ensures c.from_residual.ensures.1)
+    (put_front _ (of_first (g.P.ItemLines.lines c.args.printer.now) (drop c.loop-item.item-index c.args.items.now) (drop (c.loop-item.item-index + 1) c.args.items.now) c.item-item.result
+    (from_place c.args.items.now c.loop-item.item-index c.item-item.result c.loop-item-test.true c.item-item.is)) c.in_err-put_item.ensures c.from_residual.ensures.1)
 
 pub loop-item-preserved : goal.loop-item-preserved
 loop-item-preserved g c = λ t f r later.
     c.loop-item.invariant t f r
-    (next_lines g.T.LineTaker.with_line g.T.LineTaker.IsPart c.args.line _ _ _
-    (of_first (g.P.ItemLines.lines c.args.printer.now) (drop c.loop-item.item-index c.args.items.now) (drop (c.loop-item.item-index + 1) c.args.items.now) c.item-item.result
-    (from_place c.args.items.now c.loop-item.item-index c.item-item.result c.loop-item-test.true c.item-item.is))
-    (g.T.LineTaker.taken c.loop-item.to) (g.T.LineTaker.taken c.put_item.new.to) t (g.T.LineTaker.faults c.loop-item.to) (g.T.LineTaker.faults c.put_item.new.to) f r c.in_ok-put_item.ensures later)
+    (put_both (of_first (g.P.ItemLines.lines c.args.printer.now) (drop c.loop-item.item-index c.args.items.now) (drop (c.loop-item.item-index + 1) c.args.items.now) c.item-item.result
+    (from_place c.args.items.now c.loop-item.item-index c.item-item.result c.loop-item-test.true c.item-item.is)) c.in_ok-put_item.ensures later)
 
 pub returns : goal.returns
 returns g c =

@@ -1,7 +1,7 @@
 use Rattle.std.proofs.Common.{[], ◌∷◌, flat_map, ap, ◌∙◌}
 use Rattle.std.proofs.lemmas.List.Concat.{flat_map_single}
 use Rattle.state_lines.specs.SnapshotNames.{snapshot_text}
-use Rattle.state_print.proofs.Lines.{put_as}
+use Rattle.report.proofs.Handed.{put_as}
 use Rattle.text_model.specs.StateLines.{snapshot_words}
 use Rattle.state_print.proofs.kept.put_snapshot.Goals as goal
 

@@ -2,7 +2,7 @@ use Rattle.book_records.specs.Outputs.{asset_totals}
 use Rattle.gov_ids.specs.Orders.{asset_cmp}
 use Rattle.text_model.specs.StateLines.{asset_total_words}
 use Rattle.state_print.proofs.Walks.{singles}
-use Rattle.state_print.proofs.Lines.{put_as}
+use Rattle.report.proofs.Handed.{put_as}
 use Rattle.state_print.proofs.outputs.put_assets.Goals as goal
 
 pub returns : goal.returns

@@ -6,7 +6,7 @@ use Rattle.gov_ids.proofs.Totals.{outref_total}
 use Rattle.text_model.specs.StateLines.{output_lines}
 use Rattle.view_map.specs.Walk.{entries_past}
 use Rattle.state_print.specs.Walks.{entry_then}
-use Rattle.state_print.proofs.Lines.{next_lines, cut_lines, nothing, of_first, put_as}
+use Rattle.report.proofs.Handed.{put_both, put_front, nothing, of_first, put_as}
 use Rattle.state_print.proofs.Walks.{fewer, several, walked}
 use Rattle.state_print.proofs.outputs.put_outputs.Goals as goal
 
@@ -28,10 +28,7 @@ returns-in_err-put_output g c =
     let e : OutRef × Output = (c.in-Some.reference, c.in-Some.output.now) in
     let found : past c.loop-reference.last ≡ e ∷ past (Some e.0) = sym (ap past c.as_ref.ensures.value) ∙ walked outref_total (option_map (λ (k : Bor OutRef). k.now) c.as_ref.result) es c.total-total.ensures.in_order.outputs ∙ ap (entry_then past) (sym c.in-Some.ensures) in
     c.loop-reference.invariant (g.T.LineTaker.taken c.put_output.new.to) (g.T.LineTaker.faults c.put_output.new.to) c.from_residual.result
-    (cut_lines g.T.LineTaker.with_line g.T.LineTaker.IsPart c.args.line _ _ _
-    (of_first output_lines (past c.loop-reference.last) (past (Some e.0)) e found)
-    (g.T.LineTaker.taken c.loop-reference.to) (g.T.LineTaker.taken c.put_output.new.to) (g.T.LineTaker.faults c.loop-reference.to) (g.T.LineTaker.faults c.put_output.new.to) c.in_err-put_output.field-0.0 c.from_residual.result
-    c.in_err-put_output.ensures c.from_residual.ensures.1)
+    (put_front _ (of_first output_lines (past c.loop-reference.last) (past (Some e.0)) e found) c.in_err-put_output.ensures c.from_residual.ensures.1)
 
 pub loop-reference-preserved : goal.loop-reference-preserved
 loop-reference-preserved g c = λ t f r later.
@@ -40,9 +37,7 @@ loop-reference-preserved g c = λ t f r later.
     let e : OutRef × Output = (c.in-Some.reference, c.in-Some.output.now) in
     let found : past c.loop-reference.last ≡ e ∷ past (Some e.0) = sym (ap past c.as_ref.ensures.value) ∙ walked outref_total (option_map (λ (k : Bor OutRef). k.now) c.as_ref.result) es c.total-total.ensures.in_order.outputs ∙ ap (entry_then past) (sym c.in-Some.ensures) in
     c.loop-reference.invariant t f r
-    (next_lines g.T.LineTaker.with_line g.T.LineTaker.IsPart c.args.line _ _ _
-    (of_first output_lines (past c.loop-reference.last) (past (Some e.0)) e found)
-    (g.T.LineTaker.taken c.loop-reference.to) (g.T.LineTaker.taken c.put_output.new.to) t (g.T.LineTaker.faults c.loop-reference.to) (g.T.LineTaker.faults c.put_output.new.to) f r c.in_ok-put_output.ensures later)
+    (put_both (of_first output_lines (past c.loop-reference.last) (past (Some e.0)) e found) c.in_ok-put_output.ensures later)
 
 pub returns : goal.returns
 returns g c =

@@ -1,20 +1,17 @@
 use Rattle.std.proofs.Common.{flat_map, ap, sym, arith}
 use Rattle.text_model.specs.StateLines.{proposal_lines}
-use Rattle.state_print.proofs.Lines.{next_lines, cut_lines, nothing, of_place, past_places}
+use Rattle.report.proofs.Handed.{put_both, put_front, nothing, of_place, past_places}
 use Rattle.state_print.proofs.proposals.put_proposals.Goals as goal
 
 pub returns-in_err-put_at : goal.returns-in_err-put_at
 returns-in_err-put_at g c =
     c.loop-i.invariant (g.T.LineTaker.taken c.put_at.new.to) (g.T.LineTaker.faults c.put_at.new.to) c.from_residual.result
-    (cut_lines g.T.LineTaker.with_line g.T.LineTaker.IsPart c.args.line _ _ _ (of_place proposal_lines c.args.proposals.now c.loop-i.i)
-    (g.T.LineTaker.taken c.loop-i.to) (g.T.LineTaker.taken c.put_at.new.to) (g.T.LineTaker.faults c.loop-i.to) (g.T.LineTaker.faults c.put_at.new.to) c.in_err-put_at.field-0.0 c.from_residual.result
-    c.in_err-put_at.ensures c.from_residual.ensures.1)
+    (put_front _ (of_place proposal_lines c.args.proposals.now c.loop-i.i) c.in_err-put_at.ensures c.from_residual.ensures.1)
 
 pub loop-i-preserved : goal.loop-i-preserved
 loop-i-preserved g c = λ t f r later.
     c.loop-i.invariant t f r
-    (next_lines g.T.LineTaker.with_line g.T.LineTaker.IsPart c.args.line _ _ _ (of_place proposal_lines c.args.proposals.now c.loop-i.i)
-    (g.T.LineTaker.taken c.loop-i.to) (g.T.LineTaker.taken c.put_at.new.to) t (g.T.LineTaker.faults c.loop-i.to) (g.T.LineTaker.faults c.put_at.new.to) f r c.in_ok-put_at.ensures later)
+    (put_both (of_place proposal_lines c.args.proposals.now c.loop-i.i) c.in_ok-put_at.ensures later)
 
 pub returns : goal.returns
 returns g c =

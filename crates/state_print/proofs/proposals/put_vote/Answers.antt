@@ -1,6 +1,6 @@
 use Rattle.std.proofs.Common.{[], ◌∷◌, ap}
 use Rattle.gov_ids.specs.declared.ActionId.{ActionId}
-use Rattle.state_print.proofs.Lines.{put_as}
+use Rattle.report.proofs.Handed.{put_as}
 use Rattle.text_model.specs.StateLines.{words_of_vote}
 use Rattle.state_print.proofs.proposals.put_vote.Goals as goal
 

@@ -2,7 +2,7 @@ use Rattle.std.proofs.Common.{◌≡◌, List, map, ap, sym, rules}
 use Rattle.gov_actions.specs.declared.action.Vote.{Vote}
 use Rattle.gov_ids.specs.declared.Voter.{Voter}
 use Rattle.text_model.specs.StateLines.{vote_words}
-use Rattle.state_print.proofs.Lines.{next_lines, cut_lines, nothing, put_as}
+use Rattle.report.proofs.Handed.{put_both, put_front, nothing, put_as}
 use Rattle.state_print.proofs.proposals.put_votes.Goals as goal
 
 pub loop-voter-init : goal.loop-voter-init
@@ -13,9 +13,7 @@ loop-voter-init g c =
 pub returns-in_err-put_vote : goal.returns-in_err-put_vote
 returns-in_err-put_vote g c =
     c.loop-voter.invariant.2 (g.T.LineTaker.taken c.put_vote.new.to) (g.T.LineTaker.faults c.put_vote.new.to) c.from_residual.result
-    (cut_lines g.T.LineTaker.with_line g.T.LineTaker.IsPart c.args.line _ _ _ (ap (map (vote_words c.args.proposal.now)) (sym c.in-Some.ensures.steps))
-    (g.T.LineTaker.taken c.loop-voter.to) (g.T.LineTaker.taken c.put_vote.new.to) (g.T.LineTaker.faults c.loop-voter.to) (g.T.LineTaker.faults c.put_vote.new.to) c.in_err-put_vote.field-0.0 c.from_residual.result
-    c.in_err-put_vote.ensures c.from_residual.ensures.1)
+    (put_front _ (ap (map (vote_words c.args.proposal.now)) c.in-Some.ensures.steps) c.in_err-put_vote.ensures c.from_residual.ensures.1)
 
 pub loop-voter-preserved : goal.loop-voter-preserved
 loop-voter-preserved g c = (
@@ -23,8 +21,7 @@ loop-voter-preserved g c = (
   tt,
   λ t f r later.
       c.loop-voter.invariant.2 t f r
-      (next_lines g.T.LineTaker.with_line g.T.LineTaker.IsPart c.args.line _ _ _ (ap (map (vote_words c.args.proposal.now)) (sym c.in-Some.ensures.steps))
-      (g.T.LineTaker.taken c.loop-voter.to) (g.T.LineTaker.taken c.put_vote.new.to) t (g.T.LineTaker.faults c.loop-voter.to) (g.T.LineTaker.faults c.put_vote.new.to) f r c.in_ok-put_vote.ensures later),
+      (put_both (ap (map (vote_words c.args.proposal.now)) c.in-Some.ensures.steps) c.in_ok-put_vote.ensures later),
 )
 
 pub returns : goal.returns

@@ -1,5 +1,5 @@
 use Rattle.std.proofs.Common.{Some, flat_map, ap, sym}
-use Rattle.state_print.proofs.Lines.{next_lines, cut_lines, nothing, of_first}
+use Rattle.report.proofs.Handed.{put_both, put_front, nothing, of_first}
 use Rattle.state_print.proofs.Walks.{found, found_none, fewer}
 use Rattle.state_print.proofs.walk.put_walk.Goals as goal
 
@@ -13,21 +13,16 @@ returns-in_err-put_entry g c =
     let past = g.W.Walked.past c.args.book.now in
     let e = c.in-Some.entry in
     c.loop-entry.invariant (g.T.LineTaker.taken c.put_entry.new.to) (g.T.LineTaker.faults c.put_entry.new.to) c.from_residual.result
-    (cut_lines g.T.LineTaker.with_line g.T.LineTaker.IsPart c.args.line _ _ _
-    (of_first (g.W.Walked.lines c.args.book.now) (past c.loop-entry.last) (past (Some e.0)) e
-    (found past c.as_ref.result c.loop-entry.last c.following.result e c.as_ref.ensures.value c.in-Some.is c.following.ensures))
-    (g.T.LineTaker.taken c.loop-entry.to) (g.T.LineTaker.taken c.put_entry.new.to) (g.T.LineTaker.faults c.loop-entry.to) (g.T.LineTaker.faults c.put_entry.new.to) c.in_err-put_entry.field-0.0 c.from_residual.result
-    c.in_err-put_entry.ensures c.from_residual.ensures.1)
+    (put_front _ (of_first (g.W.Walked.lines c.args.book.now) (past c.loop-entry.last) (past (Some e.0)) e
+    (found past c.as_ref.result c.loop-entry.last c.following.result e c.as_ref.ensures.value c.in-Some.is c.following.ensures)) c.in_err-put_entry.ensures c.from_residual.ensures.1)
 
 pub loop-entry-preserved : goal.loop-entry-preserved
 loop-entry-preserved g c = λ t f r later.
     let past = g.W.Walked.past c.args.book.now in
     let e = c.in-Some.entry in
     c.loop-entry.invariant t f r
-    (next_lines g.T.LineTaker.with_line g.T.LineTaker.IsPart c.args.line _ _ _
-    (of_first (g.W.Walked.lines c.args.book.now) (past c.loop-entry.last) (past (Some e.0)) e
-    (found past c.as_ref.result c.loop-entry.last c.following.result e c.as_ref.ensures.value c.in-Some.is c.following.ensures))
-    (g.T.LineTaker.taken c.loop-entry.to) (g.T.LineTaker.taken c.put_entry.new.to) t (g.T.LineTaker.faults c.loop-entry.to) (g.T.LineTaker.faults c.put_entry.new.to) f r c.in_ok-put_entry.ensures later)
+    (put_both (of_first (g.W.Walked.lines c.args.book.now) (past c.loop-entry.last) (past (Some e.0)) e
+    (found past c.as_ref.result c.loop-entry.last c.following.result e c.as_ref.ensures.value c.in-Some.is c.following.ensures)) c.in_ok-put_entry.ensures later)
 
 pub returns : goal.returns
 returns g c =

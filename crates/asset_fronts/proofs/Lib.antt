@@ -1,4 +1,0 @@
-pub mod Balances
-pub mod Fronts
-pub mod Lowest
-pub mod Uneven

@@ -1,5 +1,0 @@
-mod Lists
-mod Values
-pub mod Quantities
-mod Sums
-mod Balanced

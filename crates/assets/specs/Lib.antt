@@ -1,3 +1,0 @@
-pub mod Quantities
-pub mod Balances
-pub mod Totals

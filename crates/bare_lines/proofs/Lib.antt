@@ -1,2 +1,0 @@
-pub mod LentPuts
-pub mod Joined

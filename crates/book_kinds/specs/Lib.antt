@@ -1,5 +1,0 @@
-pub mod Words
-pub mod Books
-pub mod Outputs
-pub mod Pools
-pub mod Frozen

@@ -1,5 +1,0 @@
-pub mod Hashes
-pub mod Outputs
-pub mod Pools
-pub mod Dormancy
-pub mod Delegations

@@ -1,4 +1,0 @@
-pub mod Checkpoint
-pub mod Resumable
-pub mod Resumed
-pub mod Laws

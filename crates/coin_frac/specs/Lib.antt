@@ -1,3 +1,0 @@
-pub mod Fraction
-pub mod Reaches
-pub mod Totals

@@ -1,6 +1,0 @@
-//! A list of credentials that can be searched.
-#![tactic(auto)]
-
-mod list;
-
-pub use list::CredentialList;

@@ -1,4 +1,0 @@
-mod Credits
-mod Held
-mod Refunds
-mod Updates

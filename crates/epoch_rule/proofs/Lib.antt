@@ -1,4 +1,0 @@
-pub mod Counting
-pub mod Steady
-pub mod Crossing
-pub mod Ahead

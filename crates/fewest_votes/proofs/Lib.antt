@@ -1,5 +1,0 @@
-mod FrontsFound
-mod Orders
-mod Reached
-mod Ranked
-mod Taken

@@ -1,4 +1,0 @@
-pub mod Chain
-pub mod Follow
-pub mod FollowLines
-pub mod Laws

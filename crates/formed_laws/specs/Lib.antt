@@ -1,4 +1,0 @@
-pub mod Records
-pub mod Worlds
-pub mod Laws
-pub mod Counts

@@ -1,3 +1,0 @@
-pub mod Deposits
-pub mod Pools
-pub mod Laws

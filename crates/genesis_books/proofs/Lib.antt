@@ -1,5 +1,0 @@
-pub mod Walks
-pub mod MemberWalks
-pub mod Listings
-pub mod Frozen
-pub mod FirstBook

@@ -1,3 +1,0 @@
-pub mod Views
-mod Reading
-mod Texts

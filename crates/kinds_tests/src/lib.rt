@@ -1,5 +1,0 @@
-//! Tests of the readers of lines. It has no code, so that a test is proved alone.
-#![tactic(auto)]
-
-#[cfg(test)]
-mod kinds;

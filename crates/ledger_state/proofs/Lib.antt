@@ -1,3 +1,0 @@
-pub mod Amounts
-pub mod Steps
-pub mod Worlds

@@ -1,4 +1,0 @@
-mod Digits
-mod Lined
-mod Spaces
-mod Backs

@@ -1,5 +1,0 @@
-pub mod Batches
-pub mod Plays
-pub mod Runs
-pub mod Turns
-pub mod Loop

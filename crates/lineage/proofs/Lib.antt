@@ -1,4 +1,0 @@
-pub mod Adopting
-pub mod Finding
-pub mod Standing
-pub mod Walking

@@ -1,3 +1,0 @@
-mod Line
-mod Begins
-mod Lengths

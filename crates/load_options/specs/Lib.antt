@@ -1,5 +1,0 @@
-pub mod Options
-pub mod Numbers
-pub mod Workers
-pub mod Command
-pub mod Table

@@ -1,3 +1,0 @@
-pub mod Silent
-pub mod ShortLines
-pub mod Laws

@@ -1,3 +1,0 @@
-mod StateLaws
-mod ProposalLaws
-mod HeadLaws

@@ -1,3 +1,0 @@
-pub mod States
-pub mod Proposals
-pub mod Heads

@@ -1,4 +1,0 @@
-pub mod AssetTotals
-pub mod ParamTexts
-pub mod SnapshotNames
-pub mod StateTexts

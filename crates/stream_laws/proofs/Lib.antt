@@ -1,4 +1,0 @@
-pub mod Pieces
-pub mod Readings
-pub mod FrozenLines
-pub mod Streams

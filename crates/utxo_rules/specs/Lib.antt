@@ -1,3 +1,0 @@
-pub mod Repeated
-pub mod Spent
-pub mod Plain

@@ -1,4 +1,0 @@
-pub mod Starts
-pub mod Parts
-pub mod Questions
-pub mod Asking
