@@ -1,0 +1,3 @@
+mod PotsLaws
+mod RowLaws
+mod Worlds

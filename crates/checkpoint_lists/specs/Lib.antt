@@ -1,0 +1,4 @@
+pub mod Pots
+pub mod Rows
+pub mod Shown
+pub mod Sections

@@ -1,0 +1,4 @@
+mod Pairs
+mod ParamLaws
+mod ParamReads
+mod Lists

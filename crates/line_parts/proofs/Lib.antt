@@ -1,0 +1,5 @@
+mod Starts
+mod Lefts
+mod Sequences
+mod Repeats
+mod Groups

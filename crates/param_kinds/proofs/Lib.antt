@@ -1,0 +1,3 @@
+mod ValueLaws
+mod Runs
+mod ParamParts

@@ -1,0 +1,9 @@
+-- The first lines are those of an item, and what follows is of no second.
+use Rattle.param_kinds.proofs.Runs.{second_none}
+use Rattle.param_kinds.proofs.pair.Tuple2LinesReader.read.Goals as goal
+
+pub returns-in_default-2-clause-reads : goal.returns-in_default-2-clause-reads
+returns-in_default-2-clause-reads g c =
+    let first = rw c.in-Some.is at c.in_ok-first.ensures.reads in
+    let second = rw c.in_default-2.is at c.in_ok-second.ensures.reads in
+    second_none g.A.LinesReader.form g.B.LinesReader.form g.A.LinesReader.lines g.B.LinesReader.lines c.laws.ensures c.in-Some.first first second

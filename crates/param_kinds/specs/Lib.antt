@@ -1,0 +1,4 @@
+pub mod Runs
+pub mod Names
+pub mod Values
+pub mod Parts
