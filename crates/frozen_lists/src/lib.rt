@@ -1,0 +1,8 @@
+//! What an epoch froze, made of plain lists.
+#![tactic(auto)]
+
+mod deposits;
+mod frozen;
+mod pools;
+
+pub use frozen::{Parts, frozen_of};
