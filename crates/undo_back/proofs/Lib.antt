@@ -1,0 +1,4 @@
+mod PutBack
+mod Rooms
+mod Votes
+pub mod Undoing

@@ -1,0 +1,11 @@
+//! Old values are put back into the books of a ledger: the ledger before a record.
+#![tactic(auto)]
+
+mod books;
+mod proposals;
+mod stake;
+mod state;
+mod voters;
+
+pub use books::undo_books;
+pub use state::{ledger_of_parts, undo};

@@ -1,0 +1,12 @@
+use Rattle.std.proofs.Common.{◌∙◌}
+use Rattle.gov_ids.specs.Orders.{credential_cmp}
+use Rattle.stake_book.specs.Stakes.{accounts_of}
+use Rattle.undo_before.proofs.Maps.{all_old, next_old}
+use Rattle.undo_before.proofs.old.old_accounts.Goals as goal
+
+pub loop-c-preserved : goal.loop-c-preserved
+loop-c-preserved c =
+    next_old credential_cmp (accounts_of c.args.book.now) c.args.names.now c.loop-c.c-index _ c.loop-c.olds.items c.push.new.self.items c.account.result c.loop-c-test.true c.account.ensures.value c.in_ok-push.ensures.items c.loop-c.invariant
+
+pub returns : goal.returns
+returns c = c.from_vec.ensures ∙ all_old credential_cmp (accounts_of c.args.book.now) c.args.names.now c.loop-c.c-index c.loop-c.olds.items c.loop-c-test.false c.loop-c.invariant

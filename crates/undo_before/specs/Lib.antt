@@ -1,0 +1,3 @@
+pub mod Old
+pub mod Names
+pub mod Held
