@@ -1,0 +1,4 @@
+pub mod Lines
+pub mod Turned
+pub mod Told
+pub mod Streams

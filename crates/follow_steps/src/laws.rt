@@ -1,0 +1,27 @@
+ghost use Rattle.follow_steps.specs.Laws.{FollowedSupplyStays, KeptFrontsAreSound, PlainIsStep, RollbackLeavesKept};
+
+use run_laws::supply_stays;
+
+/// A record of a replay moves the ledger of a followed stream by one step, with its count, also
+/// after rollbacks.
+pub fn plain_is_step()
+    ensures { PlainIsStep }
+{}
+
+/// An accepted rollback leaves the ledger of the records that remain, with the present count.
+pub fn rollback_leaves_kept()
+    ensures { RollbackLeavesKept }
+{}
+
+/// The ledger at each place of the records that remain is sound.
+pub fn kept_fronts_are_sound()
+    ensures { KeptFrontsAreSound }
+{}
+
+/// After each record of a followed stream all pots hold the supply of the genesis.
+/// (The preservation of value of the formal specification)
+pub fn followed_supply_stays()
+    ensures { FollowedSupplyStays }
+{
+    supply_stays();
+}

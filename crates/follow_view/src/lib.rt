@@ -1,0 +1,6 @@
+//! The line of a ledger that an accepted rollback left.
+#![tactic(auto)]
+
+mod rolled;
+
+pub use rolled::{put_rolled, rolled_text};
