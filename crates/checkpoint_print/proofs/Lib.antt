@@ -1,0 +1,4 @@
+mod FrozenLines
+mod KeptLines
+mod Parts
+mod Taken

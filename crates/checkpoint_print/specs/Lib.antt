@@ -1,0 +1,4 @@
+pub mod Frozen
+pub mod Kept
+pub mod LineWords
+pub mod Sources

@@ -1,0 +1,5 @@
+mod Weights
+mod StakesAre
+mod PartsAre
+pub mod Passed
+mod Priorities
