@@ -1,0 +1,5 @@
+use Rattle.action_lines.proofs.Added.{then_added, then_adds}
+use Rattle.action_lines.proofs.updates.push_technical.Goals as goal
+
+pub returns : goal.returns
+returns c = then_added _ _ c.push_maybe-5.result (then_adds (then_adds (then_adds c.in_ok-begun.ensures c.in_ok-begun-2.ensures) c.in_ok-begun-3.ensures) c.in_ok-begun-4.ensures) c.push_maybe-5.ensures

@@ -1,0 +1,4 @@
+pub mod Balances
+pub mod Fronts
+pub mod Lowest
+pub mod Uneven

@@ -1,0 +1,5 @@
+mod Lists
+mod Values
+pub mod Quantities
+mod Sums
+mod Balanced

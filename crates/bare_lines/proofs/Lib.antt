@@ -1,0 +1,2 @@
+pub mod LentPuts
+pub mod Joined

@@ -1,0 +1,5 @@
+pub mod Hashes
+pub mod Outputs
+pub mod Pools
+pub mod Dormancy
+pub mod Delegations

@@ -1,0 +1,23 @@
+//! Tests of the boundary between epochs, and of what proposals that are frozen then lack.
+//! It has no code, so that a test is proved alone.
+//! It is a program that does nothing, since the gate makes more sums of a library.
+#![tactic(auto)]
+
+#[cfg(test)]
+mod cases;
+#[cfg(test)]
+mod epochs;
+#[cfg(test)]
+mod lacks;
+#[cfg(test)]
+mod lacks_table;
+#[cfg(test)]
+mod lines;
+#[cfg(test)]
+mod proposals;
+#[cfg(test)]
+mod state;
+#[cfg(test)]
+mod steps;
+
+fn main() {}

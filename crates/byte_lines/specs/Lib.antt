@@ -1,0 +1,14 @@
+pub mod Adapters
+pub mod Answers
+pub mod Buffers
+pub mod Faults
+pub mod InMemory
+pub mod Laws
+pub mod Pieces
+pub mod Progress
+pub mod Reader
+pub mod Sinks
+pub mod Sources
+pub mod States
+pub mod Told
+pub mod Turns

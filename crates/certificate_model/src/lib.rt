@@ -1,0 +1,2 @@
+//! Certificates: the text of a frozen epoch and its pass, which snapshots fit, checkers' answers.
+#![tactic(auto)]

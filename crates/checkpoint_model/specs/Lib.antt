@@ -1,0 +1,4 @@
+pub mod Checkpoint
+pub mod Resumable
+pub mod Resumed
+pub mod Laws

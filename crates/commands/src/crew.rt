@@ -1,0 +1,9 @@
+use std::alloc::Global;
+
+/// Who shares a run's counts: workers in `rt`'s threads, each of which enters the gate first.
+#[derive(Drop)]
+pub struct Crew<'a, T, G> {
+    pub alloc: Global,
+    pub rt: &'a T,
+    pub gate: &'a G,
+}

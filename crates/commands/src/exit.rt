@@ -1,0 +1,30 @@
+ghost use Rattle.std.specs.Prelude.{◌≡◌, drop};
+ghost use Rattle.std.specs.Process.{exit_status};
+ghost use Rattle.replay_loop.specs.RunsAs.{RunsAs};
+ghost use Rattle.replay_loop.specs.Statuses.{status_number};
+ghost use Rattle.replay_loop.specs.declared.status.Status.{Status};
+
+use crate::command::after_name;
+use crate::dispatch::run;
+use byte_lines::{Sink, Source};
+use par_count::Gate;
+use std::alloc::Global;
+use std::process::ExitCode;
+use std::thread::Threads;
+
+/// Runs the command of the words after the program's name, and exits with its status's number.
+pub fn run_to_exit<R: Threads + Sync, S: Source, K: Sink, G: Gate + Sync>(
+    alloc: Global,
+    rt: &R,
+    args: &[String],
+    source: &mut S,
+    sink: &mut K,
+    gate: &G,
+) -> ExitCode
+    ensures runs { (status : Status) × (exit_status result ≡ status_number status)
+        × RunsAs (record { left = S.left; failed_reads = S.faults; taken = K.taken; failed_writes = K.faults })
+        (source.old, sink.old) (source.new, sink.new) status (drop 1 args.now) }
+{
+    let status = run(alloc, rt, after_name(args), source, sink, gate);
+    ExitCode::from(status.number())
+}

@@ -1,0 +1,24 @@
+//! Tests of the commands: rows, streams, faults, statuses. No code, so that a test is proved alone.
+//! It is a program that does nothing, since the gate makes more sums of a library.
+#![tactic(auto)]
+
+#[cfg(test)]
+mod batches;
+#[cfg(test)]
+mod endings;
+#[cfg(test)]
+mod epochs;
+#[cfg(test)]
+mod faults;
+#[cfg(test)]
+mod memory;
+#[cfg(test)]
+mod rows;
+#[cfg(test)]
+mod shortfalls;
+#[cfg(test)]
+mod streams;
+#[cfg(test)]
+mod workers;
+
+fn main() {}

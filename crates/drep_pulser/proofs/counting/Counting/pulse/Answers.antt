@@ -1,0 +1,12 @@
+use Rattle.std.proofs.Common.{◌≡◌, ap, sym, subst, arith}
+use Rattle.drep_pulser.specs.Count.{Count, Ended}
+use Rattle.drep_pulser.specs.Facts.{IsCountOf}
+use Rattle.drep_pulser.proofs.Closing.{all_visited}
+use Rattle.drep_pulser.proofs.counting.Counting.pulse.Goals as goal
+
+pub returns-then-done-total-clause-counts : goal.returns-then-done-total-clause-counts
+returns-then-done-total-clause-counts g c = λ f p h.
+    let before : IsCountOf f c.self.inside.walk = subst (λ (k : Count). IsCountOf f k) (sym c.self.view_is) h in
+    let k : Count = c.advance.new.self in
+    let whole : k.done ≡ k.total = omega (arith, c.done.ensures, c.total.ensures, c.if-done-total.true) in
+    all_visited f k c.ended.result (c.advance.ensures.counts f p before) whole (ap (λ (r : Ended). r.total) c.ended.ensures) (ap (λ (r : Ended). r.sums) c.ended.ensures)

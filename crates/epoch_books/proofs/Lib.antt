@@ -1,0 +1,4 @@
+mod Credits
+mod Held
+mod Refunds
+mod Updates

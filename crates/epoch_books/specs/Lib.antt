@@ -1,0 +1,2 @@
+pub mod Retirements
+pub mod Rewarded

@@ -1,0 +1,4 @@
+pub mod Counting
+pub mod Steady
+pub mod Crossing
+pub mod Ahead

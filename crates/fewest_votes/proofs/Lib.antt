@@ -1,0 +1,5 @@
+mod FrontsFound
+mod Orders
+mod Reached
+mod Ranked
+mod Taken

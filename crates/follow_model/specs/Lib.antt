@@ -1,0 +1,4 @@
+pub mod Chain
+pub mod Follow
+pub mod FollowLines
+pub mod Laws

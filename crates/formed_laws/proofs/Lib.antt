@@ -1,0 +1,12 @@
+pub mod Each
+pub mod Parts
+pub mod Certs
+pub mod Forks
+pub mod Transactions
+pub mod Enacting
+pub mod Boundaries
+pub mod Whole
+pub mod Steps
+pub mod Genesis
+pub mod Reached
+pub mod Counts

@@ -1,0 +1,4 @@
+pub mod Records
+pub mod Worlds
+pub mod Laws
+pub mod Counts

@@ -1,0 +1,2 @@
+//! Worked rows of the further commands: the checker computes what their definitions give.
+#![tactic(auto)]

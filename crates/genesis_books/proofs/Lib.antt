@@ -1,0 +1,5 @@
+pub mod Walks
+pub mod MemberWalks
+pub mod Listings
+pub mod Frozen
+pub mod FirstBook

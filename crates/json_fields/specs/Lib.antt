@@ -1,0 +1,5 @@
+pub mod Steps
+pub mod Kinds
+pub mod Lists
+pub mod Reads
+pub mod Entries

@@ -1,0 +1,3 @@
+pub mod Views
+mod Reading
+mod Texts

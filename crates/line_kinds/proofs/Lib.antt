@@ -1,0 +1,4 @@
+mod Digits
+mod Lined
+mod Spaces
+mod Backs

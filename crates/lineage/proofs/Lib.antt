@@ -1,0 +1,4 @@
+pub mod Adopting
+pub mod Finding
+pub mod Standing
+pub mod Walking

@@ -1,0 +1,3 @@
+mod Line
+mod Begins
+mod Lengths

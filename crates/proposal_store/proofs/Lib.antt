@@ -1,0 +1,12 @@
+pub mod Parents
+pub mod Index
+pub mod Entries
+pub mod Retaining
+pub mod Adding
+pub mod Voting
+pub mod Leavers
+pub mod Shrunk
+pub mod Once
+pub mod Noting
+pub mod VotesNoted
+pub mod OneVote

@@ -1,0 +1,8 @@
+use Rattle.std.proofs.Common.{◌≡◌, ◌+◌, take}
+use Rattle.gov_ids.specs.declared.Credential.{Credential}
+use Rattle.proposal_store.specs.Added.{count_among, count_at}
+use Rattle.proposal_store.proofs.added.AddedKeys.raise.Given as goal
+
+-- those so far are counted
+abbrev pub invariant-loop-place : goal.invariant-loop-place
+invariant-loop-place l = (c : Credential) → count_at l.self c ≡ count_at l.fn.self c + count_among c (take l.place l.add)

@@ -1,0 +1,8 @@
+pub mod Faults
+pub mod LineFaults
+pub mod Fields
+pub mod Entries
+pub mod Certs
+pub mod Records
+pub mod Lines
+pub mod Reads

@@ -1,0 +1,16 @@
+pub mod Numbers
+pub mod Lines
+pub mod Counts
+pub mod Complete
+pub mod LawsHold
+pub mod Played
+pub mod Answered
+pub mod Texts
+pub mod Loads
+pub mod Shortfalls
+pub mod Outlooks
+pub mod Worded
+pub mod Lasts
+pub mod Certificates
+pub mod Workers
+pub mod Following

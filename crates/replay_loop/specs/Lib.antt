@@ -1,0 +1,17 @@
+pub mod Runs
+pub mod Laws
+pub mod Statuses
+pub mod Endings
+pub mod Outcomes
+pub mod Answers
+pub mod Plays
+pub mod Texts
+pub mod Turns
+pub mod Counts
+pub mod Loads
+pub mod Lasts
+pub mod Certificates
+pub mod Commands
+pub mod Inputs
+pub mod RunsAs
+pub mod Clauses

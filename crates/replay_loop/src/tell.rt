@@ -1,0 +1,52 @@
+ghost use Rattle.std.specs.Prelude.{◌≡◌, ◌≤◌, ℕ, List, Err, Some};
+ghost use Rattle.byte_lines.specs.Faults.{CountsFaults};
+ghost use Rattle.line_runs.specs.Runs.{IsRunOf};
+ghost use Rattle.replay_loop.specs.Answers.{AnswersEach};
+ghost use Rattle.replay_loop.specs.Plays.{run_of};
+
+use crate::fault::Answered;
+use crate::records::Records;
+use crate::run_state::RunState;
+use crate::status::GenesisCause;
+use crate::teller::Teller;
+use byte_lines::{Lines, Sink, Source};
+use line_runs::{RunFault, run_lines};
+use record_read::Scratch;
+use std::alloc::Global;
+use tx_records::Reading;
+use tx_records::limits::{LINE_LIMIT, STREAM_LIMIT};
+
+/// Reads a stream from its genesis to its end, and tells of each record what the teller says.
+pub fn tell_records<
+    R: RunState + Drop,
+    H: Teller<R> + Drop,
+    S: Source,
+    K: Sink,
+    F: Fn(u32, Option<R>, Reading) -> Answered<R>,
+>(
+    alloc: Global,
+    answer: &F,
+    workers: u32,
+    teller: H,
+    source: &mut S,
+    sink: &mut K,
+) -> Result<(), RunFault<GenesisCause>>
+    requires some { 1 ≤ workers }
+    requires few { workers ≤ 64 }
+    requires answers { AnswersEach R.world (F.pre answer.now) (F.post answer.now) }
+    ensures runs { (bytes : List ℕ) → S.left source.old ≡ Some bytes →
+        IsRunOf (run_of H.telling (H.kept teller)) bytes (S.left source.new) (K.taken sink.old) (K.taken sink.new) result }
+    ensures reads { CountsFaults (result ≡ Err RunFault.ReadFault) (S.faults source.old) (S.faults source.new) }
+    ensures writes { CountsFaults (result ≡ Err RunFault.WriteFault) (K.faults sink.old) (K.faults sink.new) }
+{
+    let mut lines = Lines::new(alloc, LINE_LIMIT, STREAM_LIMIT);
+    let mut command = Records {
+        alloc,
+        answer,
+        workers,
+        state: None,
+        teller,
+        scratch: Scratch::new(alloc),
+    };
+    run_lines(alloc, &mut lines, &mut command, source, sink)
+}

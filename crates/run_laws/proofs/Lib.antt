@@ -1,0 +1,12 @@
+pub mod Good
+pub mod GoodTx
+pub mod GoodBlock
+pub mod Start
+pub mod Reach
+pub mod AssetMoves
+pub mod Counted
+pub mod Pulses
+pub mod Parted
+pub mod SoundStakes
+pub mod Sound
+pub mod SoundSums

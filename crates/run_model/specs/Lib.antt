@@ -1,0 +1,11 @@
+pub mod World
+pub mod Freeze
+pub mod Boundary
+pub mod Report
+pub mod Genesis
+pub mod Step
+pub mod Runs
+pub mod BoundaryFlows
+pub mod Laws
+pub mod SoundWorld
+pub mod SoundLaws

@@ -1,0 +1,4 @@
+pub mod AssetTotals
+pub mod ParamTexts
+pub mod SnapshotNames
+pub mod StateTexts

@@ -1,0 +1,5 @@
+use Rattle.stream_laws.proofs.Streams.{bytes_are_resumable}
+use Rattle.stream_laws.proofs.laws.bytes_are_resumable.Goals as goal
+
+pub returns : goal.returns
+returns c = bytes_are_resumable

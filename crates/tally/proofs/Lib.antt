@@ -1,0 +1,9 @@
+pub mod Counting
+pub mod MemberSides
+pub mod DrepSides
+pub mod PoolSides
+pub mod Raising
+pub mod Votes
+pub mod SilentDreps
+pub mod ById
+pub mod SilentPools

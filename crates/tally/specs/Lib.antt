@@ -1,0 +1,7 @@
+pub mod Adding
+pub mod Active
+pub mod Stakes
+pub mod Greatest
+pub mod Counted
+pub mod Cells
+pub mod Silent

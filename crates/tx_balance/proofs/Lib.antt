@@ -1,0 +1,11 @@
+pub mod Outputs
+pub mod OutputParts
+pub mod Failed
+pub mod Assets
+pub mod Withdrawals
+pub mod Certs
+pub mod Drafts
+pub mod Passed
+pub mod Mints
+pub mod Supplies
+pub mod Sounds

@@ -1,0 +1,15 @@
+-- The rules after a transaction's certificates. (GOV and UTXO of the formal specification)
+use Rattle.std.specs.Prelude.{List, ◌++◌}
+use Rattle.tx_records.specs.declared.tx.Tx.{Tx}
+use Rattle.ledger_model.specs.Broken.{balance_checks}
+use Rattle.ledger_model.specs.Checks.{Check, per_place}
+use Rattle.ledger_model.specs.Draft.{last_draft}
+use Rattle.ledger_model.specs.Ledger.{Ledger}
+use Rattle.ledger_model.specs.ProposalRules.{proposal_checks, vote_checks}
+
+-- the rules on proposals, on votes and on the balance
+abbrev pub drafted_checks : Ledger → Tx → List Check
+drafted_checks l tx =
+    per_place (proposal_checks l (last_draft l tx)) tx.proposals
+    ++ per_place (vote_checks l (last_draft l tx)) tx.votes
+    ++ balance_checks l tx

@@ -1,0 +1,39 @@
+use Rattle.std.proofs.Common.{◌≡◌, ℕ, ◌+◌, List, sum_by, ap, ◌∙◌, arith}
+use Rattle.gov_ids.specs.declared.Account.{Account}
+use Rattle.tx_records.specs.declared.tx.ProposalRecord.{ProposalRecord}
+use Rattle.tx_records.specs.declared.tx.Tx.{Tx}
+use Rattle.tx_records.specs.declared.tx.TxOutput.{TxOutput}
+use Rattle.ledger_model.specs.Broken.{consumed, produced}
+use Rattle.ledger_model.specs.Flows.{flows_of_certs, hand, sink, source, sum_at}
+use Rattle.ledger_model.specs.Ledger.{Ledger}
+use Rattle.ledger_model.specs.UtxoRules.{lovelace_at}
+use Rattle.tx_balance.proofs.Passed.{passed_sum}
+use Rattle.utxo_rules.proofs.Balances.{balanced, unbalanced}
+use Rattle.utxo_rules.proofs.balance_of_lovelace.Goals as goal
+
+-- what is added up is what the transaction takes
+takes : (l : Ledger) (tx : Tx) (withdrawals : List (Account × ℕ)) (a b refunds : ℕ) → withdrawals ≡ tx.withdrawals
+    → a ≡ sum_by (lovelace_at l) tx.inputs → b ≡ sum_by (λ (x : Account × ℕ). x.1) withdrawals → refunds ≡ sum_at sink hand (flows_of_certs l tx) → a + b + refunds ≡ consumed l tx
+takes l tx withdrawals a b refunds r x y z =
+    omega (arith, passed_sum l tx sink hand, x, y ∙ ap (λ (ws : List (Account × ℕ)). sum_by (λ (w : Account × ℕ). w.1) ws) r)
+
+-- and what it gives
+gives : (l : Ledger) (tx : Tx) (outputs : List TxOutput) (proposals : List ProposalRecord) (a b fee donation deposits : ℕ) → outputs ≡ tx.outputs → proposals ≡ tx.proposals
+    → a ≡ sum_by (λ (o : TxOutput). o.lovelace) outputs → b ≡ sum_by (λ (p : ProposalRecord). p.deposit) proposals → fee ≡ tx.fee → donation ≡ tx.donation
+    → deposits ≡ sum_at source hand (flows_of_certs l tx) → a + fee + donation + deposits + b ≡ produced l tx
+gives l tx outputs proposals a b fee donation deposits p q x y f d z =
+    omega (arith, passed_sum l tx source hand, x ∙ ap (λ (os : List TxOutput). sum_by (λ (o : TxOutput). o.lovelace) os) p, y ∙ ap (λ (ps : List ProposalRecord). sum_by (λ (r : ProposalRecord). r.deposit) ps) q)
+
+pub returns-then-consumed-produced : goal.returns-then-consumed-produced
+returns-then-consumed-produced c =
+    let l = c.args.d.now.start in
+    let taken = takes l c.args.tx.now _ _ _ _ c.as_slice.ensures c.requires.sum c.lovelace_withdrawn.ensures.sum (c.moved-refunds.ensures.refunds ∙ c.requires.refunds) in
+    let given = gives l c.args.tx.now _ _ _ _ _ _ _ c.as_slice-2.ensures c.as_slice-3.ensures c.lovelace_made.ensures.sum c.lovelace_proposed.ensures.sum c.from.ensures c.from-2.ensures (c.moved-refunds.ensures.deposits ∙ c.requires.deposits) in
+    unbalanced l c.args.tx.now _ _ taken given c.keeping_two.result c.keeping_two.ensures c.if-consumed-produced.true
+
+pub returns : goal.returns
+returns c =
+    let l = c.args.d.now.start in
+    let taken = takes l c.args.tx.now _ _ _ _ c.as_slice.ensures c.requires.sum c.lovelace_withdrawn.ensures.sum (c.moved-refunds.ensures.refunds ∙ c.requires.refunds) in
+    let given = gives l c.args.tx.now _ _ _ _ _ _ _ c.as_slice-2.ensures c.as_slice-3.ensures c.lovelace_made.ensures.sum c.lovelace_proposed.ensures.sum c.from.ensures c.from-2.ensures (c.moved-refunds.ensures.deposits ∙ c.requires.deposits) in
+    balanced l c.args.tx.now _ _ taken given c.if-consumed-produced.false

@@ -1,0 +1,3 @@
+pub mod Repeated
+pub mod Spent
+pub mod Plain

@@ -1,0 +1,6 @@
+mod Changed
+pub mod Entries
+mod Kept
+mod Marks
+mod Merged
+mod Walk

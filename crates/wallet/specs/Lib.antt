@@ -1,0 +1,4 @@
+pub mod Starts
+pub mod Parts
+pub mod Questions
+pub mod Asking
