@@ -51,7 +51,7 @@ numbers = record {
   dormant = 0;
   fees = 20;
   donations = 0;
-  pending = None;
+  had_pending = false;
   proposals = 2;
   unused = None;
   outputs = [];
@@ -66,9 +66,17 @@ pub a_block : is_undone numbers voted (records.Block 5 1) ≡ true
 unfolding digits encode_with
 a_block = refl
 
-pub a_reward_update : is_undone numbers voted (records.Rewards (record { epoch = 0; from_reserves = 3; from_fees = 2; to_treasury = 1; rewards = (key 0x10, 4) ∷ [] })) ≡ true
+abbrev update : Record
+update = records.Rewards (record { epoch = 0; from_reserves = 3; from_fees = 2; to_treasury = 1; rewards = (key 0x10, 4) ∷ [] })
+
+pub a_reward_update : is_undone numbers voted update ≡ true
 unfolding digits encode_with
 a_reward_update = refl
+
+-- an update that was pending before stays
+pub a_block_after_an_update : is_undone (record numbers { had_pending = true }) (step voted update).0 (records.Block 5 1) ≡ true
+unfolding digits encode_with
+a_block_after_an_update = refl
 
 -- a transaction that changes each map: a DRep that voted leaves, and another votes again, and where it had not voted
 abbrev of_all : Record

@@ -1,4 +1,4 @@
-ghost use Rattle.std.specs.Prelude.{◌≡◌, OnOk, IfOk, map, take};
+ghost use Rattle.std.specs.Prelude.{◌≡◌, OnOk, IfOk, None, if◌then◌else◌, map, take};
 ghost use Rattle.gov_ids.specs.Orders.{credential_cmp, outref_cmp, pool_cmp};
 ghost use Rattle.ledger_books.specs.Parts.{IsStep, frozen_entries};
 ghost use Rattle.stake_book.specs.Stakes.{accounts_of};
@@ -28,7 +28,10 @@ pub fn undo_books(b: Books, before: Before) -> Result<Books, NoMemory>
     let mut books = b;
     let (values, entries) = before.into_parts();
     match restore_books(&mut books, &values, entries) {
-        Ok(()) => Ok(with_values(books, values)),
+        Ok(()) => {
+            set_values(&mut books, &values);
+            Ok(books)
+        }
         Err(error) => {
             drop((books, values));
             Err(error)
@@ -36,30 +39,20 @@ pub fn undo_books(b: Books, before: Before) -> Result<Books, NoMemory>
     }
 }
 
-// The books with the old values of which they have one each.
-fn with_values(b: Books, values: OldValues) -> Books
-    ensures { result ≡ record b {
-      slot = values.slot;
-      fees = values.fees;
-      donations = values.donations;
-      pending = values.pending;
+// Sets the old values of which the books have one each. A reward update stays if one was pending.
+fn set_values(b: &mut Books, values: &OldValues)
+    ensures { b.new ≡ record b.old {
+      slot = values.now.slot;
+      fees = values.now.fees;
+      donations = values.now.donations;
+      pending = if values.now.had_pending then b.old.pending else None;
     } }
 {
-    let OldValues {
-        slot,
-        dormant: _dormant,
-        fees,
-        donations,
-        proposals: _proposals,
-        unused: _unused,
-        pending,
-    } = values;
-    Books {
-        slot,
-        fees,
-        donations,
-        pending,
-        ..b
+    b.slot = values.slot;
+    b.fees = values.fees;
+    b.donations = values.donations;
+    if !values.had_pending {
+        b.pending = None;
     }
 }
 

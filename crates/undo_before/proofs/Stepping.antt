@@ -1,5 +1,5 @@
 -- What records change that name nothing, and the World after a transaction.
-use Rattle.std.proofs.Common.{◌≡◌, ℕ, ◌+◌, List, [], ◌∷◌, Bool, true, false, Option, Some, None, Result, Ok, Err, IfOk, length, take, refl, ap, sym, subst, arith}
+use Rattle.std.proofs.Common.{◌≡◌, ℕ, ◌+◌, List, [], ◌∷◌, Bool, true, false, Option, Some, None, is_some, length, take, refl, ap, sym, subst, arith}
 use Rattle.std.specs.List.{AllZip}
 use Rattle.gov_actions.specs.declared.action.Proposal.{Proposal}
 use Rattle.gov_ids.specs.declared.TxId.{TxId}
@@ -18,6 +18,7 @@ use Rattle.tx_records.specs.declared.tx.Tx.{Tx}
 use Rattle.undo_model.specs.Holds.{Holds, HoldsOldVotes, HoldsUnused}
 use Rattle.undo_model.specs.Undone.{Before}
 use Rattle.undo_before.specs.Old.{naming_nothing, tx_of}
+use Rattle.undo_model.proofs.Stepping.{none_given}
 use Rattle.undo_before.proofs.Maps.{holds_none}
 
 -- ---- votes and used ids that stay
@@ -32,13 +33,14 @@ same_used used = record { values = λ id e. cc; others = λ id other. refl }
 -- ---- records that name nothing
 
 -- a World with another slot, another pending update and another count
-pub names_nothing : (w : World) (slot counted : ℕ) (pending : Option Rewards) → Holds w (naming_nothing w) (record w { ledger = record w.ledger { slot = slot }; pending = pending; counted = counted })
-names_nothing w slot counted pending = record {
+pub names_nothing : (w : World) (slot counted : ℕ) (pending : Option Rewards) → (is_some w.pending ≡ true → pending ≡ w.pending) → Holds w (naming_nothing w) (record w { ledger = record w.ledger { slot = slot }; pending = pending; counted = counted })
+names_nothing w slot counted pending same = record {
   slot = refl;
   dormant = refl;
   fees = refl;
   donations = refl;
-  pending = refl;
+  had_pending = refl;
+  pending = same;
   outputs = holds_none outref_cmp w.ledger.outputs;
   used = same_used w.ledger.used;
   accounts = holds_none credential_cmp w.ledger.accounts;
@@ -51,7 +53,7 @@ names_nothing w slot counted pending = record {
 }
 
 pub holds_itself : (w : World) → Holds w (naming_nothing w) w
-holds_itself w = names_nothing w w.ledger.slot w.counted w.pending
+holds_itself w = names_nothing w w.ledger.slot w.counted w.pending (λ e. refl)
 
 -- whether the record is a transaction
 abbrev pub IsNoTx : Record → Type 0
@@ -65,19 +67,19 @@ same_epoch (Some u) l = refl
 
 by_crossing : (b : Bool) (w : World) (slot pulse : ℕ) → (crossed b w).ledger.epoch ≡ w.ledger.epoch → Holds w (naming_nothing w) (pulsed slot pulse (crossed b w))
 by_crossing true w slot pulse h = absurd (omega (arith, h, ap (λ n. n + 1) (same_epoch w.pending w.ledger)))
-by_crossing false w slot pulse h = names_nothing w slot (pulsed slot pulse w).counted w.pending
+by_crossing false w slot pulse h = names_nothing w slot (pulsed slot pulse w).counted w.pending (λ e. refl)
 
-by_rule : (o : Option Rule) (w : World) (r : Record) → IsNoTx r → (step_by o w r).0.ledger.epoch ≡ w.ledger.epoch → Holds w (naming_nothing w) (step_by o w r).0
-by_rule (Some rule) w r n h = holds_itself w
-by_rule None w (records.Genesis genesis) n h = holds_itself w
-by_rule None w (records.Block slot pulse) n h = by_crossing (enters_next w.ledger slot) w slot pulse h
-by_rule None w (records.Rewards u) n h = names_nothing w w.ledger.slot w.counted (Some (in_order_of_credential u))
-by_rule None w (records.Tx tx) n h = absurd n
-by_rule None w (records.Print what) n h = holds_itself w
+by_rule : (o : Option Rule) (w : World) (r : Record) → IsNoTx r → refusal_of w r ≡ o → (step_by o w r).0.ledger.epoch ≡ w.ledger.epoch → Holds w (naming_nothing w) (step_by o w r).0
+by_rule (Some rule) w r n e h = holds_itself w
+by_rule None w (records.Genesis genesis) n e h = holds_itself w
+by_rule None w (records.Block slot pulse) n e h = by_crossing (enters_next w.ledger slot) w slot pulse h
+by_rule None w (records.Rewards u) n e h = names_nothing w w.ledger.slot w.counted (Some (in_order_of_credential u)) (none_given w u e)
+by_rule None w (records.Tx tx) n e h = absurd n
+by_rule None w (records.Print what) n e h = holds_itself w
 
 -- each record but a transaction changes nothing at a name
 pub other_held : (w : World) (r : Record) → IsNoTx r → (step w r).0.ledger.epoch ≡ w.ledger.epoch → Holds w (naming_nothing w) (step w r).0
-other_held w r n h = by_rule (refusal_of w r) w r n h
+other_held w r n h = by_rule (refusal_of w r) w r n refl h
 
 -- the World after a transaction that breaks a rule, and after one that breaks none
 pub refused_held : (w : World) (tx : Tx) {rule : Rule} → first_broken w.ledger tx ≡ Some rule → Holds w (naming_nothing w) (step w (records.Tx tx)).0
@@ -85,12 +87,6 @@ refused_held w tx broken = subst (λ (o : Option Rule). Holds w (naming_nothing 
 
 pub accepted_held : (w : World) (tx : Tx) (b : Before) → first_broken w.ledger tx ≡ None → Holds w b (on_ledger (λ l. ledger_after_tx l tx) w) → Holds w b (step w (records.Tx tx)).0
 accepted_held w tx b none held = subst (λ (o : Option Rule). Holds w b (step_by o w (records.Tx tx)).0) (sym none) held
-
--- what a call gives that names nothing
-pub other_answer : {E : Type 0} (result : Result Before E) (w : World) (r : Record) → IsNoTx r → IfOk result (λ (b : Before). b ≡ naming_nothing w) → (step w r).0.ledger.epoch ≡ w.ledger.epoch
-    → IfOk result (λ (b : Before). Holds w b (step w r).0)
-other_answer (Ok b) w r n is e = subst (λ (x : Before). Holds w x (step w r).0) (sym is) (other_held w r n e)
-other_answer (Err x) w r n is e = tt
 
 -- a record that is this transaction, and one that is none
 pub tx_from : (r : Record) (tx : Tx) → Some tx ≡ tx_of r → records.Tx tx ≡ r

@@ -1,5 +1,5 @@
 -- The old values of a World, and those at names. (Own)
-use Rattle.std.specs.Prelude.{List, [], ◌++◌, Option, Some, None, length, map}
+use Rattle.std.specs.Prelude.{List, [], ◌++◌, Option, Some, None, is_some, length, map}
 use Rattle.std.specs.declared.cmp.Ordering.{Ordering}
 use Rattle.std.specs.Map.{keys_of}
 use Rattle.std.specs.Option.{option_and_then}
@@ -31,7 +31,7 @@ values_of w unused = record {
   donations = w.ledger.donations;
   proposals = length w.ledger.proposals;
   unused = unused;
-  pending = w.pending;
+  had_pending = is_some w.pending;
 }
 
 module _ {K X : Type 0} where

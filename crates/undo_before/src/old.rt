@@ -15,7 +15,6 @@ use listed::Listed;
 use no_memory::NoMemory;
 use stake_book::StakeBook;
 use std::alloc::Global;
-use tx_records::Rewards;
 use undo_records::{OldEntries, OldValues};
 
 /// These old outputs, and no old value at another name.
@@ -33,47 +32,18 @@ pub fn outputs_only(alloc: Global, outputs: Listed<(OutRef, Option<Output>)>) ->
 }
 
 /// The values of which a ledger has one, with the id that a transaction uses, if any.
-pub fn old_values(
-    alloc: Global,
-    s: &LedgerState,
-    unused: Option<TxId>,
-) -> Result<OldValues, NoMemory>
-    ensures { IfOk result (λ values. values ≡ values_of s.now unused) }
+pub fn old_values(s: &LedgerState, unused: Option<TxId>) -> OldValues
+    ensures { result ≡ values_of s.now unused }
 {
-    let pending = old_pending(alloc, s)?;
-    Ok(OldValues {
+    OldValues {
         slot: s.slot(),
         dormant: s.dreps().dormant(),
         fees: s.fees(),
         donations: s.donations(),
         proposals: s.proposals().len(),
         unused,
-        pending,
-    })
-}
-
-/// A copy of the pending reward update, if there is one.
-fn old_pending(alloc: Global, s: &LedgerState) -> Result<Option<Rewards>, NoMemory>
-    ensures { IfOk result (λ pending. pending ≡ s.now.pending) }
-{
-    match s.pending() {
-        Some(update) => Ok(Some(copied(alloc, update)?)),
-        None => Ok(None),
+        had_pending: s.pending().is_some(),
     }
-}
-
-/// A copy of a reward update.
-fn copied(alloc: Global, update: &Rewards) -> Result<Rewards, NoMemory>
-    ensures { IfOk result (λ copy. copy ≡ update.now) }
-{
-    let rewards = update.rewards.as_slice().iter().copied().collect(alloc)?;
-    Ok(Rewards {
-        epoch: update.epoch,
-        from_reserves: update.from_reserves,
-        from_fees: update.from_fees,
-        to_treasury: update.to_treasury,
-        rewards: Listed::from_vec(rewards),
-    })
 }
 
 /// The registrations of these accounts.

@@ -26,7 +26,7 @@ pub fn before(alloc: Global, s: &LedgerState, r: &Record) -> Result<Before, NoMe
 {
     match transaction_in(r) {
         Some(tx) => before_tx(alloc, s, tx),
-        None => before_other(alloc, s),
+        None => Ok(before_other(alloc, s)),
     }
 }
 
@@ -47,16 +47,15 @@ fn before_tx(alloc: Global, s: &LedgerState, tx: &Tx) -> Result<Before, NoMemory
 {
     match judged(alloc, s, tx) {
         Ok(changes) => before_judged(alloc, s, &changes, tx),
-        Err(TxFault::Refused(_)) => before_other(alloc, s),
+        Err(TxFault::Refused(_)) => Ok(before_other(alloc, s)),
         Err(TxFault::NoMemory) => Err(NoMemory),
     }
 }
 
 /// The values of which a ledger has one, and none at names.
-fn before_other(alloc: Global, s: &LedgerState) -> Result<Before, NoMemory>
-    ensures { IfOk result (λ b. b ≡ naming_nothing s.now) }
+fn before_other(alloc: Global, s: &LedgerState) -> Before
+    ensures { result ≡ naming_nothing s.now }
 {
-    let values = old_values(alloc, s, None)?;
     let entries = outputs_only(alloc, Listed::new(alloc));
-    Ok(Before::of_parts(values, entries))
+    Before::of_parts(old_values(s, None), entries)
 }

@@ -42,8 +42,7 @@ pub fn before_judged(
     ensures { IfOk result (λ b. Holds s.now b (on_ledger (λ l. ledger_after_tx l tx.now) s.now)) }
 {
     let entries = old_entries(alloc, s, changes, tx)?;
-    let values = old_values(alloc, s, Some(tx.id))?;
-    Ok(Before::of_parts(values, entries))
+    Ok(Before::of_parts(old_values(s, Some(tx.id)), entries))
 }
 
 /// The old values at all names whose values such a transaction changes.

@@ -1,4 +1,4 @@
 mod OldMaps
 pub mod Undoing
 mod Naming
-mod Stepping
+pub mod Stepping

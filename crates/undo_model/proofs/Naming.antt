@@ -1,5 +1,5 @@
 -- Old values that name every key, every voter and every number of two Worlds.
-use Rattle.std.proofs.Common.{◌≡◌, List, [], ◌∷◌, ◌++◌, true, false, cond, ◌||◌, Option, Some, None, filter, length, map, take, refl, ap, sym, subst, ◌∙◌, append_assoc, append-nil}
+use Rattle.std.proofs.Common.{◌≡◌, List, [], ◌∷◌, ◌++◌, true, false, cond, ◌||◌, Option, Some, None, is_some, filter, length, map, take, refl, ap, sym, subst, ◌∙◌, append_assoc, append-nil}
 use Rattle.std.specs.declared.cmp.Ordering.{Ordering}
 use Rattle.std.specs.Ordering.{eq_by_cmp}
 use Rattle.std.specs.List.{AllByRecursion, AllZip, IsDistinct}
@@ -182,6 +182,7 @@ with_named l m = record l {
 -- v is w except at what old values can name, and the proposals of w come first, with any votes
 pub record IsWithin (w v : World) (unused : Option TxId) : Type 0 where
   pub used : HoldsUnused unused w.ledger.used v.ledger.used
+  pub pending : is_some w.pending ≡ true → v.pending ≡ w.pending
   pub first : map bare (take (length w.ledger.proposals) v.ledger.proposals) ≡ map bare w.ledger.proposals
   pub others : v ≡ record w { ledger = with_named w.ledger v.ledger; pending = v.pending; counted = v.counted }
 
@@ -194,7 +195,7 @@ naming_all w v unused =
       dormant = l.dormant;
       fees = l.fees;
       donations = l.donations;
-      pending = w.pending;
+      had_pending = is_some w.pending;
       proposals = length l.proposals;
       unused = unused;
       outputs = all_named outref_cmp l.outputs m.outputs;
@@ -214,7 +215,8 @@ all_is_held w v unused g within =
       dormant = refl;
       fees = refl;
       donations = refl;
-      pending = refl;
+      had_pending = refl;
+      pending = within.pending;
       outputs = holds_all outref_cmp l.outputs m.outputs;
       used = within.used;
       accounts = holds_all credential_cmp l.accounts m.accounts;

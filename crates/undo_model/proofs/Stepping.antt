@@ -1,5 +1,5 @@
 -- What a record that stays in the epoch changes can be named.
-use Rattle.std.proofs.Common.{◌≡◌, ℕ, ◌+◌, List, [], ◌∷◌, ◌++◌, Bool, true, false, cond, ◌||◌, Option, Some, None, is_none, unwrap_or, fold, length, map, take, refl, ap, sym, ◌∙◌, arith}
+use Rattle.std.proofs.Common.{◌≡◌, ℕ, ◌+◌, List, [], ◌∷◌, ◌++◌, Bool, true, false, cond, ◌||◌, Option, Some, None, is_none, is_some, unwrap_or, fold, length, map, take, refl, ap, sym, ◌∙◌, arith}
 use Rattle.std.proofs.lemmas.List.{length-map}
 use Rattle.maps.proofs.Sets.{has_member-with_key}
 use Rattle.maps.specs.Maps.{has_member, with_key, with_values, without_key}
@@ -20,6 +20,8 @@ use Rattle.tx_records.specs.declared.reply.Rule.{Rule}
 use Rattle.tx_records.specs.declared.tx.Scripts.{Scripts}
 use Rattle.tx_records.specs.declared.tx.Scripts.TheVariants.{Absent, Passed, Failed}
 use Rattle.tx_records.specs.declared.tx.Tx.{Tx}
+use Rattle.ledger_model.proofs.Unbroken.{IsUnbroken, unbroken-cons}
+use Rattle.ledger_model.specs.Checks.{first_among}
 use Rattle.ledger_model.specs.Changes.{changed_by, dormant_added, refreshed, voters_refreshed, withdrawn}
 use Rattle.ledger_model.specs.Draft.{draft_with, is_refused, last_draft}
 use Rattle.ledger_model.specs.Ledger.{Ledger}
@@ -28,7 +30,7 @@ use Rattle.ledger_model.specs.Transaction.{after_failed, after_passed, after_scr
 use Rattle.ledger_model.proofs.DraftKeeps.{changed_to, draft_keeps}
 use Rattle.run_model.specs.Boundary.{update_applied}
 use Rattle.run_model.specs.SoundWorld.{IsSoundWorld}
-use Rattle.run_model.specs.Step.{crossed, enters_next, pulsed, refusal_of, step, step_by}
+use Rattle.run_model.specs.Step.{crossed, enters_next, pulsed, refusal_of, reward_checks, step, step_by}
 use Rattle.run_model.specs.World.{World}
 use Rattle.tx_balance.proofs.OutputParts.{id_is_new, parts_of}
 use Rattle.undo_model.specs.Holds.{HoldsUnused}
@@ -105,7 +107,7 @@ CanBeNamed w v = (unused : Option TxId) × IsWithin w v unused
 
 -- a World has old values for itself
 same_world : (w : World) → IsWithin w w None
-same_world w = record { used = same_used w.ledger.used; first = ap (λ (ps : List Proposal). map bare ps) (taken_whole w.ledger.proposals); others = refl }
+same_world w = record { used = same_used w.ledger.used; pending = λ e. refl; first = ap (λ (ps : List Proposal). map bare ps) (taken_whole w.ledger.proposals); others = refl }
 
 passed : (w : World) (tx : Tx) → IsSoundWorld w → has_member txid_cmp w.ledger.used tx.id ≡ false → CanBeNamed w (record w { ledger = after_passed w.ledger tx })
 passed w tx g new =
@@ -116,6 +118,7 @@ passed w tx g new =
       Some tx.id,
       record {
         used = one_more tx.id l.used new;
+        pending = λ e. refl;
         first = bare_passed l tx;
         others = ap (λ (x : Ledger). record w { ledger = with_named x (after_passed l tx) }) (sym only);
       },
@@ -126,6 +129,7 @@ failed w tx new = (
   Some tx.id,
   record {
     used = one_more tx.id w.ledger.used new;
+    pending = λ e. refl;
     first = ap (λ (ps : List Proposal). map bare ps) (taken_whole w.ledger.proposals);
     others = refl;
   },
@@ -143,13 +147,20 @@ same_epoch (Some u) l = refl
 
 by_crossing : (b : Bool) (w : World) (slot pulse : ℕ) → (crossed b w).ledger.epoch ≡ w.ledger.epoch → CanBeNamed w (pulsed slot pulse (crossed b w))
 by_crossing true w slot pulse h = absurd (omega (arith, h, ap (λ n. n + 1) (same_epoch w.pending w.ledger)))
-by_crossing false w slot pulse h = (None, record { used = same_used w.ledger.used; first = (same_world w).first; others = refl })
+by_crossing false w slot pulse h = (None, record { used = same_used w.ledger.used; pending = λ e. refl; first = (same_world w).first; others = refl })
+
+-- no reward update was pending where one is accepted
+pub none_given : {A : Type 0} {x y : A} (w : World) (u : Rewards) → first_among (reward_checks w u) ≡ None → is_some w.pending ≡ true → x ≡ y
+none_given w u e given =
+    let all : IsUnbroken (reward_checks w u) = record { none = e } in
+    let none : is_some w.pending ≡ false = (unbroken-cons _ _ (unbroken-cons _ _ all).1).0 in
+    cc
 
 by_rule : (o : Option Rule) (w : World) (r : Record) → IsSoundWorld w → refusal_of w r ≡ o → (step_by o w r).0.ledger.epoch ≡ w.ledger.epoch → CanBeNamed w (step_by o w r).0
 by_rule (Some rule) w r g e h = (None, same_world w)
 by_rule None w (records.Genesis genesis) g e h = (None, same_world w)
 by_rule None w (records.Block slot pulse) g e h = by_crossing (enters_next w.ledger slot) w slot pulse h
-by_rule None w (records.Rewards u) g e h = (None, record { used = same_used w.ledger.used; first = (same_world w).first; others = refl })
+by_rule None w (records.Rewards u) g e h = (None, record { used = same_used w.ledger.used; pending = none_given w u e; first = (same_world w).first; others = refl })
 by_rule None w (records.Tx tx) g e h = by_scripts tx.scripts w tx g (id_is_new w.ledger tx (parts_of w.ledger tx (ap (λ (o : Option Rule). is_none o) e)))
 by_rule None w (records.Print what) g e h = (None, same_world w)
 

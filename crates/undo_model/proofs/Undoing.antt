@@ -1,5 +1,5 @@
 -- An undo gives the World before, with the present count.
-use Rattle.std.proofs.Common.{ℕ, take, ap}
+use Rattle.std.proofs.Common.{◌≡◌, ℕ, Bool, true, false, Option, Some, None, cond, is_some, take, refl, ap}
 use Rattle.gov_ids.proofs.Exacts.{credential_exact, outref_exact, pool_exact}
 use Rattle.gov_ids.proofs.Totals.{credential_total, outref_total, pool_total}
 use Rattle.ledger_model.specs.Ledger.{Ledger}
@@ -9,6 +9,12 @@ use Rattle.undo_model.specs.Holds.{Holds}
 use Rattle.undo_model.specs.Laws.{UndoneIsBefore}
 use Rattle.undo_model.specs.Undone.{Before}
 use Rattle.undo_model.proofs.OldMaps.{HasVotes, all_taken, old_map, old_proposals, old_used}
+
+-- a reward update that was pending is the present one
+old_pending : {A : Type 0} (had : Bool) (before after : Option A) → had ≡ is_some before → (had ≡ true → after ≡ before) → cond had after None ≡ before
+old_pending true before after e same = same refl
+old_pending false None after e same = refl
+old_pending false (Some x) after e same = cc
 
 pub undone_is_before : UndoneIsBefore
 undone_is_before w v b g h held =
@@ -24,6 +30,7 @@ undone_is_before w v b g h held =
     let hot = old_map credential_total credential_exact l.hot b.hot m.hot s.hot t.hot held.hot in
     let proposals = old_proposals b.votes l.proposals (take b.proposals m.proposals)
     g.ledger.proposals.votes (all_taken HasVotes b.proposals m.proposals h.ledger.proposals.votes) held.votes in
+    let pending = old_pending b.had_pending w.pending v.pending held.had_pending held.pending in
     λ i. record (held.others i) {
       ledger = record (held.others i).ledger {
         slot = held.slot i;
@@ -38,7 +45,7 @@ undone_is_before w v b g h held =
         hot = hot i;
         proposals = proposals i;
       };
-      pending = held.pending i;
+      pending = pending i;
     }
 
 -- old values do not look at the counts
@@ -48,6 +55,7 @@ held_at_any_count w v b m n held = record {
   dormant = held.dormant;
   fees = held.fees;
   donations = held.donations;
+  had_pending = held.had_pending;
   pending = held.pending;
   outputs = held.outputs;
   used = held.used;

@@ -1,5 +1,5 @@
 -- That old values are those of one World, and name all in which another World differs. (Own)
-use Rattle.std.specs.Prelude.{◌≡◌, false, List, Option, Some, length, take}
+use Rattle.std.specs.Prelude.{◌≡◌, true, false, List, Option, Some, is_some, length, take}
 use Rattle.std.specs.declared.cmp.Ordering.{Ordering}
 use Rattle.std.specs.List.{AllByRecursion, AllZip}
 use Rattle.std.specs.Map.{keys_of}
@@ -37,7 +37,9 @@ pub record Holds (w : World) (b : Before) (v : World) : Type 0 where
   pub dormant : b.dormant ≡ w.ledger.dormant
   pub fees : b.fees ≡ w.ledger.fees
   pub donations : b.donations ≡ w.ledger.donations
-  pub pending : b.pending ≡ w.pending
+  -- an update that was pending still is
+  pub had_pending : b.had_pending ≡ is_some w.pending
+  pub pending : b.had_pending ≡ true → v.pending ≡ w.pending
   pub outputs : HoldsOld outref_cmp b.outputs w.ledger.outputs v.ledger.outputs
   pub used : HoldsUnused b.unused w.ledger.used v.ledger.used
   pub accounts : HoldsOld credential_cmp b.accounts w.ledger.accounts v.ledger.accounts

@@ -1,5 +1,5 @@
 -- What an undo puts back, and the World after it. (Own)
-use Rattle.std.specs.Prelude.{ℕ, List, Option, Some, None, filter, fold, map, take}
+use Rattle.std.specs.Prelude.{ℕ, Bool, List, Option, Some, None, filter, fold, map, take, if◌then◌else◌}
 use Rattle.std.specs.declared.cmp.Ordering.{Ordering}
 use Rattle.maps.specs.Maps.{without_member}
 use Rattle.maps.specs.Replaced.{with_option}
@@ -18,7 +18,6 @@ use Rattle.book_records.specs.declared.pool.Pool.{Pool}
 use Rattle.gov_actions.specs.declared.action.Proposal.{Proposal}
 use Rattle.gov_actions.specs.declared.action.Vote.{Vote}
 use Rattle.gov_actions.specs.declared.state.HotState.{HotState}
-use Rattle.tx_records.specs.declared.record.Rewards.{Rewards}
 use Rattle.run_model.specs.World.{World}
 
 -- old values of all that a record may change within the epoch, except the count
@@ -29,8 +28,8 @@ pub record Before : Type 0 where
   -- the fee pot and the donations, in lovelace
   pub fees : ℕ
   pub donations : ℕ
-  -- the reward update that the next boundary applies
-  pub pending : Option Rewards
+  -- whether a reward update was pending; within an epoch it stays
+  pub had_pending : Bool
   -- how many proposals there were
   pub proposals : ℕ
   -- the id of a transaction, not used yet
@@ -77,5 +76,5 @@ undone b w = record w {
     hot = with_old credential_cmp b.hot w.ledger.hot;
     proposals = map (with_old_votes b.votes) (take b.proposals w.ledger.proposals);
   };
-  pending = b.pending;
+  pending = if b.had_pending then w.pending else None;
 }

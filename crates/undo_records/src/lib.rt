@@ -9,7 +9,6 @@ use gov_actions::{HotState, Vote};
 use gov_ids::{ActionId, Credential, OutRef, PoolId, TxId, Voter};
 use listed::Listed;
 use std::marker::Model;
-use tx_records::Rewards;
 
 /// The old values of which a ledger has one.
 #[derive(Drop)]
@@ -26,8 +25,8 @@ pub struct OldValues {
     pub proposals: u64,
     /// The id of a transaction, not used yet.
     pub unused: Option<TxId>,
-    /// The reward update that the next boundary applies.
-    pub pending: Option<Rewards>,
+    /// Whether a reward update was pending. Within an epoch it stays, so no entry copies it.
+    pub had_pending: bool,
 }
 
 /// The old values at some names, none where there was no entry. A name may occur again.

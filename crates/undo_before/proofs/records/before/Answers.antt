@@ -2,7 +2,7 @@ use Rattle.std.proofs.Common.{◌≡◌, IfOk, true, sym, subst}
 use Rattle.run_model.specs.Step.{step}
 use Rattle.tx_records.specs.declared.record.Record.{Record}
 use Rattle.tx_records.specs.RecordLimits.{is_within_limits}
-use Rattle.undo_before.proofs.Stepping.{no_tx, other_answer, tx_from}
+use Rattle.undo_before.proofs.Stepping.{no_tx, other_held, tx_from}
 use Rattle.undo_model.specs.Holds.{Holds}
 use Rattle.undo_model.specs.Undone.{Before}
 use Rattle.undo_before.proofs.records.before.Goals as goal
@@ -16,4 +16,6 @@ returns-in-Some c = λ stays.
     (tx_from c.args.r.now c.in-Some.tx.now c.in-Some.ensures) c.before_tx.ensures
 
 pub returns-in-None : goal.returns-in-None
-returns-in-None c = other_answer c.before_other.result c.args.s.now c.args.r.now (no_tx c.args.r.now c.in-None.ensures) c.before_other.ensures
+returns-in-None c = λ stays.
+    subst (λ (b : Before). Holds c.args.s.now b (step c.args.s.now c.args.r.now).0) (sym c.before_other.ensures)
+    (other_held c.args.s.now c.args.r.now (no_tx c.args.r.now c.in-None.ensures) stays)

@@ -13,6 +13,6 @@ returns c =
     let w = c.args.s.now in
     let tx = c.args.tx.now in
     let olds = c.in_ok-entries.entries in
-    let is = c.of_parts.ensures ∙ ap (λ (v : OldValues). before_of v olds) c.in_ok-values.ensures in
+    let is = c.of_parts.ensures ∙ ap (λ (v : OldValues). before_of v olds) c.old_values.ensures in
     subst (λ (b : Before). Holds w b (on_ledger (λ l. ledger_after_tx l tx) w)) (sym is)
     (tx_held w tx c.args.changes.now olds c.requires.judged.0 c.requires.judged.1 c.in_ok-entries.ensures)

@@ -1,0 +1,4 @@
+mod Searches
+mod Orders
+pub mod Undone
+mod Parts
