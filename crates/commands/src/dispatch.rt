@@ -1,22 +1,19 @@
-ghost use Rattle.std.specs.Prelude.{◌≡◌, ◌≤◌, option_map, true};
-ghost use Rattle.record_stream.specs.Records.{is_within};
-ghost use Rattle.replay_loop.specs.Answers.{AnswersAs};
-ghost use Rattle.replay_loop.specs.RunsAs.{RunsAs};
+ghost use Rattle.std.specs.Prelude.{◌≡◌};
+ghost use Rattle.command_runs.specs.RunsAs.{RunsAs};
 
-use crate::answer::answer;
-use crate::crew::Crew;
-use crate::held::Held;
+use crate::runs::{follows, loads, tells};
 use byte_lines::{Sink, Source};
+use held_ledger::Crew;
+use load_options::{Command, command_of};
 use par_count::Gate;
-use replay_loop::{Answered, Status, run_over};
+use replay_loop::{Status, Told};
 use std::alloc::Global;
 use std::thread::Threads;
-use tx_records::Reading;
 
 /// Runs the command of the words after the program's name. (Own) `replay` writes a record's text,
-/// then reads on; `certify` writes a certificate ahead of each boundary; `shortfall`, `outlook` and
-/// `checkpoint` write at the end; `load` writes its stream's summary. Workers (default 1), in
-/// `rt`'s threads, enter the gate and share the counts.
+/// then reads on, and `follow` takes records back besides; `certify` writes a certificate ahead of
+/// each boundary; `shortfall`, `outlook` and `checkpoint` write at the end; `load` writes its
+/// stream's summary. Workers (default 1), in `rt`'s threads, enter the gate and share the counts.
 pub fn run<R: Threads + Sync, S: Source, K: Sink, G: Gate + Sync>(
     alloc: Global,
     rt: &R,
@@ -29,11 +26,20 @@ pub fn run<R: Threads + Sync, S: Source, K: Sink, G: Gate + Sync>(
         (source.old, sink.old) (source.new, sink.new) result words.now }
 {
     let crew = Crew { alloc, rt, gate };
-    let answers = |workers: u32, before: Option<Held>, reading: Reading| -> Answered<Held>
-        requires some { 1 ≤ workers }
-        requires few { workers ≤ 64 }
-        requires within { is_within reading ≡ true }
-        ensures { AnswersAs (λ held. held.ledger) (option_map (λ held. held.ledger) before) reading result }
-    { answer(&crew, workers, before, &reading) };
-    run_over(alloc, &answers, words, source, sink)
+    match command_of(words) {
+        Some(Command::Replay { workers }) => tells(&crew, workers, Told::Texts, source, sink),
+        Some(Command::Shortfall { workers }) => {
+            tells(&crew, workers, Told::Shortfalls, source, sink)
+        }
+        Some(Command::Outlook { workers }) => tells(&crew, workers, Told::Outlooks, source, sink),
+        Some(Command::Checkpoint { workers }) => {
+            tells(&crew, workers, Told::Checkpoints, source, sink)
+        }
+        Some(Command::Certify { workers }) => {
+            tells(&crew, workers, Told::Certificates, source, sink)
+        }
+        Some(Command::Follow { workers }) => follows(&crew, workers, source, sink),
+        Some(Command::Load(command)) => loads(&crew, command, sink),
+        Some(Command::Resume { .. } | Command::Check) | None => Status::Usage,
+    }
 }

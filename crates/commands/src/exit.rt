@@ -1,6 +1,6 @@
 ghost use Rattle.std.specs.Prelude.{◌≡◌, drop};
 ghost use Rattle.std.specs.Process.{exit_status};
-ghost use Rattle.replay_loop.specs.RunsAs.{RunsAs};
+ghost use Rattle.command_runs.specs.RunsAs.{RunsAs};
 ghost use Rattle.replay_loop.specs.Statuses.{status_number};
 ghost use Rattle.replay_loop.specs.declared.status.Status.{Status};
 

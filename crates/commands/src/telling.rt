@@ -5,10 +5,8 @@ ghost use Rattle.record_stream.specs.Records.{is_within};
 ghost use Rattle.replay_loop.specs.Answers.{AnswersAs};
 ghost use Rattle.replay_loop.specs.Plays.{run_of};
 
-use crate::answer::answer;
-use crate::crew::Crew;
-use crate::held::Held;
 use byte_lines::{Sink, Source};
+use held_ledger::{Crew, Held, answer};
 use line_runs::RunFault;
 use par_count::Gate;
 use replay_loop::{Answered, GenesisCause, Teller, tell_records};

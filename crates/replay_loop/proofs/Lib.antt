@@ -13,4 +13,3 @@ pub mod Worded
 pub mod Lasts
 pub mod Certificates
 pub mod Workers
-pub mod Following

@@ -14,6 +14,7 @@ is_usage statuses.ReadFault e = cc
 is_usage statuses.WriteFault e = cc
 is_usage statuses.NoMemory e = cc
 is_usage statuses.TooMuch e = cc
+is_usage statuses.BadCheckpoint e = cc
 
 pub is_read_fault : (status : Status) → status_number status ≡ 4 → status ≡ statuses.ReadFault
 is_read_fault statuses.ReadFault e = refl
@@ -23,6 +24,7 @@ is_read_fault (statuses.BadGenesis cause) e = cc
 is_read_fault statuses.WriteFault e = cc
 is_read_fault statuses.NoMemory e = cc
 is_read_fault statuses.TooMuch e = cc
+is_read_fault statuses.BadCheckpoint e = cc
 
 pub is_write_fault : (status : Status) → status_number status ≡ 5 → status ≡ statuses.WriteFault
 is_write_fault statuses.WriteFault e = refl
@@ -32,9 +34,20 @@ is_write_fault (statuses.BadGenesis cause) e = cc
 is_write_fault statuses.ReadFault e = cc
 is_write_fault statuses.NoMemory e = cc
 is_write_fault statuses.TooMuch e = cc
+is_write_fault statuses.BadCheckpoint e = cc
+
+pub is_bad_checkpoint : (status : Status) → status_number status ≡ 8 → status ≡ statuses.BadCheckpoint
+is_bad_checkpoint statuses.BadCheckpoint e = refl
+is_bad_checkpoint statuses.Done e = cc
+is_bad_checkpoint statuses.Usage e = cc
+is_bad_checkpoint (statuses.BadGenesis cause) e = cc
+is_bad_checkpoint statuses.ReadFault e = cc
+is_bad_checkpoint statuses.WriteFault e = cc
+is_bad_checkpoint statuses.NoMemory e = cc
+is_bad_checkpoint statuses.TooMuch e = cc
 
 pub numbers_tell : NumbersTell
-numbers_tell = record { usage = is_usage; read_fault = is_read_fault; write_fault = is_write_fault }
+numbers_tell = record { usage = is_usage; read_fault = is_read_fault; write_fault = is_write_fault; bad_checkpoint = is_bad_checkpoint }
 
 -- faults counted by one word are counted by another of the same meaning
 pub counts_as : (failed other : Type 0) (old new : ℕ) → (failed → other) → (other → failed) → CountsFaults failed old new → CountsFaults other old new

@@ -74,6 +74,7 @@ Ends statuses.WriteFault bytes came rest written = CutShort bytes came rest writ
 Ends statuses.NoMemory bytes came rest written = IsPartOfText came rest written
 -- `replay` never ends so
 Ends statuses.Usage bytes came rest written = ⊥
+Ends statuses.BadCheckpoint bytes came rest written = ⊥
 
 -- how a run of `replay` ended, if its source gave its bytes: the sink took what was written
 pub record IsReplayed (status : Status) (bytes : List ℕ) (left had has : Option (List ℕ)) : Type 0 where

@@ -11,7 +11,5 @@ pub mod Counts
 pub mod Loads
 pub mod Lasts
 pub mod Certificates
-pub mod Commands
-pub mod Inputs
-pub mod RunsAs
-pub mod Clauses
+pub mod Ports
+pub mod Tells

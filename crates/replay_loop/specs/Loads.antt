@@ -47,6 +47,7 @@ EndsLoad (statuses.BadGenesis cause) text written = ⊥
 EndsLoad statuses.ReadFault text written = ⊥
 EndsLoad statuses.TooMuch text written = ⊥
 EndsLoad statuses.Usage text written = ⊥
+EndsLoad statuses.BadCheckpoint text written = ⊥
 
 -- how a run of `load` ended: the stream has a summary, and the sink took what was written of it
 pub record IsLoaded (status : Status) (c : LoadCommand) (had has : Option (List ℕ)) : Type 0 where

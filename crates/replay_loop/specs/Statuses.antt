@@ -17,12 +17,14 @@ status_number statuses.ReadFault = 4
 status_number statuses.WriteFault = 5
 status_number statuses.NoMemory = 6
 status_number statuses.TooMuch = 7
+status_number statuses.BadCheckpoint = 8
 
--- 2, 4 and 5 say which status it is
+-- 2, 4, 5 and 8 say which status it is
 pub record NumbersTell : Type 0 where
   pub usage : (status : Status) → status_number status ≡ 2 → status ≡ statuses.Usage
   pub read_fault : (status : Status) → status_number status ≡ 4 → status ≡ statuses.ReadFault
   pub write_fault : (status : Status) → status_number status ≡ 5 → status ≡ statuses.WriteFault
+  pub bad_checkpoint : (status : Status) → status_number status ≡ 8 → status ≡ statuses.BadCheckpoint
 
 -- why a run over the ledger does not come to its end
 abbrev pub ReplayFault : Type 0

@@ -20,19 +20,19 @@ use tx_records::Reading;
 
 /// A command over the records of a ledger: who answers them, the state, and who tells of them.
 #[derive(Drop)]
-pub(crate) struct Records<
+pub struct Records<
     'a,
     R: RunState + Drop,
     H: Teller<R> + Drop,
     F: Fn(u32, Option<R>, Reading) -> Answered<R>,
 > {
-    pub(crate) alloc: Global,
-    pub(crate) answer: &'a F,
-    pub(crate) workers: u32,
-    pub(crate) state: Option<R>,
-    pub(crate) teller: H,
+    pub alloc: Global,
+    pub answer: &'a F,
+    pub workers: u32,
+    pub state: Option<R>,
+    pub teller: H,
     // what reading a line needs, kept from line to line
-    pub(crate) scratch: Scratch,
+    pub scratch: Scratch,
 }
 
 /// The reading of a line; none if the line is too long.

@@ -21,6 +21,8 @@ pub enum Status {
     NoMemory,
     /// The stream is longer than its limit.
     TooMuch,
+    /// The lines up to the first `end` are the checkpoint of no ledger.
+    BadCheckpoint,
 }
 
 /// Why there was no genesis to begin with.
@@ -61,6 +63,7 @@ impl Status {
             Status::WriteFault => 5,
             Status::NoMemory => 6,
             Status::TooMuch => 7,
+            Status::BadCheckpoint => 8,
         }
     }
 }

@@ -7,20 +7,20 @@ use tx_records::Reading;
 
 /// Tells the text of each record, line by line, through one buffer.
 #[derive(Drop)]
-pub(crate) struct Texts {
+pub struct TextTeller {
     text: Vec<u8>,
 }
 
-impl Texts {
+impl TextTeller {
     /// Before the first record.
-    pub(crate) fn new(alloc: Global) -> Texts {
-        Texts {
+    pub fn new(alloc: Global) -> TextTeller {
+        TextTeller {
             text: Vec::new(alloc),
         }
     }
 }
 
-impl<R: RunState + Drop> Teller<R> for Texts {
+impl<R: RunState + Drop> Teller<R> for TextTeller {
     ghost use Rattle.replay_loop.specs.Texts.{texts_told};
 
     ghost Kept = { Unit {0} };

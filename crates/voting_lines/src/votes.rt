@@ -2,7 +2,7 @@
 ghost use Rattle.std.specs.Prelude.{◌≡◌, Err, OnErr, OnOk};
 ghost use Rattle.byte_lines.specs.Faults.{CountsFaults};
 ghost use Rattle.line_runs.specs.Batches.{TellsAll, TellsPart};
-ghost use Rattle.replay_loop.specs.RunsAs.{IsReadRun};
+ghost use Rattle.replay_loop.specs.Ports.{IsReadRun};
 ghost use Rattle.text_model.specs.Runs.{text_of_lines};
 ghost use Rattle.voting_lines.specs.Told.{voting_lines, votes_told};
 

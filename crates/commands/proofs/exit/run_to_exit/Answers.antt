@@ -1,7 +1,7 @@
 use Rattle.std.proofs.Common.{List, subst, ◌∙◌}
 use Rattle.std.specs.Prelude.{String}
 use Rattle.std.specs.declared.alloc.Global.{Global}
-use Rattle.replay_loop.specs.RunsAs.{RunsAs}
+use Rattle.command_runs.specs.RunsAs.{RunsAs}
 use Rattle.commands.proofs.exit.run_to_exit.Goals as goal
 
 pub returns : goal.returns

@@ -1,0 +1,229 @@
+-- What a run that is as `RunsAs` says comes to, by the command that its words name.
+use Rattle.std.proofs.Common.{◌≡◌, ℕ, ◌⊎◌, true, false, List, Option, Some, None, Result, Ok, Err, refl, ap, sym, subst, ◌∙◌, inl, inr}
+use Rattle.std.specs.Prelude.{◌↔◌, IsTrue, is_some}
+use Rattle.byte_lines.specs.Faults.{Rose}
+use Rattle.byte_lines.specs.Laws.{LinesAddUp}
+use Rattle.line_runs.specs.declared.fault.RunFault.TheVariants as faults
+use Rattle.load_options.specs.Table.{command_of, load_in, replay_in}
+use Rattle.load_options.specs.declared.command.LoadCommand.{LoadCommand}
+use Rattle.load_options.specs.declared.table.Command.{Command}
+use Rattle.load_options.specs.declared.table.Command.TheVariants as commands
+use Rattle.replay_loop.specs.declared.status.Status.{Status}
+use Rattle.replay_loop.specs.declared.status.Status.TheVariants as statuses
+use Rattle.line_runs.specs.Runs.{Run}
+use Rattle.follow_loop.specs.Laws.{FollowIsComplete}
+use Rattle.follow_loop.specs.Plays.{follow_run}
+use Rattle.command_runs.specs.Clauses.{CompleteFollows, FaultsFollow, FollowsFollow, LoadsFollow, ReplaysFollow, TellsFollow, UnreadFollows, UsageFollows}
+use Rattle.command_runs.specs.Followed.{IsFollowRun}
+use Rattle.command_runs.specs.RunsAs.{Runs}
+use Rattle.command_runs.specs.Tasks.{Follows, Loads, Nothing, Reads, Task, follows, is_done, reads, task_of, task_of_words}
+use Rattle.replay_loop.specs.Endings.{IsReplayed}
+use Rattle.command_runs.specs.Inputs.{HasGoodInput, IsGoodFollow, IsGoodStream}
+use Rattle.replay_loop.specs.Loads.{IsLoaded}
+use Rattle.replay_loop.specs.Plays.{Telling}
+use Rattle.replay_loop.specs.Ports.{IsLineRun, IsLoadRun, IsReadRun, Ports}
+use Rattle.replay_loop.specs.declared.status.GenesisCause.{GenesisCause}
+use Rattle.replay_loop.specs.Lasts.{IsToldRun}
+use Rattle.replay_loop.specs.Statuses.{ReplayFault, status_by}
+use Rattle.replay_loop.specs.Texts.{texts_told}
+use Rattle.replay_loop.proofs.Complete.{done_or_memory}
+use Rattle.replay_loop.proofs.Texts.{replayed}
+
+-- no run that was begun answers Usage
+not_usage : (r : Result (Unit {0}) ReplayFault) → status_by r ≡ statuses.Usage → ⊥
+not_usage (Ok done) e = cc
+not_usage (Err (faults.Stop cause)) e = cc
+not_usage (Err faults.ReadFault) e = cc
+not_usage (Err faults.WriteFault) e = cc
+not_usage (Err faults.NoMemory) e = cc
+not_usage (Err faults.TooMuch) e = cc
+
+-- nor does a load
+not_usage_of_load : (command : LoadCommand) (had has : Option (List ℕ)) → IsLoaded statuses.Usage command had has → ⊥
+not_usage_of_load command had has loaded = absurd loaded.ending
+
+-- a load that no fault of the sink cuts short
+load_completes : (status : Status) (command : LoadCommand) (had has : Option (List ℕ)) → IsLoaded status command had has → (status ≡ statuses.WriteFault → ⊥)
+    → (status ≡ statuses.Done) ⊎ (status ≡ statuses.NoMemory)
+load_completes statuses.Done command had has loaded write = inl refl
+load_completes statuses.NoMemory command had has loaded write = inr refl
+load_completes statuses.WriteFault command had has loaded write = absurd (write refl)
+load_completes statuses.Usage command had has loaded write = absurd loaded.ending
+load_completes statuses.ReadFault command had has loaded write = absurd loaded.ending
+load_completes statuses.TooMuch command had has loaded write = absurd loaded.ending
+load_completes statuses.BadCheckpoint command had has loaded write = absurd loaded.ending
+load_completes (statuses.BadGenesis cause) command had has loaded write = absurd loaded.ending
+
+module _ {Source Sink : Type 0} (ports : Ports Source Sink) (status : Status) (before after : Source × Sink) where
+  -- ---- where the words name none
+
+  usage_of_lines : {Said Stand : Type 0} (r : Run Said Stand GenesisCause) → IsLineRun ports before after status r → status ≡ statuses.Usage → ⊥
+  usage_of_lines r runs e = not_usage runs.ended (sym runs.is ∙ e)
+
+  usage_of_read : (told : Telling (Unit {0})) → IsReadRun ports before after status told tt → status ≡ statuses.Usage → ⊥
+  usage_of_read told runs e = not_usage runs.ended (sym runs.is ∙ e)
+
+  usage_of_load : (command : LoadCommand) → IsLoadRun ports before after status command → status ≡ statuses.Usage → ⊥
+  usage_of_load command runs e =
+      not_usage_of_load command (ports.taken before.1) (ports.taken after.1)
+      (subst (λ (s : Status). IsLoaded s command (ports.taken before.1) (ports.taken after.1)) e runs.loaded)
+
+  pub usage_by : (t : Task) → Runs ports before after status t → (status ≡ statuses.Usage) ↔ (is_done t ≡ false)
+  usage_by (Reads told) runs = (λ e. absurd (usage_of_read told runs e), λ e. cc)
+  usage_by Follows runs = (λ e. absurd (usage_of_lines follow_run runs e), λ e. cc)
+  usage_by (Loads command) runs = (λ e. absurd (usage_of_load command runs e), λ e. cc)
+  usage_by Nothing runs = (λ e. refl, λ e. runs.is)
+
+  pub unread_by : (t : Task) → Runs ports before after status t → status ≡ statuses.Usage → (after.0 ≡ before.0) × (after.1 ≡ before.1)
+  unread_by (Reads told) runs e = absurd (usage_of_read told runs e)
+  unread_by Follows runs e = absurd (usage_of_lines follow_run runs e)
+  unread_by (Loads command) runs e = absurd (usage_of_load command runs e)
+  unread_by Nothing runs e = (runs.unread, runs.unwritten)
+
+  -- ---- the text of each command
+
+  told_by : (told : Telling (Unit {0})) (bytes : List ℕ) → ports.left before.0 ≡ Some bytes → IsReadRun ports before after status told tt
+      → IsToldRun told status bytes (ports.left after.0) (ports.taken before.1) (ports.taken after.1)
+  told_by told bytes given runs = record { ended = runs.ended; is = runs.is; run = runs.run bytes given }
+
+  followed_by : (bytes : List ℕ) → ports.left before.0 ≡ Some bytes → IsLineRun ports before after status follow_run
+      → IsFollowRun status bytes (ports.left after.0) (ports.taken before.1) (ports.taken after.1)
+  followed_by bytes given runs = record { ended = runs.ended; is = runs.is; run = runs.run bytes given }
+
+  replayed_by : LinesAddUp → (bytes : List ℕ) → ports.left before.0 ≡ Some bytes → IsReadRun ports before after status texts_told tt
+      → IsReplayed status bytes (ports.left after.0) (ports.taken before.1) (ports.taken after.1)
+  replayed_by law bytes given runs =
+      subst (λ (s : Status). IsReplayed s bytes (ports.left after.0) (ports.taken before.1) (ports.taken after.1)) (sym runs.is)
+      (replayed law bytes (ports.left after.0) (ports.taken before.1) (ports.taken after.1) runs.ended (runs.run bytes given))
+
+  -- ---- a good input and no fault
+
+  abbrev IsWell : Type 0
+  IsWell = (status ≡ statuses.Done) ⊎ (status ≡ statuses.NoMemory)
+
+  abbrev IsGood : Type 0
+  IsGood = IsGoodStream (ports.left before.0) (ports.failed_reads before.0) (ports.failed_reads after.0)
+
+  completes_read : LinesAddUp → (told : Telling (Unit {0})) → IsReadRun ports before after status told tt → IsGood
+      → (status ≡ statuses.ReadFault → Rose (ports.failed_reads before.0) (ports.failed_reads after.0)) → (status ≡ statuses.WriteFault → ⊥) → IsWell
+  completes_read law told runs good read write =
+      subst (λ (s : Status). (s ≡ statuses.Done) ⊎ (s ≡ statuses.NoMemory)) (sym runs.is)
+      (done_or_memory told tt law good.bytes good.start runs.ended (ports.left after.0) (ports.taken before.1) (ports.taken after.1)
+      (runs.run good.bytes good.told) good.short
+      (λ e. good.unfailing (read (runs.is ∙ ap status_by e))) (λ e. write (runs.is ∙ ap status_by e)))
+
+  abbrev IsGoodToFollow : Type 0
+  IsGoodToFollow = IsGoodFollow (ports.left before.0) (ports.failed_reads before.0) (ports.failed_reads after.0)
+
+  -- what the loop answers, as a status
+  well_of : (r : Result (Unit {0}) ReplayFault) → (r ≡ Ok tt) ⊎ (r ≡ Err faults.NoMemory) → (status_by r ≡ statuses.Done) ⊎ (status_by r ≡ statuses.NoMemory)
+  well_of r (inl done) = inl (ap status_by done)
+  well_of r (inr full) = inr (ap status_by full)
+
+  completes_follow : FollowIsComplete → IsLineRun ports before after status follow_run → IsGoodToFollow
+      → (status ≡ statuses.ReadFault → Rose (ports.failed_reads before.0) (ports.failed_reads after.0)) → (status ≡ statuses.WriteFault → ⊥) → IsWell
+  completes_follow law runs good read write =
+      subst (λ (s : Status). (s ≡ statuses.Done) ⊎ (s ≡ statuses.NoMemory)) (sym runs.is)
+      (well_of runs.ended
+      (law good.bytes good.text (ports.left after.0) (ports.taken before.1) (ports.taken after.1) runs.ended good.is good.short
+      (runs.run good.bytes good.told)
+      (λ e. good.unfailing (read (runs.is ∙ ap status_by e))) (λ e. write (runs.is ∙ ap status_by e))))
+
+  -- a good input of a task
+  data HasGood (t : Task) : Type 0 where
+    to_read : IsTrue (reads t) → IsGood → HasGood t
+    to_follow : IsTrue (follows t) → IsGoodToFollow → HasGood t
+    to_load : (command : LoadCommand) → t ≡ Loads command → HasGood t
+
+  module _ (law : LinesAddUp) (follow : FollowIsComplete)
+      (read : status ≡ statuses.ReadFault → Rose (ports.failed_reads before.0) (ports.failed_reads after.0)) (write : status ≡ statuses.WriteFault → ⊥) where
+    completes_by : (t : Task) → Runs ports before after status t → HasGood t → IsWell
+    completes_by (Reads told) runs (to_read named good) = completes_read law told runs good read write
+    completes_by (Reads told) runs (to_follow named good) = cc
+    completes_by (Reads told) runs (to_load command named) = cc
+    completes_by Follows runs (to_read named good) = cc
+    completes_by Follows runs (to_follow named good) = completes_follow follow runs good read write
+    completes_by Follows runs (to_load command named) = cc
+    completes_by (Loads command) runs input = load_completes status command (ports.taken before.1) (ports.taken after.1) runs.loaded write
+    completes_by Nothing runs (to_read named good) = cc
+    completes_by Nothing runs (to_follow named good) = cc
+    completes_by Nothing runs (to_load command named) = cc
+
+-- ---- the tasks of commands
+
+-- a replay tells texts
+pub task_of_replay : (o : Option Command) → IsTrue (is_some (replay_in o)) → task_of o ≡ Reads texts_told
+task_of_replay (Some (commands.Replay workers)) named = refl
+task_of_replay None named = cc
+task_of_replay (Some (commands.Load command)) named = cc
+task_of_replay (Some (commands.Checkpoint workers)) named = cc
+task_of_replay (Some (commands.Resume workers)) named = cc
+task_of_replay (Some (commands.Certify workers)) named = cc
+task_of_replay (Some commands.Check) named = cc
+task_of_replay (Some (commands.Shortfall workers)) named = cc
+task_of_replay (Some (commands.Follow workers)) named = cc
+task_of_replay (Some (commands.Outlook workers)) named = cc
+
+-- a load replays its stream
+task_of_load : (o : Option Command) (command : LoadCommand) → load_in o ≡ Some command → task_of o ≡ Loads command
+task_of_load (Some (commands.Load asked)) command named = let same : asked ≡ command = cc in ap Loads same
+task_of_load None command named = cc
+task_of_load (Some (commands.Replay workers)) command named = cc
+task_of_load (Some (commands.Checkpoint workers)) command named = cc
+task_of_load (Some (commands.Resume workers)) command named = cc
+task_of_load (Some (commands.Certify workers)) command named = cc
+task_of_load (Some commands.Check) command named = cc
+task_of_load (Some (commands.Shortfall workers)) command named = cc
+task_of_load (Some (commands.Follow workers)) command named = cc
+task_of_load (Some (commands.Outlook workers)) command named = cc
+
+-- a task that follows is the one that does
+task_that_follows : (t : Task) → IsTrue (follows t) → t ≡ Follows
+task_that_follows Follows named = refl
+task_that_follows (Reads told) named = cc
+task_that_follows (Loads command) named = cc
+task_that_follows Nothing named = cc
+
+-- the numbers of a load, where there are some
+numbers_of : (o : Option LoadCommand) → IsTrue (is_some o) → (command : LoadCommand) × (o ≡ Some command)
+numbers_of (Some command) named = (command, refl)
+numbers_of None named = cc
+
+-- ---- the laws
+
+module _ {Source Sink : Type 0} (ports : Ports Source Sink) where
+  pub usage_follows : UsageFollows ports
+  usage_follows status words before after h = usage_by ports status before after (task_of_words words) h.runs
+
+  pub unread_follows : UnreadFollows ports
+  unread_follows status words before after h = unread_by ports status before after (task_of_words words) h.runs
+
+  pub tells_follow : TellsFollow ports
+  tells_follow status words before after h told bytes named given =
+      told_by ports status before after told bytes given (subst (λ (t : Task). Runs ports before after status t) named h.runs)
+
+  pub replays_follow : LinesAddUp → ReplaysFollow ports
+  replays_follow law status words before after h bytes named given =
+      replayed_by ports status before after law bytes given
+      (subst (λ (t : Task). Runs ports before after status t) (task_of_replay (command_of words) named) h.runs)
+
+  pub loads_follow : LoadsFollow ports
+  loads_follow status words before after h command named =
+      let runs = subst (λ (t : Task). Runs ports before after status t) (task_of_load (command_of words) command named) h.runs in
+      (runs.unread, runs.loaded)
+
+  pub follows_follow : FollowsFollow ports
+  follows_follow status words before after h bytes named given =
+      followed_by ports status before after bytes given
+      (subst (λ (t : Task). Runs ports before after status t) (task_that_follows (task_of_words words) named) h.runs)
+
+  pub faults_follow : FaultsFollow ports
+  faults_follow status words before after h = (h.reads, h.writes)
+
+  pub complete_follows : LinesAddUp → FollowIsComplete → CompleteFollows ports
+  complete_follows law follow status words before after h input quiet =
+      completes_by ports status before after law follow h.reads.rose (λ e. quiet (h.writes.rose e)) (task_of_words words) h.runs (asked input) where
+        asked : HasGoodInput words (ports.left before.0) (ports.failed_reads before.0) (ports.failed_reads after.0) → HasGood ports status before after (task_of_words words)
+        asked (inl good) = to_read good.0 good.1
+        asked (inr (inl good)) = to_follow good.0 good.1
+        asked (inr (inr named)) = let found = numbers_of (load_in (command_of words)) named in to_load found.0 (task_of_load (command_of words) found.0 found.1)

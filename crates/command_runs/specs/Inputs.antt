@@ -1,0 +1,34 @@
+-- A command that only a fault of its sink or too little memory can stop. (Own)
+use Rattle.std.specs.Prelude.{◌≡◌, ◌⊎◌, ℕ, ◌≤◌, List, Option, Some, None, String, length}
+use Rattle.std.specs.declared.alloc.Global.{Global}
+use Rattle.byte_lines.specs.Faults.{Rose}
+use Rattle.record_stream.specs.Records.{records_of}
+use Rattle.tx_records.specs.declared.limits.TheConstants.{STREAM_LIMIT}
+use Rattle.follow_loop.specs.Readings.{follow_readings_of}
+use Rattle.follow_model.specs.FollowLines.{follow_of_readings}
+use Rattle.replay_loop.specs.Runs.{start_fault}
+use Rattle.text_model.specs.Words.{Text}
+use Rattle.command_runs.specs.Tasks.{IsFollowCommand, IsLoadCommand, ReadsRecords}
+
+-- the source held a stream within the limit that begins with a genesis to begin with; no read
+-- failed
+pub record IsGoodStream (left : Option (List ℕ)) (faults faults' : ℕ) : Type 0 where
+  pub bytes : List ℕ
+  pub told : left ≡ Some bytes
+  pub start : start_fault (records_of bytes) ≡ None
+  pub short : length bytes ≤ STREAM_LIMIT
+  pub unfailing : ¬ Rose faults faults'
+
+-- the source held a stream within the limit that, with rollbacks, has a text; no read failed
+pub record IsGoodFollow (left : Option (List ℕ)) (faults faults' : ℕ) : Type 0 where
+  pub bytes : List ℕ
+  pub told : left ≡ Some bytes
+  pub text : Text
+  pub is : follow_of_readings (follow_readings_of bytes) ≡ Some text
+  pub short : length bytes ≤ STREAM_LIMIT
+  pub unfailing : ¬ Rose faults faults'
+
+-- the words are those of a command that reads such a stream, or of `load`
+abbrev pub HasGoodInput : List (String Global) → Option (List ℕ) → ℕ → ℕ → Type 0
+HasGoodInput words left faults faults' =
+    (ReadsRecords words × IsGoodStream left faults faults') ⊎ (IsFollowCommand words × IsGoodFollow left faults faults') ⊎ IsLoadCommand words

@@ -1,0 +1,33 @@
+-- What a run of the program came to, by the command that its words name. (Own)
+use Rattle.std.specs.Prelude.{◌≡◌, List, String}
+use Rattle.std.specs.declared.alloc.Global.{Global}
+use Rattle.byte_lines.specs.Faults.{CountsFaults}
+use Rattle.follow_loop.specs.Plays.{follow_run}
+use Rattle.replay_loop.specs.declared.status.Status.{Status}
+use Rattle.replay_loop.specs.declared.status.Status.TheVariants as statuses
+use Rattle.replay_loop.specs.Ports.{IsLineRun, IsLoadRun, IsReadRun, Ports}
+use Rattle.command_runs.specs.Tasks.{Follows, Loads, Nothing, Reads, Task, task_of_words}
+
+module _ {Source Sink : Type 0} (ports : Ports Source Sink) (before after : Source × Sink) (status : Status) where
+  -- it did nothing
+  pub record IsUsage : Type 0 where
+    pub is : status ≡ statuses.Usage
+    pub unread : after.0 ≡ before.0
+    pub unwritten : after.1 ≡ before.1
+
+  -- by the task of the command
+  abbrev pub Runs : Task → Type 0
+  Runs (Reads told) = IsReadRun ports before after status told tt
+  Runs Follows = IsLineRun ports before after status follow_run
+  Runs (Loads command) = IsLoadRun ports before after status command
+  Runs Nothing = IsUsage
+
+  -- a fault is answered if and only if its count rose
+  pub record RunsBy (task : Task) : Type 0 where
+    pub runs : Runs task
+    pub reads : CountsFaults (status ≡ statuses.ReadFault) (ports.failed_reads before.0) (ports.failed_reads after.0)
+    pub writes : CountsFaults (status ≡ statuses.WriteFault) (ports.failed_writes before.1) (ports.failed_writes after.1)
+
+  -- by the words
+  abbrev pub RunsAs : List (String Global) → Type 0
+  RunsAs words = RunsBy (task_of_words words)

@@ -1,7 +1,0 @@
-use Rattle.std.proofs.Common.{rules}
-use Rattle.bare_lines.proofs.LentPuts.{put_through}
-use Rattle.commands.proofs.held.put_bare_outlook.Goals as goal
-
-pub returns : goal.returns
-returns g c =
-    put_through g.T.LineTaker.taken g.T.LineTaker.faults c.put_outlook.new.to.to.now _ c.put_outlook.result c.put_outlook.ensures (search rules)

@@ -1,0 +1,229 @@
+ghost use Rattle.std.specs.Prelude.{◌≡◌, ◌≤◌, IfOk, false, option_map, true};
+ghost use Rattle.held_ledger.specs.Applied.{applied_block_outcome, applied_outcome, is_print};
+ghost use Rattle.held_ledger.specs.Faults.{fault_of_genesis};
+ghost use Rattle.replay_loop.specs.Answers.{AnswersAs, Begins, BeginsWith, Judges};
+ghost use Rattle.ledger_model.specs.Supply.{pots_of};
+ghost use Rattle.record_stream.specs.Records.{is_within};
+ghost use Rattle.tx_records.specs.GenesisLimits as genesis_limits;
+ghost use Rattle.tx_records.specs.RecordLimits.{is_within_limits};
+ghost use Rattle.text_model.specs.Runs.{line_rule};
+ghost use Rattle.tx_records.specs.declared.record.Reading.TheVariants.{Read};
+ghost use Rattle.tx_records.specs.Rules.{plain_rule};
+
+use crate::crew::Crew;
+use crate::held::Held;
+use ledger_state::LedgerState;
+use listed::Boxed;
+use live_ledger::GenesisFault;
+use no_memory::NoMemory;
+use par_count::Gate;
+use record_rule::apply_record;
+use replay_loop::{AnswerFault, Answered, GenesisCause, Outcome};
+use report::PotsWord;
+use std::alloc::Global;
+use std::thread::Threads;
+use tx_records::rules::{GENESIS_AGAIN, MALFORMED, TOO_LONG};
+use tx_records::{EpochReport, FieldName, Genesis, Reading, Record, Reply, Rule, What};
+
+/// A ledger is moved from record to record as a pointer.
+type Judged = Result<(Boxed<LedgerState>, Outcome), NoMemory>;
+
+/// Why there is no answer where a genesis gave no ledger.
+fn fault_of(fault: GenesisFault) -> AnswerFault
+    ensures { result ≡ fault_of_genesis fault }
+{
+    match fault {
+        GenesisFault::Broken(rule) => AnswerFault::BadGenesis(GenesisCause::Broken(rule)),
+        GenesisFault::NoMemory => AnswerFault::NoMemory,
+    }
+}
+
+/// The ledger of a genesis, and its pots.
+fn begun(alloc: Global, ledger: LedgerState) -> Judged
+    ensures ledger { IfOk result (λ r. r.0 ≡ ledger) }
+    ensures pots { IfOk result (λ r. r.1 ≡ Outcome.Pots PotsWord.Genesis (pots_of ledger.ledger)) }
+{
+    let pots = ledger.pots();
+    let held = Boxed::new(alloc, ledger)?;
+    Ok((held, Outcome::Pots(PotsWord::Genesis, pots)))
+}
+
+/// The ledger of a genesis that breaks no rule, its first epoch counted by workers, and its pots.
+fn begin(alloc: Global, genesis: &Genesis, workers: u32) -> Answered<Boxed<LedgerState>>
+    requires within { genesis_limits.is_within_limits genesis.now ≡ true }
+    requires some { 1 ≤ workers }
+    requires few { workers ≤ 64 }
+    ensures { Begins genesis.now result }
+{
+    match LedgerState::from_genesis(alloc, genesis, workers) {
+        Ok(ledger) => Ok(begun(alloc, ledger)?),
+        Err(fault) => Err(fault_of(fault)),
+    }
+}
+
+/// The ledger and the pots of what was read first, or why there is no ledger to begin with.
+fn begin_with(alloc: Global, reading: &Reading, workers: u32) -> Answered<Boxed<LedgerState>>
+    requires within { is_within reading.now ≡ true }
+    requires some { 1 ≤ workers }
+    requires few { workers ≤ 64 }
+    ensures { BeginsWith reading.now result }
+{
+    let cause = match reading {
+        Reading::Read(Record::Genesis(genesis)) => return begin(alloc, genesis.get(), workers),
+        Reading::Read(
+            Record::Block { .. } | Record::Rewards(_) | Record::Tx(_) | Record::Print(_),
+        ) => GenesisCause::NoGenesis,
+        Reading::Malformed { what, place } => GenesisCause::Malformed {
+            what: *what,
+            place: *place,
+        },
+        Reading::TooLong => GenesisCause::TooLong,
+    };
+    Err(AnswerFault::BadGenesis(cause))
+}
+
+/// The refusal by a rule that keeps nothing.
+fn refused(number: u16) -> Outcome
+    ensures { result ≡ Outcome.Answered (Reply.Refused (plain_rule number)) }
+{
+    Outcome::Answered(Reply::Refused(Rule::new(number)))
+}
+
+/// The refusal of a line that gave no record.
+fn malformed(what: FieldName, place: Option<u32>) -> Outcome
+    ensures { result ≡ Outcome.Answered (Reply.Refused (line_rule MALFORMED (Some what) place)) }
+{
+    Outcome::Answered(Reply::Refused(Rule {
+        what: Some(what),
+        place,
+        ..Rule::new(MALFORMED)
+    }))
+}
+
+/// The outcome of a print; it changes nothing.
+fn judge_print(ledger: Boxed<LedgerState>, what: What) -> (Boxed<LedgerState>, Outcome)
+    ensures { Judges ledger (Read (Record.Print what)) (Ok result) }
+{
+    match what {
+        What::Pots => {
+            let pots = ledger.get().pots();
+            (ledger, Outcome::Pots(PotsWord::Pots, pots))
+        }
+        What::State => (ledger, Outcome::State),
+        What::Assets => (ledger, Outcome::Assets),
+    }
+}
+
+/// The ledger after a record that is no print, and its outcome.
+fn judge_applied<T: Threads + Sync, G: Gate + Sync>(
+    crew: &Crew<T, G>,
+    workers: u32,
+    ledger: Boxed<LedgerState>,
+    found: &Record,
+) -> Judged
+    requires within { is_within_limits found.now ≡ true }
+    requires no_print { is_print found.now ≡ false }
+    requires some { 1 ≤ workers }
+    requires few { workers ≤ 64 }
+    ensures { Judges ledger (Read found.now) result }
+{
+    let applied = apply_record(
+        crew.alloc,
+        crew.rt,
+        ledger.into_value(),
+        found,
+        workers,
+        crew.gate,
+    )?;
+    let held = Boxed::new(crew.alloc, applied.ledger)?;
+    let outcome = outcome_over(held.get(), found, applied.reply, applied.report);
+    Ok((held, outcome))
+}
+
+/// The outcome of a record that is no print, over the ledger that it left.
+fn outcome_over(
+    after: &LedgerState,
+    found: &Record,
+    reply: Reply,
+    report: Option<EpochReport>,
+) -> Outcome
+    ensures { result ≡ applied_outcome after.now found.now reply report }
+{
+    match found {
+        Record::Block { .. } => block_outcome(after, reply, report),
+        Record::Genesis(_) | Record::Rewards(_) | Record::Tx(_) | Record::Print(_) => {
+            Outcome::Answered(reply)
+        }
+    }
+}
+
+/// The outcome of a block, over the ledger that it left; the pots are as the boundary left them.
+fn block_outcome(after: &LedgerState, reply: Reply, report: Option<EpochReport>) -> Outcome
+    ensures { result ≡ applied_block_outcome after.now reply report }
+{
+    match report {
+        Some(report) => Outcome::Crossed(report, after.pots()),
+        None => match reply {
+            Reply::Refused(rule) => Outcome::Answered(Reply::Refused(rule)),
+            Reply::Accepted | Reply::AcceptedFailedScripts => Outcome::Block,
+        },
+    }
+}
+
+/// The ledger after a record, and its outcome.
+fn judge_record<T: Threads + Sync, G: Gate + Sync>(
+    crew: &Crew<T, G>,
+    workers: u32,
+    ledger: Boxed<LedgerState>,
+    found: &Record,
+) -> Judged
+    requires within { is_within_limits found.now ≡ true }
+    requires some { 1 ≤ workers }
+    requires few { workers ≤ 64 }
+    ensures { Judges ledger (Read found.now) result }
+{
+    match found {
+        Record::Print(what) => Ok(judge_print(ledger, *what)),
+        Record::Genesis(_) | Record::Block { .. } | Record::Rewards(_) | Record::Tx(_) => {
+            judge_applied(crew, workers, ledger, found)
+        }
+    }
+}
+
+/// The ledger after what was read of a line, and its outcome.
+fn judge_reading<T: Threads + Sync, G: Gate + Sync>(
+    crew: &Crew<T, G>,
+    workers: u32,
+    ledger: Boxed<LedgerState>,
+    reading: &Reading,
+) -> Judged
+    requires within { is_within reading.now ≡ true }
+    requires some { 1 ≤ workers }
+    requires few { workers ≤ 64 }
+    ensures { Judges ledger reading.now result }
+{
+    match reading {
+        Reading::Read(record) => judge_record(crew, workers, ledger, record),
+        Reading::Malformed { what, place } => Ok((ledger, malformed(*what, *place))),
+        Reading::TooLong => Ok((ledger, refused(TOO_LONG))),
+    }
+}
+
+/// The ledger after what was read, and its outcome; there is no ledger before the genesis.
+pub fn answer<T: Threads + Sync, G: Gate + Sync>(
+    crew: &Crew<T, G>,
+    workers: u32,
+    before: Option<Held>,
+    reading: &Reading,
+) -> Answered<Held>
+    requires within { is_within reading.now ≡ true }
+    requires some { 1 ≤ workers }
+    requires few { workers ≤ 64 }
+    ensures { AnswersAs (λ held. held.ledger) (option_map (λ held. held.ledger) before) reading.now result }
+{
+    let (ledger, outcome) = match before {
+        Some(held) => judge_reading(crew, workers, held.ledger, reading)?,
+        None => begin_with(crew.alloc, reading, workers)?,
+    };
+    Ok((Held { ledger }, outcome))
+}

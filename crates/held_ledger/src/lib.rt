@@ -1,0 +1,10 @@
+//! The ledger that a run holds between two records, and its answers to them.
+#![tactic(auto)]
+
+mod answers;
+mod crew;
+mod held;
+
+pub use answers::answer;
+pub use crew::Crew;
+pub use held::Held;
