@@ -11,6 +11,8 @@ mod epochs;
 #[cfg(test)]
 mod faults;
 #[cfg(test)]
+mod followed;
+#[cfg(test)]
 mod memory;
 #[cfg(test)]
 mod rows;

@@ -1,6 +1,6 @@
 //! Runs over memory, where no read and no write fails, and runs of unknown ending.
 ghost use Rattle.std.specs.Prelude.{◌≡◌, ◌≢◌, ◌<◌, ◌≤◌, ◌⊎◌, IfOk, None, Some, length};
-ghost use Rattle.replay_loop.specs.Commands.{IsReplayCommand};
+ghost use Rattle.command_runs.specs.Tasks.{IsReplayCommand};
 ghost use Rattle.tx_records.specs.declared.limits.TheConstants.{STREAM_LIMIT};
 ghost use Rattle.record_stream.specs.Records.{records_of};
 ghost use Rattle.replay_loop.specs.Runs.{start_fault, text_of_run};
@@ -71,6 +71,8 @@ pub fn replayed_in_memory<R: Threads + Sync>(
 {
     // (laws: how bytes are cut into lines)
     whole_lines();
+    // (laws: how a followed stream ends)
+    follow_loop::laws();
     let words = replay_words(alloc)?;
     let mut source = MemorySource::new(bytes, part);
     let mut sink = MemorySink::new(alloc);

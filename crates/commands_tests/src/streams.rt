@@ -103,6 +103,10 @@ fn piece(letter: u8) -> Option<&'static [u8]> {
         // blocks that enter epochs 1 and 2
         b't' => Some(b"{\"kind\":\"block\",\"slot\":10,\"pulse\":1}"),
         b'u' => Some(b"{\"kind\":\"block\",\"slot\":20,\"pulse\":1}"),
+        // a later block of the same epoch, and rollbacks to slots 1 and 0
+        b'd' => Some(b"{\"kind\":\"block\",\"slot\":2,\"pulse\":1}"),
+        b'r' => Some(b"{\"kind\":\"rollback\",\"slot\":1}"),
+        b'q' => Some(b"{\"kind\":\"rollback\",\"slot\":0}"),
         b's' => Some(b"{\"kind\":\"print\",\"what\":\"state\"}"),
         b'p' => Some(b"{\"kind\":\"print\",\"what\":\"pots\"}"),
         b'b' => Some(b"{\"kind\":\"block\",\"slot\":1,\"pulse\":1}"),
@@ -140,6 +144,13 @@ pub const MOTION: &str = "E\nm\nv\nt\nu\ns\n";
 /// Its text.
 pub const MOTION_TEXT: &str =
     "1 genesis outputs 40 deposits 11 rewards 100 fees 0 donations 0 treasury 100 reserves 749 supply 1000\n2 accepted\n3 accepted\n4 epoch 1 frozen 3 dormant 0\n4 stake k00000000000000000000000000000000000000000000000000000030 67\n4 pots outputs 0 deposits 21 rewards 100 fees 30 donations 0 treasury 100 reserves 749 supply 1000\n4 block slot 10 epoch 1 counted 1 of 3\n5 epoch 2 frozen 3 dormant 1\n5 stake k00000000000000000000000000000000000000000000000000000030 67\n5 tally 0000000000000000000000000000000000000000000000000000000000000002#0 NoConfidence committee 0/0 need none drep 67/67 need 67/100 pool 0/0 need 0/1 ratified\n5 removed 0000000000000000000000000000000000000000000000000000000000000002#0 enacted refund 10 1k00000000000000000000000000000000000000000000000000000012\n5 pots outputs 0 deposits 11 rewards 110 fees 30 donations 0 treasury 100 reserves 749 supply 1000\n5 block slot 20 epoch 2 counted 1 of 3\n6 now slot 20 epoch 2 version 10.0 dormant 1\n6 constitution 0000000000000000000000000000000000000000000000000000000000000001 none\n6 committee none\n6 enacted committee 0000000000000000000000000000000000000000000000000000000000000002#0 constitution none hardfork none parameters none\n6 param maxBlockBodySize 90112\n6 param maxTxSize 16384\n6 param maxBlockHeaderSize 1100\n6 param maxValueSize 5000\n6 param maxTxExUnits 1000 1000\n6 param maxBlockExUnits 1000 1000\n6 param maxCollateralInputs 3\n6 param minFeeA 0\n6 param minFeeB 0\n6 param keyDeposit 2\n6 param poolDeposit 5\n6 param rho 0/1\n6 param tau 0/1\n6 param minPoolCost 0\n6 param coinsPerUTxOByte 0\n6 param prices 0/1 0/1\n6 param minFeeRefScriptCostPerByte 15/1\n6 param a0 0/1\n6 param eMax 18\n6 param nOpt 500\n6 param costModels 0000000000000000000000000000000000000000000000000000000000000000\n6 param collateralPercentage 150\n6 param poolVotingThresholds 0/1 0/1 0/1 0/1 0/1\n6 param drepVotingThresholds 67/100 67/100 67/100 67/100 67/100 67/100 67/100 67/100 67/100 67/100\n6 param govActionLifetime 2\n6 param govActionDeposit 10\n6 param drepDeposit 5\n6 param drepActivity 20\n6 param committeeMinSize 0\n6 param committeeMaxTermLength 100\n6 drep k00000000000000000000000000000000000000000000000000000030 deposit 5 expiry 20\n6 account k00000000000000000000000000000000000000000000000000000010 stake 0 deposit 2 rewards 67 pool none drep k00000000000000000000000000000000000000000000000000000030\n6 account k00000000000000000000000000000000000000000000000000000011 stake 0 deposit 2 rewards 33 pool none drep none\n6 account k00000000000000000000000000000000000000000000000000000012 stake 0 deposit 2 rewards 10 pool none drep none\n6 snapshot fees 30\n6 pending none\n6 pots outputs 0 deposits 11 rewards 110 fees 30 donations 0 treasury 100 reserves 749 supply 1000\n";
+
+/// The shape of a stream with rollbacks: what was taken back comes again; the last slot is unknown.
+pub const FOLLOWED: &str = "E\nb\n2\nd\nr\n2\nd\nq\n";
+
+/// Its text.
+pub const FOLLOWED_TEXT: &str =
+    "1 genesis outputs 40 deposits 11 rewards 100 fees 0 donations 0 treasury 100 reserves 749 supply 1000\n2 block slot 1 epoch 0 counted 1 of 3\n3 accepted\n4 block slot 2 epoch 0 counted 2 of 3\n5 rolled slot 1 epoch 0 counted 2 of 3\n6 accepted\n7 block slot 2 epoch 0 counted 3 of 3\n8 refused 13 RollbackUnknown last 2\n";
 
 /// The shape of one boundary, which freezes two motions. No entry is counted before it.
 pub const ONE_BOUNDARY: &str = "W\nM\nt\n";

@@ -1,2 +1,3 @@
 pub mod Pulses
+pub mod Later
 pub mod Steps

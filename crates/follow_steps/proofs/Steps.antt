@@ -25,7 +25,8 @@ use Rattle.follow_model.specs.Follow.{chain_after_all, follow_refusal, follow_st
 use Rattle.follow_model.specs.Laws.{IsFollowed, is_within_limits}
 use Rattle.further_laws.proofs.Followed.{all_join, count_never_falls, rollback_stays_in_epoch, sound_all}
 use Rattle.further_laws.proofs.Standing.{Goes, IsTimed, Stand, accepted_is, all_front, genesis_timed, goes_accepted, goes_all, good_all, stand_front, stand_more, timed_all}
-use Rattle.follow_steps.specs.Laws.{FollowedSupplyStays, KeptFrontsAreSound, PlainIsStep, RollbackLeavesKept}
+use Rattle.follow_steps.specs.Laws.{EpochIsOfSlot, FollowedSupplyStays, KeptAreNotLater, KeptFrontsAreSound, PlainIsStep, RollbackLeavesKept}
+use Rattle.follow_steps.proofs.Later.{none_later}
 use Rattle.follow_steps.proofs.Pulses.{IsUpTo, all_later, all_more, count_after, counts_same}
 
 all_split : {A : Type 0} (p : A → Bool) (xs ys : List A) → list_all p (xs ++ ys) ≡ true → (list_all p xs ≡ true) × (list_all p ys ≡ true)
@@ -223,6 +224,14 @@ kept_fronts_are_sound g rs front later h is =
     let k = going g rs h in
     sound_all front (world_of_genesis g) (genesis_begins_sound g h.within h.no_fault)
     (all_split record_limits.is_within_limits front later (subst (λ (xs : List Record). list_all record_limits.is_within_limits xs ≡ true) is k.all)).0
+
+pub epoch_is_of_slot : EpochIsOfSlot
+epoch_is_of_slot g rs h = sym (timed g (chain_after_all (world_of_genesis g) no_records rs) (none_yet g rs h) (going g rs h)).clock
+
+pub kept_are_not_later : KeptAreNotLater
+kept_are_not_later g rs h =
+    let k = going g rs h in
+    none_later (chain_after_all (world_of_genesis g) no_records rs).kept (world_of_genesis g) (genesis_good g) (genesis_timed g h.within) k.all k.stand
 
 pub supply : laws.SupplyStays → FollowedSupplyStays
 supply law g rs h =

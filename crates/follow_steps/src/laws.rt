@@ -1,4 +1,4 @@
-ghost use Rattle.follow_steps.specs.Laws.{FollowedSupplyStays, KeptFrontsAreSound, PlainIsStep, RollbackLeavesKept};
+ghost use Rattle.follow_steps.specs.Laws.{EpochIsOfSlot, FollowedSupplyStays, KeptAreNotLater, KeptFrontsAreSound, PlainIsStep, RollbackLeavesKept};
 
 use run_laws::supply_stays;
 
@@ -16,6 +16,16 @@ pub fn rollback_leaves_kept()
 /// The ledger at each place of the records that remain is sound.
 pub fn kept_fronts_are_sound()
     ensures { KeptFrontsAreSound }
+{}
+
+/// The epoch of the ledger is that of its slot.
+pub fn epoch_is_of_slot()
+    ensures { EpochIsOfSlot }
+{}
+
+/// No block that remains is later than the ledger, or of a later epoch.
+pub fn kept_are_not_later()
+    ensures { KeptAreNotLater }
 {}
 
 /// After each record of a followed stream all pots hold the supply of the genesis.

@@ -4,10 +4,10 @@ use Rattle.byte_lines.specs.InMemory.{Given}
 use Rattle.load_options.specs.Table.{command_of}
 use Rattle.replay_loop.specs.declared.status.Status.{Status}
 use Rattle.replay_loop.specs.declared.status.Status.TheVariants as statuses
-use Rattle.replay_loop.specs.Commands.{IsReplayCommand, is_done, reads}
+use Rattle.command_runs.specs.Tasks.{IsReplayCommand, is_done, reads}
 use Rattle.replay_loop.specs.Endings.{IsReplayed}
 use Rattle.replay_loop.specs.Runs.{text_of_run}
-use Rattle.replay_loop.proofs.Following.{complete_follows, faults_follow, replays_follow, task_of_replay, usage_follows}
+use Rattle.command_runs.proofs.Following.{complete_follows, faults_follow, replays_follow, task_of_replay, usage_follows}
 use Rattle.commands_tests.proofs.memory.replayed_in_memory.Goals as goal
 
 -- what a sink that was empty holds at the end is the text of the run
@@ -44,7 +44,7 @@ returns-clause-done g c =
 pub returns-clause-complete : goal.returns-clause-complete
 returns-clause-complete g c = λ start short.
     let named : IsReplayCommand c.as_slice.result.now = rw c.as_slice.ensures.value c.in_ok-words.ensures in
-    complete_follows _ c.whole_lines.ensures.adds_up c.run-status.result c.as_slice.result.now _ _ c.run-status.ensures.runs
+    complete_follows _ c.whole_lines.ensures.adds_up c.laws.ensures.complete c.run-status.result c.as_slice.result.now _ _ c.run-status.ensures.runs
     (inl (
       ap reads (task_of_replay (command_of c.as_slice.result.now) named),
       record {

@@ -1,0 +1,4 @@
+pub mod Logged
+pub mod Follows
+pub mod Begins
+pub mod Moves
