@@ -4,7 +4,7 @@ ghost use Rattle.byte_lines.specs.Faults.{CountsFaults};
 ghost use Rattle.checkpoint_reader.specs.Gathered.{gathered_rows, gathered_shown, has_gathered_form};
 ghost use Rattle.checkpoint_reader.specs.declared.read.Gathered.{Gathered};
 ghost use Rattle.checkpoint_model.specs.Checkpoint.{checkpoint_lines};
-ghost use Rattle.line_giver.specs.Giving.{HasPassed, lines_of_giving};
+ghost use Rattle.line_giver.specs.Giving.{HasPassed, PassesSome, lines_of_giving};
 ghost use Rattle.line_parts.specs.Parts.{lines_of};
 ghost use Rattle.run_model.specs.World.{World};
 
@@ -85,6 +85,7 @@ pub fn read_lists<G: LineGiver>(
         lines_of_giving (G.giving giver.old) ≡ Some (lines_of (gathered_rows x) ++ more) → g ≡ Some x) }
     ensures world { IfOk result (λ g. (w : World) (line : ℕ) (more : List (Option (List ℕ))) → has_gathered_form (gathered_shown w line) ≡ true →
         lines_of_giving (G.giving giver.old) ≡ Some (lines_of (checkpoint_lines w line) ++ more) → g ≡ Some (gathered_shown w line)) }
+    ensures some { PassesSome (G.passed giver.old) (G.passed giver.new) (G.giving giver.old) (G.giving giver.new) }
     ensures over { result ≡ Err LineFault.TooMuch → G.IsOver giver.new }
     ensures counts { CountsFaults (result ≡ Err LineFault.ReadFault) (G.faults giver.old) (G.faults giver.new) }
 {

@@ -54,7 +54,7 @@ before_none None = refl
 before_none (Some lines) = refl
 
 -- whatever came, by whether the reader ended before and ended now
-left_answered : (old new : Reader) (left left' : Option (List ℕ)) (given : List (Option (List ℕ))) (was is : Bool) → old.ended ≡ was → new.ended ≡ is → HasTaken old new left left' given → new.stream_max ≡ old.stream_max
+pub left_answered : (old new : Reader) (left left' : Option (List ℕ)) (given : List (Option (List ℕ))) (was is : Bool) → old.ended ≡ was → new.ended ≡ is → HasTaken old new left left' given → new.stream_max ≡ old.stream_max
     → (was ≡ true → (new ≡ old) × (left' ≡ left) × (given ≡ [])) → (is ≡ true → lines_left new [] ≡ [])
     → option_map (lines_unless was old) left ≡ known_after given (option_map (lines_unless is new) left')
 left_answered old new left left' given true is e e' took max stays over =
@@ -66,11 +66,11 @@ left_answered old new left (Some rest) given false false e e' took max stays ove
 left_answered old new left (Some rest) given false true e e' took max stays over = left_ending old new left rest given took (took.drained e e') (over refl)
 
 -- nothing is left of a reader that ended
-none_left : (new : Reader) → (new.ahead ≡ []) × (new.begun ≡ Some []) → lines_left new [] ≡ []
+pub none_left : (new : Reader) → (new.ahead ≡ []) × (new.begun ≡ Some []) → lines_left new [] ≡ []
 none_left new empty = rw (empty.0, empty.1) refl
 
 -- at the end no line was given
-ended_none : (new : Reader) (result : Result Line LineFault) → result ≡ Ok End → line_given result new ≡ []
+pub ended_none : (new : Reader) (result : Result Line LineFault) → result ≡ Ok End → line_given result new ≡ []
 ended_none new result e = ap (λ (r : Result Line LineFault). line_given r new) e
 
 -- a call of the reader where no line was held: nothing is passed

@@ -43,3 +43,8 @@ pub record HasPassed {Stream : Type 0} (passed passed' : Stream → List (Option
   pub of_stream : (s : Stream) (before : List (Option (List ℕ))) → passed s before → passed' s (before ++ lines)
   -- they were the first that were left
   pub left : lines_of_giving old ≡ known_after lines (lines_of_giving new)
+
+-- between two moments some lines were passed, or none
+pub record PassesSome {Stream : Type 0} (before after : Stream → List (Option (List ℕ)) → Type 0) (old new : Giving) : Type 0 where
+  pub lines : List (Option (List ℕ))
+  pub passed : HasPassed before after old new lines

@@ -2,7 +2,7 @@ use byte_lines::{Line, LineFault};
 
 /// Who gives lines: the next one is looked at before it is passed.
 pub trait LineGiver {
-    ghost use Rattle.std.specs.Prelude.{◌≡◌, ◌↔◌, ℕ, ◌<◌, ◌++◌, Err, IfOk, List, [], Option, length};
+    ghost use Rattle.std.specs.Prelude.{◌≡◌, ◌↔◌, ℕ, ◌<◌, ◌++◌, Err, IfOk, List, [], OnErr, Option, length};
     ghost use Rattle.byte_lines.specs.Faults.{CountsFaults};
     ghost use Rattle.line_giver.specs.Giving.{Giving, HasPassed, Sees};
 
@@ -25,6 +25,7 @@ pub trait LineGiver {
     fn peek(&mut self) -> Result<Line, LineFault>
         ensures passes { HasPassed (passed self.old) (passed self.new) (giving self.old) (giving self.new) [] }
         ensures sees { IfOk result (Sees (giving self.new)) }
+        ensures unseen { OnErr result ((giving self.new).seen ≡ []) }
         ensures over { (result ≡ Err LineFault.TooMuch) ↔ IsOver self.new }
         ensures counts { CountsFaults (result ≡ Err LineFault.ReadFault) (faults self.old) (faults self.new) };
 

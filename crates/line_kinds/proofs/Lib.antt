@@ -1,4 +1,4 @@
 mod Digits
-mod Lined
+pub mod Lined
 mod Spaces
 mod Backs

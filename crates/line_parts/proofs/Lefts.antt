@@ -5,6 +5,7 @@ use Rattle.std.proofs.lemmas.Option.{none-some, same_Some}
 use Rattle.text_forms.specs.Lines.{joined}
 use Rattle.text_model.specs.Words.{Text}
 use Rattle.line_giver.specs.Giving.{Giving, HasPassed, known_after, lines_of_giving}
+use Rattle.line_giver.proofs.Passing.{passed_both}
 use Rattle.line_parts.specs.Parts.{lines_of}
 
 -- the lines of words and of more words
@@ -16,36 +17,12 @@ lines_append (ws ∷ a) b = ap (λ (t : List (Option Text)). Some (joined ws) �
 pub some_none : {A : Type 0} (x : A) → Some x ≢ None
 some_none x e = none-some x (sym e)
 
--- known lines before known lines
-known_twice : (ls ms : List (Option Text)) (o : Option (List (Option Text))) → known_after ls (known_after ms o) ≡ known_after (ls ++ ms) o
-known_twice ls ms None = refl
-known_twice ls ms (Some more) = ap Some (sym (append_assoc ls ms more))
-
--- nothing before known lines
-pub known_none : (o : Option (List (Option Text))) → known_after [] o ≡ o
-known_none None = refl
-known_none (Some more) = refl
-
 -- what is left once lines were passed
 pub left_after : (old new : Option (List (Option Text))) (lines more : List (Option Text)) → old ≡ known_after lines new → old ≡ Some (lines ++ more) → new ≡ Some more
 left_after old None lines more was is = absurd (none-some (lines ++ more) (sym was ∙ is))
 left_after old (Some rest) lines more was is = ap Some (append_cancel_left lines rest more (same_Some (lines ++ rest) (lines ++ more) (sym was ∙ is)))
 
 module _ {Stream : Type 0} {p q r : Stream → List (Option Text) → Type 0} {old mid new : Giving} where
-  -- lines were passed, and then more
-  pub passed_both : (ls ms : List (Option Text)) → HasPassed p q old mid ls → HasPassed q r mid new ms → HasPassed p r old new (ls ++ ms)
-  passed_both ls ms was is = record {
-    of_stream = λ s before at. subst (λ t. r s t) (append_assoc before ls ms) (is.of_stream s (before ++ ls) (was.of_stream s before at));
-    left = was.left ∙ ap (known_after ls) is.left ∙ known_twice ls ms (lines_of_giving new);
-  }
-
   -- the lines of words, and then of more
   pub passed_words : (a b : List (List Text)) → HasPassed p q old mid (lines_of a) → HasPassed q r mid new (lines_of b) → HasPassed p r old new (lines_of (a ++ b))
   passed_words a b was is = subst (λ t. HasPassed p r old new t) (sym (lines_append a b)) (passed_both (lines_of a) (lines_of b) was is)
-
--- no line was passed
-pub passed_nothing : {Stream : Type 0} {p : Stream → List (Option Text) → Type 0} {old : Giving} → HasPassed p p old old []
-passed_nothing {Stream} {p} {old} = record {
-  of_stream = λ s before at. subst (λ t. p s t) (sym (append-nil before)) at;
-  left = sym (known_none (lines_of_giving old));
-}

@@ -1,5 +1,5 @@
 mod Starts
-mod Lefts
+pub mod Lefts
 mod Sequences
 mod Repeats
 mod Groups

@@ -8,7 +8,8 @@ use Rattle.line_giver.specs.Giving.{Giving, HasPassed, known_after, lines_of_giv
 use Rattle.line_parts.specs.Parts.{Comes, IsRead, lines_of}
 use Rattle.line_parts.specs.Shapes.{Shape, are_apart, has_start, is_next, many_shape}
 use Rattle.line_parts.proofs.Starts.{none_follows, none_next, some_follows, start_of_many}
-use Rattle.line_parts.proofs.Lefts.{left_after, lines_append, passed_both, passed_nothing, passed_words, some_none}
+use Rattle.line_giver.proofs.Passing.{passed_both, passed_nothing}
+use Rattle.line_parts.proofs.Lefts.{left_after, lines_append, passed_words, some_none}
 
 -- all of them, before one more
 list_all_more : {I : Type 0} (form : I → Bool) (xs : List I) (x : I) → list_all form xs ≡ true → form x ≡ true → list_all form (xs ++ x ∷ []) ≡ true

@@ -9,6 +9,7 @@ pub trait Part {
 
     ghost use Rattle.std.specs.Prelude.{◌≡◌, ℕ, Bool, true, Err, IfOk, List};
     ghost use Rattle.byte_lines.specs.Faults.{CountsFaults};
+    ghost use Rattle.line_giver.specs.Giving.{PassesSome};
     ghost use Rattle.line_parts.specs.Parts.{IsRead, lines_of};
     ghost use Rattle.line_parts.specs.Shapes.{Shape, has_start};
 
@@ -26,7 +27,7 @@ pub trait Part {
         ensures { (x : Self.Item) → form x ≡ true → has_start shape (lines_of (words x)) ≡ true };
 
     /// Reads the lines of an item and passes them. `None`: the lines that come next are those of no
-    /// item; some of them may be passed. The buffer loses what it held.
+    /// item; some of them may be passed, and also before an error. The buffer loses what it held.
     fn read_part<G: LineGiver>(
         alloc: Global,
         giver: &mut G,
@@ -34,6 +35,7 @@ pub trait Part {
     ) -> Result<Option<Self::Item>, LineFault>
         ensures reads { shape.fits ≡ true → IfOk result (IsRead shape form words
             (G.passed giver.old) (G.passed giver.new) (G.giving giver.old) (G.giving giver.new)) }
+        ensures passes { PassesSome (G.passed giver.old) (G.passed giver.new) (G.giving giver.old) (G.giving giver.new) }
         ensures over { result ≡ Err LineFault.TooMuch → G.IsOver giver.new }
         ensures counts { CountsFaults (result ≡ Err LineFault.ReadFault) (G.faults giver.old) (G.faults giver.new) };
 }

@@ -3,6 +3,7 @@ use Rattle.std.proofs.Common.{◌≡◌, suc, ◌≤◌, ◌&&◌, Bool, true, L
 use Rattle.std.proofs.lemmas.Bool.{and_parts}
 use Rattle.std.proofs.lemmas.List.{length-map, map-append}
 use Rattle.line_giver.specs.Giving.{Giving, HasPassed, IsThrough, known_after, lines_of_giving}
+use Rattle.line_giver.proofs.Passing.{passed_both}
 use Rattle.line_kinds.specs.Cuts.{are_plain}
 use Rattle.line_kinds.specs.Kinds.{ReadsLine}
 use Rattle.text_model.specs.ParamLines.{param}
@@ -18,19 +19,6 @@ cancel [] [] us vs n e = e
 cancel [] (y ∷ ys) us vs n e = absurd (omega (arith, n))
 cancel (x ∷ xs) [] us vs n e = absurd (omega (arith, n))
 cancel {A} (x ∷ xs) (y ∷ ys) us vs n e = cancel xs ys us vs (omega (arith, n)) (ap (λ (l : List A). drop 1 l) e)
-
--- ---- what was passed
-
-known_twice : (xs ys : List (Option Text)) (o : Option (List (Option Text))) → known_after xs (known_after ys o) ≡ known_after (xs ++ ys) o
-known_twice xs ys None = refl
-known_twice xs ys (Some ls) = ap Some (sym (append_assoc xs ys ls))
-
-module _ {Stream : Type 0} {p q r : Stream → List (Option Text) → Type 0} {old mid new : Giving} where
-  pub passed_then : {xs ys : List (Option Text)} → HasPassed p q old mid xs → HasPassed q r mid new ys → HasPassed p r old new (xs ++ ys)
-  passed_then {xs} {ys} first second = record {
-    of_stream = λ s before h. subst (λ (l : List (Option Text)). r s l) (append_assoc before xs ys) (second.of_stream s (before ++ xs) (first.of_stream s before h));
-    left = first.left ∙ ap (known_after xs) second.left ∙ known_twice xs ys (lines_of_giving new);
-  }
 
 -- ---- two items
 
@@ -49,7 +37,7 @@ module _ {I J : Type 0} (f : I → Bool) (g : J → Bool) (la : I → List (List
     pub second_none : ((x y : I) → length (la x) ≡ length (la y)) → (a : I) → ReadsLines f la p q old mid (Some a) → ReadsLines g lb q r mid new None → ReadsLines both_form both_lines p r old new None
     second_none count a first n = (
       whole f la a ++ n.0,
-      passed_then first.1 n.1,
+      passed_both (whole f la a) n.0 first.1 n.1,
       record {
         none = λ x h after rest at_end e.
             let both = and_parts (f x.0) (g x.1) h in

@@ -1,7 +1,7 @@
 //! The line of one parameter.
 ghost use Rattle.std.specs.Prelude.{◌≡◌, ◌≤◌, ◌∷◌, [], Err, IfOk, length};
 ghost use Rattle.byte_lines.specs.Faults.{CountsFaults};
-ghost use Rattle.line_giver.specs.Giving.{HasPassed, IsThrough, lines_of_giving};
+ghost use Rattle.line_giver.specs.Giving.{HasPassed, IsThrough, PassesSome, lines_of_giving};
 ghost use Rattle.line_kinds.specs.Kinds.{ReadsLine};
 ghost use Rattle.text_model.specs.ParamLines.{param};
 ghost use Rattle.param_kinds.specs.Runs.{IsSeen, ReadsLines};
@@ -56,6 +56,7 @@ pub(crate) fn read_param<K: LineKind, G: LineGiver>(
 ) -> Result<Option<K::Item>, LineFault>
     ensures reads { IfOk result (ReadsLines K.form (λ x. param name.now (K.words x) ∷ [])
         (G.passed giver.old) (G.passed giver.new) (G.giving giver.old) (G.giving giver.new)) }
+    ensures passes { PassesSome (G.passed giver.old) (G.passed giver.new) (G.giving giver.old) (G.giving giver.new) }
     ensures over { result ≡ Err LineFault.TooMuch → G.IsOver giver.new }
     ensures counts { CountsFaults (result ≡ Err LineFault.ReadFault) (G.faults giver.old) (G.faults giver.new) }
 {

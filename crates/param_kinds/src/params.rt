@@ -3,6 +3,7 @@ ghost use Rattle.std.specs.Prelude.{◌≡◌, Err, IfOk};
 ghost use Rattle.byte_lines.specs.Faults.{CountsFaults};
 ghost use Rattle.text_forms.specs.States.{are_params};
 ghost use Rattle.text_model.specs.ParamLines.{param_lines};
+ghost use Rattle.line_giver.specs.Giving.{PassesSome};
 ghost use Rattle.param_kinds.specs.Parts.{params_from};
 ghost use Rattle.param_kinds.specs.Runs.{ReadsLines};
 
@@ -135,6 +136,7 @@ pub fn read_params<G: LineGiver>(
 ) -> Result<Option<Params>, LineFault>
     ensures reads { IfOk result (ReadsLines are_params param_lines
         (G.passed giver.old) (G.passed giver.new) (G.giving giver.old) (G.giving giver.new)) }
+    ensures passes { PassesSome (G.passed giver.old) (G.passed giver.new) (G.giving giver.old) (G.giving giver.new) }
     ensures over { result ≡ Err LineFault.TooMuch → G.IsOver giver.new }
     ensures counts { CountsFaults (result ≡ Err LineFault.ReadFault) (G.faults giver.old) (G.faults giver.new) }
 {

@@ -10,6 +10,7 @@ pub trait LinesReader {
 
     ghost use Rattle.std.specs.Prelude.{◌≡◌, ℕ, Bool, Err, IfOk, List, length};
     ghost use Rattle.byte_lines.specs.Faults.{CountsFaults};
+    ghost use Rattle.line_giver.specs.Giving.{PassesSome};
     ghost use Rattle.param_kinds.specs.Runs.{ReadsLines};
 
     // the words of its lines, in order
@@ -30,6 +31,7 @@ pub trait LinesReader {
     ) -> Result<Option<Self::Item>, LineFault>
         ensures reads { IfOk result (ReadsLines form lines
             (G.passed giver.old) (G.passed giver.new) (G.giving giver.old) (G.giving giver.new)) }
+        ensures passes { PassesSome (G.passed giver.old) (G.passed giver.new) (G.giving giver.old) (G.giving giver.new) }
         ensures over { result ≡ Err LineFault.TooMuch → G.IsOver giver.new }
         ensures counts { CountsFaults (result ≡ Err LineFault.ReadFault) (G.faults giver.old) (G.faults giver.new) };
 }

@@ -1,4 +1,5 @@
 -- What both parts read is what the pair reads.
+use Rattle.line_giver.proofs.Passing.{passes_both}
 use Rattle.line_parts.proofs.Sequences.{then_both, then_no_first, then_no_second}
 use Rattle.line_parts.proofs.then.ThenPart.read_part.Goals as goal
 
@@ -22,3 +23,12 @@ returns-clause-reads g c fits =
     let a = g.A.Part in
     let b = g.B.Part in
     then_both a.shape b.shape a.form b.form a.words b.words c.laws.ensures fits c.in-Some.first c.in-Some-2.second (rw c.in-Some.is at c.in_ok-first.ensures.reads) (rw c.in-Some-2.is at c.in_ok-second.ensures.reads)
+
+pub returns-in_err-second-clause-passes : goal.returns-in_err-second-clause-passes
+returns-in_err-second-clause-passes g c = passes_both c.in_ok-first.ensures.passes c.in_err-second.ensures.passes
+
+pub returns-in_default-2-clause-passes : goal.returns-in_default-2-clause-passes
+returns-in_default-2-clause-passes g c = passes_both c.in_ok-first.ensures.passes c.in_ok-second.ensures.passes
+
+pub returns-clause-passes : goal.returns-clause-passes
+returns-clause-passes g c = passes_both c.in_ok-first.ensures.passes c.in_ok-second.ensures.passes
