@@ -5,4 +5,5 @@ mod deposits;
 mod frozen;
 mod pools;
 
+pub use deposits::deposits_by_account;
 pub use frozen::{Parts, frozen_of};

@@ -1,0 +1,2 @@
+mod PoolTells
+mod OutputTells

@@ -1,0 +1,4 @@
+pub mod Put
+pub mod Noted
+pub mod Stored
+pub mod Counted

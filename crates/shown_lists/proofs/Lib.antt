@@ -1,0 +1,4 @@
+pub mod Present
+pub mod Places
+pub mod Accounts
+pub mod ColdKeys
