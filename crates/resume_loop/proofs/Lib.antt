@@ -1,0 +1,5 @@
+pub mod Turned
+pub mod Played
+pub mod Begun
+pub mod Ends
+pub mod HeadRead
