@@ -1,0 +1,3 @@
+mod Sound
+mod Counting
+mod Kept
