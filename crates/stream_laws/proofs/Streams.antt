@@ -44,6 +44,7 @@ use Rattle.formed_laws.specs.Records.{is_formed, is_formed_genesis}
 use Rattle.formed_laws.proofs.Counts.{entries_are_few}
 use Rattle.formed_laws.proofs.Reached.{reached_has_form}
 use Rattle.further_laws.proofs.Kept.{reached_is_certified, reached_is_resumable}
+use Rattle.claim_lengths.proofs.Claims.{claims_short}
 use Rattle.stream_laws.specs.Laws.{BytesAreCertified, BytesAreResumable, BytesCountFits, BytesGiveForm}
 use Rattle.certificate_model.specs.Certificate.{claim_lines, snapshot_lines}
 use Rattle.stream_laws.proofs.FrozenLines.{frozen_within, join, snapshot_short}
@@ -210,7 +211,7 @@ bytes_are_resumable bytes w short e =
     reached_is_resumable w o.reached form (bytes_count_fits bytes w short e) (live_lines w (filled (pieces_of bytes)) o form)
 
 pub bytes_are_certified : BytesAreCertified
-bytes_are_certified bytes w e claims =
+bytes_are_certified bytes w e =
     let n : ℕ = filled (pieces_of bytes) in
     let o : IsOf n w = of_bytes bytes w e in
     let s : IsSoundWorld w = sound w o.reached in
@@ -218,4 +219,4 @@ bytes_are_certified bytes w e claims =
     let proposals : list_all is_proposal w.frozen.proposals ≡ true = left_of _ _ (right_of _ _ (left_of _ _ frozen)) in
     let actions : are_short_lines (map action_words w.frozen.proposals) ≡ true = action_lines w.frozen.proposals proposals (frozen_within w s (live_within w n o)) in
     let early : w.frozen.epoch < 2 ^ 64 = omega (arith, s.stands.epoch, s.ledger.epoch) in
-    reached_is_certified w o.reached frozen (join (snapshot_lines w.frozen) (claim_lines w.frozen) (snapshot_short w.frozen frozen early actions) claims)
+    reached_is_certified w o.reached frozen (join (snapshot_lines w.frozen) (claim_lines w.frozen) (snapshot_short w.frozen frozen early actions) (claims_short w.frozen frozen))

@@ -3,10 +3,10 @@ use Rattle.std.specs.Prelude.{◌≡◌, ℕ, ◌≤◌, Bool, List, Option, Som
 use Rattle.tx_records.specs.declared.limits.TheConstants.{STREAM_LIMIT}
 use Rattle.tx_records.specs.Limits.{is_u64}
 use Rattle.run_model.specs.World.{World}
-use Rattle.text_forms.specs.Lines.{are_short_lines, joined_lines}
+use Rattle.text_forms.specs.Lines.{joined_lines}
 use Rattle.text_forms.specs.Worlds.{world_of_readings}
 use Rattle.checkpoint_model.specs.Resumable.{IsResumable, has_form}
-use Rattle.certificate_model.specs.Certificate.{certificate_lines, claim_lines}
+use Rattle.certificate_model.specs.Certificate.{certificate_lines}
 use Rattle.certificate_model.specs.Checked.{Answers}
 use Rattle.record_stream.specs.Records.{records_of}
 
@@ -26,8 +26,7 @@ BytesCountFits = (bytes : List ℕ) (w : World) → length bytes ≤ STREAM_LIMI
 abbrev pub BytesAreResumable : Type 0
 BytesAreResumable = (bytes : List ℕ) (w : World) → length bytes ≤ STREAM_LIMIT → world_of_bytes bytes ≡ Some w → IsResumable w
 
--- a checker answers yes to the certificate of what is frozen of a World that bytes leave,
--- if no line of its results is too long
+-- a checker answers yes to the certificate of what is frozen of a World that bytes leave
 abbrev pub BytesAreCertified : Type 0
-BytesAreCertified = (bytes : List ℕ) (w : World) → world_of_bytes bytes ≡ Some w → are_short_lines (claim_lines w.frozen) ≡ true →
-    (answer : Bool) → Answers (joined_lines (certificate_lines w.frozen)) answer → answer ≡ true
+BytesAreCertified = (bytes : List ℕ) (w : World) → world_of_bytes bytes ≡ Some w → (answer : Bool) →
+    Answers (joined_lines (certificate_lines w.frozen)) answer → answer ≡ true

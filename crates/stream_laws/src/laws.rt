@@ -15,8 +15,7 @@ pub fn bytes_are_resumable()
     ensures { BytesAreResumable }
 {}
 
-/// A checker answers yes to the certificate of what is frozen of a ledger that bytes leave, if no
-/// line of its results (stakes, parts, verdicts) is longer than 2^24 bytes.
+/// A checker answers yes to the certificate of what is frozen of a ledger that bytes leave.
 pub fn bytes_are_certified()
     ensures { BytesAreCertified }
 {}

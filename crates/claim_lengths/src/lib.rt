@@ -1,0 +1,6 @@
+//! A law on the lines of certificates: none of their results is too long.
+#![tactic(auto)]
+
+mod laws;
+
+pub use laws::claims_are_short;
