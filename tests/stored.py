@@ -2,8 +2,9 @@
 
 They are those of examples/, tests/streams/ and tests/streams/worked/ (NAME.in, with NAME.out,
 NAME.status, 0 if absent, and NAME.args, one word a line, `replay` if absent), those of
-tests/streams/whole, those of the further commands that are built (tests/streams/commands, and
-tests/streams/further by the command of their part), and the one that the program itself keeps."""
+tests/streams/whole, those of the further commands (tests/streams/commands, and
+tests/streams/further by the command of their part; one that fails a test has status 8 of `resume`),
+and the one that the program itself keeps."""
 
 import os
 import re
@@ -14,8 +15,12 @@ from cases import Case
 TOP = Path(__file__).resolve().parent.parent
 # where `rt ci` and `rt run` leave the program
 PROGRAM = TOP / "crates/conway/out/conway"
-# the further commands that the program has
-BUILT = ("shortfall", "outlook", "checkpoint", "certify")
+# commands whose streams are stored and that the program does not have yet: no stream of them runs
+TO_COME = ("resume", "check")
+# the commands that read a stream of records from its genesis on, without rollbacks
+REPLAYING = ("replay", "shortfall", "outlook", "checkpoint", "certify")
+# the commands that need no further word, and take the option of workers
+WITH_WORKERS = (*REPLAYING, "resume", "follow")
 
 
 def is_missing(program, script):
@@ -34,7 +39,7 @@ def case_in(stream):
         f"{stream.parent.name}/{stream.stem}",
         stream.read_bytes(),
         status=int(status.read_text()) if status.exists() else 3 if rule.exists() else 0,
-        wanted=stream.with_suffix(".out").read_text(),
+        wanted=text.read_text() if (text := stream.with_suffix(".out")).exists() else "",
         words=tuple(args.read_text().splitlines()) if args.exists() else ("replay",),
     )
 
@@ -45,22 +50,32 @@ def files_in(folder):
 
 
 def further():
-    """The streams of tests/streams/further whose command is built."""
+    """The streams of tests/streams/further, each with its command."""
     folder = TOP / "tests/streams/further"
     index = (folder / "README.md").read_text(encoding="utf-8")
     for command, table in re.findall(r"^## .*: \w+ \((\w+)\)$([^#]*)", index, re.M):
-        if command in BUILT:
-            for name in re.findall(r"^\| `(\w+)` \|", table, re.M):
-                yield case_in(folder / f"{name}.in")._replace(words=(command,))
+        for name, test in re.findall(r"^\| `(\w+)` \| [^|]* \|(?: (\w+) \|)?$", table, re.M):
+            refused = command == "resume" and test
+            yield case_in(folder / f"{name}.in")._replace(words=(command,), **({"status": 8} if refused else {}))
+
+
+def of_further_commands():
+    """The streams of tests/streams/commands and of tests/streams/further."""
+    yield from files_in("tests/streams/commands")
+    yield from further()
 
 
 def stored():
     """Each of them."""
-    yield from files_in("examples")
+    yield from (it for it in files_in("examples") if it.words[0] not in TO_COME)
     yield from files_in("tests/streams")
     yield from files_in("tests/streams/worked")
     yield from files_in("tests/streams/whole")
-    yield from files_in("tests/streams/commands")
-    yield from further()
+    yield from (it for it in of_further_commands() if it.words[0] not in TO_COME)
     own = TOP / "crates/conway"
     yield Case("the stored run", (own / "stdin").read_bytes(), wanted=(own / "stdout").read_text(), words=tuple((own / "args").read_text().split()))
+
+
+def replayed():
+    """Those whose stream is one of records from a genesis that is read to its end."""
+    return (it for it in stored() if it.status == 0 and it.words[0] in REPLAYING)

@@ -2,8 +2,9 @@
 docs/use/formats.md, Text.
 
 A record has `line`, the number of the line that is answered, and `event`, the first word of the
-text; only the text of `replay` has a `line`. `line`, `at` (an index) and `rule` (the number of a
-rule) are numbers; all else is text, amounts as their digits."""
+text; only the texts of `replay`, `resume` and `follow` have a `line`, and that of `check`, where it
+is the number of a certificate. `line`, `at` (an index) and `rule` (the number of a rule) are
+numbers; all else is text, amounts as their digits."""
 
 import re
 
@@ -20,6 +21,7 @@ FORMS = {
     "pots": [f"pots {POTS}"],
     "accepted": ["accepted", "accepted <scripts>"],
     "block": ["block slot <slot> epoch <epoch> counted <counted> of <of>"],
+    "rolled": ["rolled slot <slot> epoch <epoch> counted <counted> of <of>"],
     "asset-total": ["asset-total <policy> <name> <total>"],
     "epoch": ["epoch <epoch> frozen <frozen> dormant <dormant>"],
     "stake": ["stake <drep> <amount>"],
@@ -44,6 +46,9 @@ FORMS = {
     "vote": ["vote <id> <voter> <vote>"],
     "snapshot": ["snapshot fees <fees>", "snapshot <of> <pool> <stake>"],
     "pending": ["pending <update>", "pending reward <cred> <amount>", "pending reserves <reserves> fees <fees> treasury <treasury>"],
+    # of a check: the line is the number of a certificate
+    "yes": ["yes"],
+    "no": ["no"],
 }
 COUNT = "yes <yes> of <total> need <need>"
 # the lines of a state, in checkpoints and in part in certificates

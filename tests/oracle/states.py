@@ -2,7 +2,7 @@
 
 from oracle.assets import asset_lines
 from oracle.counts import GROUPS, in_order
-from oracle.transactions import pots
+from oracle.transactions import PURPOSES, pots
 
 # the parameters that are a fraction, and those that are a list of fractions
 FRACTIONS = ("rho", "tau", "minFeeRefScriptCostPerByte", "a0")
@@ -82,7 +82,8 @@ def voter_in_order(voter):
 
 def proposal_lines(ledger):
     for it in ledger["proposals"]:
-        action, previous = it["action"], or_none(it["action"].get("previous"))
+        action = it["action"]
+        previous = or_none(action.get("previous") if action["type"] in PURPOSES else None)
         yield f"proposal {it['id']} {action['type']} deposit {it['deposit']} return {it['return']} expires {it['until']} previous {previous}"
         for voter in sorted(it["votes"], key=voter_in_order):
             yield f"vote {it['id']} {voter} {it['votes'][voter]}"

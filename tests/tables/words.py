@@ -32,6 +32,21 @@ WRONG = [
     ("--workers", "1"),
     ("--workers", "1", "replay"),
 ]
+# what may not stand behind the commands that read checkpoints, certificates and rollbacks
+WRONG_BEHIND = [
+    *(("check", "--workers", it) for it in ("1", "2")),
+    ("check", "--workers=1"),
+    ("check", ""),
+    ("check", "check"),
+    *((it, "--workers", "0") for it in ("resume", "follow")),
+    *((it, "--workers", "65") for it in ("resume", "follow")),
+    *((it, "--workers", "1", "--workers", "1") for it in ("resume", "follow")),
+    *((it, "x") for it in ("resume", "follow")),
+    ("resume", "resume"),
+    ("Resume",),
+    ("checks",),
+    ("follow ",),
+]
 # what may not stand behind `replay`, and behind `load` with its options
 WORKERS = [
     ("--workers",),
@@ -103,7 +118,7 @@ def loads(words, wanted):
 
 
 def cases():
-    yield from map(refused, WRONG)
+    yield from map(refused, (*WRONG, *WRONG_BEHIND))
     yield from (refused(("replay", *it)) for it in WORKERS)
     yield from (refused(("replay", *it)) for it in (SEED, ACCOUNTS, EPOCHS, ("--seed=7", "--workers", "1")))
     yield from (refused(("load", *SEED, *ACCOUNTS, *EPOCHS, *it)) for it in WORKERS)
