@@ -11,7 +11,7 @@ ghost use Rattle.accounts.specs.Accounts.{is_nothing, entered};
 
 pub use book_records::{Entry, Registered};
 use gov_ids::Credential;
-use no_memory::NoMemory;
+use gov_ids::of_no_memory::NoMemory;
 use std::alloc::Global;
 use std::marker::Model;
 use view_map::ViewMap;

@@ -10,13 +10,13 @@ use Rattle.gov_ids.specs.Orders.{asset_cmp}
 use Rattle.gov_ids.specs.Same.{same_asset}
 use Rattle.gov_ids.proofs.Exacts.{asset_exact}
 use Rattle.gov_ids.proofs.Totals.{asset_total}
-use Rattle.maps.proofs.Joined.{or_assoc}
-use Rattle.maps.proofs.Kept.{IsMap-with_value, keys_of-each}
-use Rattle.maps.proofs.Lookups.{value_at-with_value}
-use Rattle.maps.proofs.Same.{map_from_value_at}
-use Rattle.maps.proofs.Sets.{IsSet-in_order, has_member-in_order}
-use Rattle.maps.proofs.Ties.{same_key}
-use Rattle.maps.specs.Maps.{IsMap, IsSet, value_at, with_value, has_member}
+use Rattle.gov_ids.proofs.proofs_of_maps.Joined.{or_assoc}
+use Rattle.gov_ids.proofs.proofs_of_maps.Kept.{IsMap-with_value, keys_of-each}
+use Rattle.gov_ids.proofs.proofs_of_maps.Lookups.{value_at-with_value}
+use Rattle.gov_ids.proofs.proofs_of_maps.Same.{map_from_value_at}
+use Rattle.gov_ids.proofs.proofs_of_maps.Sets.{IsSet-in_order, has_member-in_order}
+use Rattle.gov_ids.proofs.proofs_of_maps.Ties.{same_key}
+use Rattle.gov_ids.specs.of_maps.Maps.{IsMap, IsSet, value_at, with_value, has_member}
 use Rattle.assets.specs.Balances.{balance_of}
 use Rattle.assets.specs.Quantities.{named_in, quantity_of}
 use Rattle.assets.proofs.Quantities.{quantity_of-append, quantity_of-cons, quantity_of-one}

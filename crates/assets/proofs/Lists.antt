@@ -5,7 +5,7 @@ use Rattle.std.specs.declared.cmp.Ordering.TheVariants.{Less, Equal, Greater}
 use Rattle.std.specs.Ordering.{match_ordering}
 use Rattle.std.specs.List.{list_all}
 use Rattle.std.proofs.lemmas.Bool.{and_from, and_parts}
-use Rattle.maps.specs.Maps.{with_value, with_values}
+use Rattle.gov_ids.specs.of_maps.Maps.{with_value, with_values}
 
 module _ {K X : Type 0} (cmp : K → K → Ordering) (p : X → Bool) where
   all-with_value : (k : K) (v : X) (es : List (K × X)) → p v ≡ true → list_all (λ e. p e.1) es ≡ true → list_all (λ e. p e.1) (with_value cmp k v es) ≡ true

@@ -7,11 +7,11 @@ use Rattle.gov_ids.specs.Orders.{asset_cmp}
 use Rattle.gov_ids.specs.Same.{same_asset}
 use Rattle.gov_ids.proofs.Exacts.{asset_exact}
 use Rattle.gov_ids.proofs.Totals.{asset_total}
-use Rattle.maps.proofs.Kept.{IsMap-with_value, IsMap-without_key}
-use Rattle.maps.proofs.Lookups.{value_at-with_value, value_at-without_key}
-use Rattle.maps.proofs.Placed.{value_at_tied}
-use Rattle.maps.proofs.Same.{map_from_value_at}
-use Rattle.maps.specs.Maps.{IsMap, value_at, with_value, without_key}
+use Rattle.gov_ids.proofs.proofs_of_maps.Kept.{IsMap-with_value, IsMap-without_key}
+use Rattle.gov_ids.proofs.proofs_of_maps.Lookups.{value_at-with_value, value_at-without_key}
+use Rattle.gov_ids.proofs.proofs_of_maps.Placed.{value_at_tied}
+use Rattle.gov_ids.proofs.proofs_of_maps.Same.{map_from_value_at}
+use Rattle.gov_ids.specs.of_maps.Maps.{IsMap, value_at, with_value, without_key}
 use Rattle.assets.specs.Quantities.{quantity_of}
 use Rattle.assets.specs.Totals.{AreTotals, total_at}
 use Rattle.assets.proofs.Quantities.{quantity_of-one}

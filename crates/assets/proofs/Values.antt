@@ -5,7 +5,7 @@ use Rattle.std.specs.declared.cmp.Ordering.TheVariants.{Less, Equal, Greater}
 use Rattle.std.specs.Ordering.{eq_by_cmp, match_ordering}
 use Rattle.std.specs.List.{AllByRecursion}
 use Rattle.std.specs.Option.{SomeIff}
-use Rattle.maps.specs.Maps.{value_at, with_value, without_key}
+use Rattle.gov_ids.specs.of_maps.Maps.{value_at, with_value, without_key}
 
 module _ {K X : Type 0} (cmp : K → K → Ordering) (P : X → Type 0) where
   pub all-with_value : (k : K) (v : X) (es : List (K × X)) → P v → AllByRecursion (λ e. P e.1) es → AllByRecursion (λ e. P e.1) (with_value cmp k v es)

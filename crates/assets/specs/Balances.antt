@@ -1,7 +1,7 @@
 -- What is taken and given of each asset. (The preservation of value of the formal specification)
 use Rattle.std.specs.Prelude.{ℕ, ◌==◌, Bool, not, List, ◌++◌, Option, find, map}
 use Rattle.gov_ids.specs.declared.assets.AssetId.{AssetId}
-use Rattle.maps.specs.Words.{with_places}
+use Rattle.gov_ids.specs.of_maps.Words.{with_places}
 use Rattle.assets.specs.Quantities.{named_in, quantity_of}
 
 -- each asset that is taken or given, in order, with how much is taken and how much is given of it

@@ -5,7 +5,7 @@ use Rattle.std.specs.Map.{keys_of}
 use Rattle.gov_ids.specs.declared.assets.AssetId.{AssetId}
 use Rattle.gov_ids.specs.Orders.{asset_cmp}
 use Rattle.gov_ids.specs.Same.{same_asset}
-use Rattle.maps.specs.Maps.{in_order}
+use Rattle.gov_ids.specs.of_maps.Maps.{in_order}
 
 -- what an output may hold of an asset: at least 1, in 64 bits (own)
 abbrev pub is_held : ℕ → Bool

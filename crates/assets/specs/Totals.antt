@@ -3,7 +3,7 @@ use Rattle.std.specs.Prelude.{ℕ, ◌≤◌, List, unwrap_or}
 use Rattle.std.specs.List.{AllByRecursion}
 use Rattle.gov_ids.specs.declared.assets.AssetId.{AssetId}
 use Rattle.gov_ids.specs.Orders.{asset_cmp}
-use Rattle.maps.specs.Maps.{IsMap, value_at}
+use Rattle.gov_ids.specs.of_maps.Maps.{IsMap, value_at}
 
 -- the total of an asset; 0 if the list has none
 abbrev pub total_at : List (AssetId × ℕ) → AssetId → ℕ

@@ -1,12 +1,12 @@
 ghost use Rattle.std.specs.Prelude.{◌≡◌, true, [], IfOk, IsTrue, ◌↔◌};
 ghost use Rattle.std.specs.List.{list_all};
 ghost use Rattle.gov_ids.specs.Orders.{asset_cmp};
-ghost use Rattle.maps.specs.Maps.{IsMap, with_values};
+ghost use Rattle.gov_ids.specs.of_maps.Maps.{IsMap, with_values};
 
 use crate::quantity::Quantity;
 use gov_ids::AssetId;
+use gov_ids::of_no_memory::NoMemory;
 use listed::{Boxed, Listed};
-use no_memory::NoMemory;
 use std::alloc::Global;
 use std::collections::BTreeMap;
 use std::marker::Model;
@@ -30,7 +30,7 @@ impl<Q: Quantity> Model for AssetList<Q> {
     ghost use Rattle.std.specs.List.{list_all};
     ghost use Rattle.gov_ids.specs.declared.assets.AssetId.{AssetId};
     ghost use Rattle.gov_ids.specs.Orders.{asset_cmp};
-    ghost use Rattle.maps.specs.Maps.{IsMap};
+    ghost use Rattle.gov_ids.specs.of_maps.Maps.{IsMap};
 
     ghost Value = { List (AssetId × Q) };
 

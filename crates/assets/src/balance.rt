@@ -3,12 +3,12 @@ ghost use Rattle.assets.specs.Balances.{balance_of, first_uneven};
 ghost use Rattle.assets.specs.Quantities.{all_burned, all_minted};
 ghost use Rattle.gov_ids.specs.declared.assets.AssetId.{AssetId};
 ghost use Rattle.gov_ids.specs.Orders.{asset_cmp};
-ghost use Rattle.maps.specs.Maps.{value_at};
+ghost use Rattle.gov_ids.specs.of_maps.Maps.{value_at};
 
 use crate::Mint;
 use crate::quantity::{burned, minted};
 use gov_ids::AssetId;
-use no_memory::NoMemory;
+use gov_ids::of_no_memory::NoMemory;
 use std::alloc::Global;
 use std::collections::BTreeMap;
 use std::marker::Model;
@@ -27,7 +27,7 @@ impl Model for AssetBalance {
     ghost use Rattle.std.specs.List.{AllByRecursion};
     ghost use Rattle.gov_ids.specs.declared.assets.AssetId.{AssetId};
     ghost use Rattle.gov_ids.specs.Orders.{asset_cmp};
-    ghost use Rattle.maps.specs.Maps.{IsMap};
+    ghost use Rattle.gov_ids.specs.of_maps.Maps.{IsMap};
 
     ghost Value = { List (AssetId × (ℕ × ℕ)) };
 

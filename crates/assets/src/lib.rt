@@ -8,6 +8,7 @@ mod totals;
 
 pub use asset_list::AssetList;
 pub use balance::AssetBalance;
+pub use listed as of_listed;
 pub use quantity::{Quantity, burned, minted};
 pub use totals::AssetTotals;
 

@@ -4,12 +4,12 @@ ghost use Rattle.assets.specs.Quantities.{is_held, quantity_of};
 ghost use Rattle.assets.specs.Totals.{AreTotals, total_at};
 ghost use Rattle.gov_ids.specs.declared.assets.AssetId.{AssetId};
 ghost use Rattle.gov_ids.specs.Orders.{asset_cmp};
-ghost use Rattle.maps.specs.Maps.{IsMap, entry_after};
+ghost use Rattle.gov_ids.specs.of_maps.Maps.{IsMap, entry_after};
 
 use crate::Assets;
 use gov_ids::AssetId;
-use maps::keys_past;
-use no_memory::NoMemory;
+use gov_ids::of_maps::keys_past;
+use gov_ids::of_no_memory::NoMemory;
 use std::alloc::Global;
 use std::collections::BTreeMap;
 use std::marker::Model;

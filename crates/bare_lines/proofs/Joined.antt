@@ -2,7 +2,7 @@
 use Rattle.std.proofs.Common.{◌≡◌, ◌++◌, List, [], ◌∷◌, ap, codes, drop, lit<}
 use Rattle.std.proofs.lemmas.Fmt.{decimal_digit}
 use Rattle.text_forms.specs.Lines.{joined}
-use Rattle.text_model.specs.Words.{Text, line_of, spaced}
+use Rattle.text_forms.specs.of_text_model.Words.{Text, line_of, spaced}
 use Rattle.bare_lines.specs.Bare.{frozen_text}
 
 -- the words, with a space between each two

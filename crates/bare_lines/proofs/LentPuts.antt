@@ -1,7 +1,7 @@
 -- What was handed over through a loan was handed over to whom it borrows.
 use Rattle.std.proofs.Common.{◌≡◌, inl, inr, ℕ, List, [], ◌∷◌, Result, Ok, Err, refl, ap, sym, ◌∙◌, subst}
 use Rattle.byte_lines.specs.declared.sink.SinkFault.{SinkFault}
-use Rattle.text_model.specs.Words.{Text, line_of}
+use Rattle.text_forms.specs.of_text_model.Words.{Text, line_of}
 use Rattle.report.specs.Taking.{HasPut, IsFront, with_lines}
 use Rattle.bare_lines.specs.Lent.{lent, lent_part}
 

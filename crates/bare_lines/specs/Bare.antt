@@ -1,6 +1,6 @@
 -- Lines of the number 0 that are passed on without it. (Own)
 use Rattle.std.specs.Prelude.{◌≡◌, ◌⊎◌, ◌++◌, codes, drop}
-use Rattle.text_model.specs.Words.{Text}
+use Rattle.text_forms.specs.of_text_model.Words.{Text}
 
 -- after a line without its number and the space after it
 abbrev pub bare : {T : Type 0} → (T → Text → T) → T → Text → T

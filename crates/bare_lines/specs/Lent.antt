@@ -1,6 +1,6 @@
 -- A taker of lines that borrows another: the name of that loan, and what the other has. (Own)
 use Rattle.std.specs.Prelude.{◌≡◌, ℕ}
-use Rattle.text_model.specs.Words.{Text}
+use Rattle.text_forms.specs.of_text_model.Words.{Text}
 
 -- after one more line
 abbrev pub lent : {T : Type 0} → (T → Text → T) → ℕ × T → Text → ℕ × T

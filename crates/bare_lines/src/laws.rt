@@ -1,6 +1,6 @@
 ghost use Rattle.std.specs.Prelude.{◌≡◌, ◌++◌, ℕ, List, [], ◌∷◌, codes, drop};
 ghost use Rattle.text_forms.specs.Lines.{joined};
-ghost use Rattle.text_model.specs.Words.{line_of};
+ghost use Rattle.text_forms.specs.of_text_model.Words.{line_of};
 ghost use Rattle.bare_lines.specs.Bare.{frozen_text};
 
 /// A law: a line of the number 0 is passed on as its words with a space between each two, and a

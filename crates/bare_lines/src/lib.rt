@@ -10,3 +10,4 @@ pub use bare::Bare;
 pub use frozen::FrozenLine;
 pub use laws::lines_are_joined;
 pub use puts::{put_bare, put_frozen};
+pub use report as of_report;

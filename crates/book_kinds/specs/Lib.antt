@@ -1,3 +1,4 @@
+pub use Rattle.checkpoint_model.specs as of_checkpoint_model
 pub mod Words
 pub mod Books
 pub mod Outputs

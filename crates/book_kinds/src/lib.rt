@@ -14,5 +14,6 @@ pub use epoch::{ExpiryLines, PoolAccountLines, ProposalIdLines};
 pub use outputs::{AssetLines, OutputLines};
 pub use pools::{NextLines, PoolLines, read_unit};
 pub use stakes::{GoLines, MarkLines, SetLines};
+pub use state_lines as of_state_lines;
 pub use votes::{HotLines, VoteLines};
 pub use words::read_hot_state;

@@ -1,6 +1,6 @@
 -- The vote delegation of an account. (DELEG of the formal specification)
 use Rattle.std.specs.Prelude.{Bool, None}
-use Rattle.maps.specs.Words.{holds}
+use Rattle.gov_ids.specs.of_maps.Words.{holds}
 use Rattle.gov_ids.specs.declared.Credential.{Credential}
 use Rattle.gov_ids.specs.declared.Drep.TheVariants as drep
 use Rattle.gov_ids.specs.Same.{same_drep}

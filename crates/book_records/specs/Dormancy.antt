@@ -4,7 +4,7 @@
 use Rattle.std.specs.Prelude.{ℕ, ◌+◌, ◌^◌, ◌<◌, Bool, List, nat_le}
 use Rattle.std.specs.List.{AllByRecursion}
 use Rattle.std.specs.Map.{values_of}
-use Rattle.maps.specs.Maps.{changed_where}
+use Rattle.gov_ids.specs.of_maps.Maps.{changed_where}
 use Rattle.gov_ids.specs.declared.Credential.{Credential}
 use Rattle.book_records.specs.declared.DrepState.{DrepState}
 

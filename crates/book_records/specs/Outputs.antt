@@ -2,7 +2,7 @@
 use Rattle.std.specs.Prelude.{ℕ, List, filter, flat_map, map, nat_lt}
 use Rattle.std.specs.Map.{values_of}
 use Rattle.assets.specs.Quantities.{named_in, quantity_of}
-use Rattle.maps.specs.Maps.{sum_values}
+use Rattle.gov_ids.specs.of_maps.Maps.{sum_values}
 use Rattle.gov_ids.specs.declared.assets.AssetId.{AssetId}
 use Rattle.gov_ids.specs.declared.OutRef.{OutRef}
 use Rattle.book_records.specs.declared.Output.{Output}

@@ -2,8 +2,8 @@
 -- (POOL and POOLREAP of the formal specification)
 use Rattle.std.specs.Prelude.{ℕ, ◌==◌, Bool, not, ◌&&◌, ◌||◌, List, Option, Some, None, unwrap_or}
 use Rattle.std.specs.List.{list_any}
-use Rattle.maps.specs.Maps.{value_at, with_value, changed_at, each_value, entries_where}
-use Rattle.maps.specs.Words.{holds, some_and}
+use Rattle.gov_ids.specs.of_maps.Maps.{value_at, with_value, changed_at, each_value, entries_where}
+use Rattle.gov_ids.specs.of_maps.Words.{holds, some_and}
 use Rattle.gov_ids.specs.declared.PoolId.{PoolId}
 use Rattle.gov_ids.specs.Orders.{pool_cmp}
 use Rattle.gov_ids.specs.Same.{same_pool}

@@ -3,6 +3,7 @@
 
 mod pool;
 
+pub use assets as of_assets;
 use assets::Assets;
 use gov_ids::{Address, Drep, PoolId};
 pub use pool::{DefaultVote, Pool, PoolTerms};

@@ -24,7 +24,9 @@ use crate::changes::change;
 use crate::rules::check_cert;
 use crate::withdrawals::{check_withdrawals, empty_accounts};
 pub use kinds::is_account_or_pool_cert;
+pub use live_ledger as of_live_ledger;
 use live_ledger::Draft;
+pub use live_ledger::of_draft_changes;
 use rule_checks::{answer_at, as_fault};
 use tx_records::{Cert, Tx, TxFault};
 

@@ -1,2 +1,3 @@
+pub use Rattle.book_records.specs as of_book_records
 pub mod Reaping
 pub mod Keys

@@ -7,7 +7,7 @@ use Rattle.gov_actions.specs.declared.action.Proposal.{Proposal}
 use Rattle.gov_actions.specs.declared.tally.Tally.{Tally}
 use Rattle.gov_model.specs.Ratified.{order_of, ratified_of, tallies_of}
 use Rattle.gov_model.specs.Snapshot.{Snapshot}
-use Rattle.run_model.specs.Report.{stakes_of}
+use Rattle.text_model.specs.of_run_model.Report.{stakes_of}
 use Rattle.text_forms.specs.Lines.{text_of_bare}
 use Rattle.text_forms.specs.Snapshots.{action_words, expiry_words, pool_account_words}
 use Rattle.text_model.specs.ActionWords.{kind_text, verdict_text}

@@ -9,9 +9,9 @@ use Rattle.tx_records.specs.declared.record.Record.{Record}
 use Rattle.tx_records.specs.declared.record.Record.TheVariants as records
 use Rattle.tx_records.specs.declared.reply.Rule.{Rule}
 use Rattle.gov_model.specs.Snapshot.{Snapshot}
-use Rattle.run_model.specs.Genesis.{genesis_fault, world_of_genesis}
-use Rattle.run_model.specs.Step.{enters_next, refusal_of}
-use Rattle.run_model.specs.World.{World}
+use Rattle.text_model.specs.of_run_model.Genesis.{genesis_fault, world_of_genesis}
+use Rattle.text_model.specs.of_run_model.Step.{enters_next, refusal_of}
+use Rattle.text_model.specs.of_run_model.World.{World}
 use Rattle.text_forms.specs.Lines.{joined_lines}
 use Rattle.text_model.specs.Runs.{world_after_reading}
 use Rattle.text_model.specs.Words.{Text, line_of}

@@ -5,7 +5,7 @@ use Rattle.gov_model.specs.Proposals.{deposits_of}
 use Rattle.gov_model.specs.Snapshot.{Snapshot}
 use Rattle.coin_frac.specs.declared.TheConstants.{SUPPLY_LIMIT}
 use Rattle.tx_records.specs.Limits.{is_slot}
-use Rattle.run_model.specs.SoundWorld.{held_by}
+use Rattle.text_model.specs.of_run_model.SoundWorld.{held_by}
 use Rattle.text_forms.specs.Lines.{are_short_lines}
 use Rattle.text_forms.specs.Snapshots.{is_snapshot}
 use Rattle.certificate_model.specs.Certificate.{certificate_lines}

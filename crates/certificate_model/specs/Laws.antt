@@ -8,8 +8,8 @@ use Rattle.gov_actions.specs.Voting.{is_abstain, is_yes}
 use Rattle.gov_model.specs.Ratified.{IsRatified, ratified_of}
 use Rattle.gov_model.specs.Sides.{vote_count}
 use Rattle.gov_model.specs.Snapshot.{Snapshot}
-use Rattle.run_model.specs.Runs.{IsReached}
-use Rattle.run_model.specs.World.{World}
+use Rattle.text_model.specs.of_run_model.Runs.{IsReached}
+use Rattle.text_model.specs.of_run_model.World.{World}
 use Rattle.text_forms.specs.Lines.{are_short_lines, joined_lines}
 use Rattle.text_forms.specs.Snapshots.{is_snapshot}
 use Rattle.certificate_model.specs.Certificate.{certificate_lines}

@@ -3,12 +3,12 @@ use Rattle.std.specs.Prelude.{ℕ, List, [], ◌∷◌, ◌++◌, codes, decimal
 use Rattle.gov_ids.specs.declared.TxId.{TxId}
 use Rattle.gov_ids.specs.Spelling.{action_id_text, hash_text}
 use Rattle.gov_actions.specs.declared.action.Proposal.{Proposal}
-use Rattle.gov_model.specs.Snapshot.{Snapshot}
-use Rattle.run_model.specs.World.{World}
+use Rattle.text_forms.specs.of_gov_model.Snapshot.{Snapshot}
+use Rattle.text_forms.specs.of_run_model.World.{World}
 use Rattle.text_forms.specs.Lines.{text_of_bare}
 use Rattle.text_forms.specs.Snapshots.{action_words, expiry_words, pool_account_words}
-use Rattle.text_model.specs.StateLines.{account_words, hot_words, state_lines, vote_words}
-use Rattle.text_model.specs.Words.{Text}
+use Rattle.text_forms.specs.of_text_model.StateLines.{account_words, hot_words, state_lines, vote_words}
+use Rattle.text_forms.specs.of_text_model.Words.{Text}
 
 -- the first line: version of the text, number of the last line read, constants, and the count
 abbrev pub checkpoint_words : World → ℕ → List Text

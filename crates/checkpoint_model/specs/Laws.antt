@@ -8,13 +8,13 @@ use Rattle.tx_records.specs.declared.record.Reading.{Reading}
 use Rattle.tx_records.specs.declared.record.Record.{Record}
 use Rattle.tx_records.specs.declared.record.Record.TheVariants as records
 use Rattle.tx_records.specs.Limits.{is_u64}
-use Rattle.run_model.specs.Runs.{IsReached}
-use Rattle.run_model.specs.SoundWorld.{IsSoundWorld}
-use Rattle.run_model.specs.World.{World}
+use Rattle.text_forms.specs.of_run_model.Runs.{IsReached}
+use Rattle.text_forms.specs.of_run_model.SoundWorld.{IsSoundWorld}
+use Rattle.text_forms.specs.of_run_model.World.{World}
 use Rattle.text_forms.specs.Lines.{are_short_lines}
 use Rattle.text_forms.specs.Snapshots.{action_words}
 use Rattle.text_forms.specs.Worlds.{world_of_readings}
-use Rattle.text_model.specs.Runs.{text_of_readings}
+use Rattle.text_forms.specs.of_text_model.Runs.{text_of_readings}
 use Rattle.checkpoint_model.specs.Checkpoint.{checkpoint_lines}
 use Rattle.checkpoint_model.specs.Resumable.{IsResumable, has_form, holds_supply, is_counted_entry, is_timed}
 use Rattle.checkpoint_model.specs.Resumed.{text_of_resume}

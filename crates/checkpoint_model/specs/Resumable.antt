@@ -15,18 +15,18 @@ use Rattle.book_records.specs.declared.Output.{Output}
 use Rattle.book_records.specs.declared.Registered.{Registered}
 use Rattle.gov_ids.specs.declared.OutRef.{OutRef}
 use Rattle.gov_actions.specs.declared.action.Proposal.{Proposal}
-use Rattle.gov_model.specs.Lineage.{may_follow}
-use Rattle.gov_model.specs.Proposals.{deposits_of}
-use Rattle.gov_model.specs.Ratified.{ids_of, is_one_of}
-use Rattle.gov_model.specs.Snapshot.{entry_count}
+use Rattle.text_forms.specs.of_gov_model.Lineage.{may_follow}
+use Rattle.text_forms.specs.of_gov_model.Proposals.{deposits_of}
+use Rattle.text_forms.specs.of_gov_model.Ratified.{ids_of, is_one_of}
+use Rattle.text_forms.specs.of_gov_model.Snapshot.{entry_count}
 use Rattle.coin_frac.specs.declared.TheConstants.{SUPPLY_LIMIT}
 use Rattle.tx_records.specs.declared.record.Rewards.{Rewards}
 use Rattle.tx_records.specs.Limits.{is_network, is_slot, is_u32, is_u64}
-use Rattle.ledger_model.specs.Ledger.{Ledger, is_drep, is_pool}
-use Rattle.ledger_model.specs.Supply.{supply_of}
-use Rattle.run_model.specs.SoundWorld.{held_by}
-use Rattle.run_model.specs.Step.{rewards_in, rewards_out}
-use Rattle.run_model.specs.World.{World}
+use Rattle.text_forms.specs.of_ledger_model.Ledger.{Ledger, is_drep, is_pool}
+use Rattle.text_forms.specs.of_ledger_model.Supply.{supply_of}
+use Rattle.text_forms.specs.of_run_model.SoundWorld.{held_by}
+use Rattle.text_forms.specs.of_run_model.Step.{rewards_in, rewards_out}
+use Rattle.text_forms.specs.of_run_model.World.{World}
 use Rattle.text_forms.specs.Actions.{are_proposals}
 use Rattle.text_forms.specs.Books as books
 use Rattle.text_forms.specs.Ids.{is_map, is_rising, is_tx_id}

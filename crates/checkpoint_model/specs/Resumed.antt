@@ -1,11 +1,11 @@
 -- The output of the commands for checkpoints, and when a text is no checkpoint. (Own)
 use Rattle.std.specs.Prelude.{◌≡◌, ℕ, ◌^◌, ◌≤◌, List, Option, option_map}
 use Rattle.tx_records.specs.declared.record.Reading.{Reading}
-use Rattle.run_model.specs.World.{World}
+use Rattle.text_forms.specs.of_run_model.World.{World}
 use Rattle.text_forms.specs.Lines.{joined_lines}
 use Rattle.text_forms.specs.Worlds.{world_of_readings}
-use Rattle.text_model.specs.Runs.{text_from}
-use Rattle.text_model.specs.Words.{Text}
+use Rattle.text_forms.specs.of_text_model.Runs.{text_from}
+use Rattle.text_forms.specs.of_text_model.Words.{Text}
 use Rattle.checkpoint_model.specs.Checkpoint.{checkpoint_lines, checkpoint_text}
 use Rattle.checkpoint_model.specs.Resumable.{IsResumable}
 

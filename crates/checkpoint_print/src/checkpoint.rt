@@ -15,9 +15,9 @@ use crate::live::put_live;
 use bare_lines::{Bare, put_bare};
 use byte_lines::SinkFault;
 use drep_pulser::Pulser;
-use ledger_state::LedgerState;
 use no_memory::NoMemory;
 use report::{LineTaker, put_one};
+use state_view::of_ledger_state::LedgerState;
 use state_view::put_state;
 use std::alloc::Global;
 

@@ -16,9 +16,9 @@ use crate::line::CheckpointLine;
 use accounts::AccountBook;
 use bare_lines::FrozenLine;
 use byte_lines::SinkFault;
-use ledger_state::LedgerState;
 use report::{LineTaker, put_one};
 use snapshots::Frozen;
+use state_view::of_ledger_state::LedgerState;
 
 /// Hands over the frozen treasury, entries and DReps.
 fn put_stakes<T: LineTaker>(

@@ -12,3 +12,4 @@ mod live;
 mod source;
 
 pub use checkpoint::{put_checkpoint, write};
+pub use state_view as of_state_view;

@@ -8,9 +8,9 @@ use crate::line::CheckpointLine;
 use crate::source::{LineSource, put_left};
 use byte_lines::SinkFault;
 use gov_ids::TxId;
-use ledger_state::LedgerState;
 use proposal_store::ProposalStore;
 use report::LineTaker;
+use state_view::of_ledger_state::LedgerState;
 use utxo_set::UtxoSet;
 
 /// The used ids after one, or all of them.

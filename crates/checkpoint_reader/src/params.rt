@@ -2,12 +2,12 @@
 
 use action_kinds::ActionLines;
 use byte_lines::LineFault;
+use checkpoint_lists::of_named_kinds::NamedLines;
 use gov_actions::Action;
 use gov_ids::ActionId;
 use line_giver::LineGiver;
 use line_kinds::LineReader;
 use line_parts::Part;
-use named_kinds::NamedLines;
 use no_memory::NoMemory;
 use param_kinds::read_params;
 use pparams::Params;

@@ -10,6 +10,7 @@ ghost use Rattle.run_model.specs.World.{World};
 
 use crate::params::{ParamsPart, ProposedActions};
 use byte_lines::LineFault;
+use checkpoint_lists::of_named_kinds::One;
 use checkpoint_lists::{
     AmountLines, Amounts, BookLines, Books, FrozenLines, FrozenRows, Governance, GovernanceLines,
     StakeLines, Stakes, shown_are_of_worlds,
@@ -19,7 +20,6 @@ use gov_ids::ActionId;
 use line_giver::LineGiver;
 use line_parts::{As, GroupOf, Many, Part, Then};
 use listed::Listed;
-use named_kinds::One;
 use pparams::Params;
 use std::alloc::Global;
 

@@ -3,4 +3,5 @@
 
 mod laws;
 
+pub use further_laws as of_further_laws;
 pub use laws::claims_are_short;

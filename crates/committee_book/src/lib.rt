@@ -14,6 +14,7 @@ ghost use Rattle.committee_book.specs.Holders.{AreHeld, IsIndexed, entries_besid
 
 mod holders;
 
+pub use gov_actions as of_gov_actions;
 use gov_actions::{Committee, HotState};
 use gov_ids::Credential;
 use holders::{Holders, is_hot_key};

@@ -2,7 +2,7 @@
 use Rattle.std.specs.Prelude.{◌≡◌, List}
 use Rattle.gov_ids.specs.declared.Credential.{Credential}
 use Rattle.gov_ids.specs.Orders.{credential_cmp}
-use Rattle.maps.specs.Maps.{has_member}
+use Rattle.gov_ids.specs.of_maps.Maps.{has_member}
 
 -- a credential is in the set if and only if it is among the items
 abbrev pub HasAll : List Credential → List Credential → Type 0

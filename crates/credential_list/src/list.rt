@@ -1,10 +1,10 @@
 ghost use Rattle.std.specs.Prelude.{◌≡◌, [], IsTrue, ◌↔◌, IfOk, length};
 ghost use Rattle.gov_ids.specs.Same.{same_credential};
-ghost use Rattle.maps.specs.Words.{among};
+ghost use Rattle.gov_ids.specs.of_maps.Words.{among};
 
 use gov_ids::Credential;
-use maps::set_of;
-use no_memory::NoMemory;
+use gov_ids::of_maps::set_of;
+use gov_ids::of_no_memory::NoMemory;
 use std::alloc::Global;
 use std::collections::BTreeSet;
 use std::marker::Model;

@@ -20,16 +20,16 @@ use Rattle.gov_ids.proofs.Totals.{credential_total}
 use Rattle.pparams.specs.declared.Params.{Params}
 use Rattle.pparams.specs.declared.Update.{Update}
 use Rattle.pparams.specs.Overlay.{laid_over}
-use Rattle.book_records.specs.declared.DrepState.{DrepState}
-use Rattle.gov_actions.specs.declared.action.Action.{Action}
-use Rattle.gov_actions.specs.declared.action.Action.TheVariants.{NoConfidence, UpdateCommittee, NewConstitution, HardForkInitiation, ParameterChange, TreasuryWithdrawals, Info}
-use Rattle.gov_actions.specs.declared.action.Proposal.{Proposal}
-use Rattle.gov_actions.specs.declared.state.LastIds.{LastIds}
-use Rattle.gov_actions.specs.Kinds.{priority_of}
-use Rattle.gov_model.specs.Enacted.{enacted_after, update_of}
-use Rattle.gov_model.specs.Kept.{kept_of}
-use Rattle.gov_model.specs.Ratified.{is_one_of, order_of, ratified_of}
-use Rattle.gov_model.specs.Snapshot.{Snapshot}
+use Rattle.run_model.specs.of_book_records.declared.DrepState.{DrepState}
+use Rattle.tx_records.specs.of_gov_actions.declared.action.Action.{Action}
+use Rattle.tx_records.specs.of_gov_actions.declared.action.Action.TheVariants.{NoConfidence, UpdateCommittee, NewConstitution, HardForkInitiation, ParameterChange, TreasuryWithdrawals, Info}
+use Rattle.tx_records.specs.of_gov_actions.declared.action.Proposal.{Proposal}
+use Rattle.tx_records.specs.of_gov_actions.declared.state.LastIds.{LastIds}
+use Rattle.tx_records.specs.of_gov_actions.Kinds.{priority_of}
+use Rattle.run_model.specs.of_gov_model.Enacted.{enacted_after, update_of}
+use Rattle.run_model.specs.of_gov_model.Kept.{kept_of}
+use Rattle.run_model.specs.of_gov_model.Ratified.{is_one_of, order_of, ratified_of}
+use Rattle.run_model.specs.of_gov_model.Snapshot.{Snapshot}
 use Rattle.tx_records.proofs.Parts.{genesis_parts, tx_parts}
 use Rattle.tx_records.specs.declared.cert.Cert.{Cert}
 use Rattle.tx_records.specs.declared.cert.Cert.TheVariants.{AccountReg, AccountUnreg, Delegate, PoolReg, PoolRetire, DrepReg, DrepUnreg, DrepUpdate, HotAuth, HotResign}
@@ -42,12 +42,12 @@ use Rattle.tx_records.specs.declared.tx.ProposalRecord.{ProposalRecord}
 use Rattle.tx_records.specs.declared.tx.Scripts.{Scripts}
 use Rattle.tx_records.specs.declared.tx.Scripts.TheVariants.{Absent, Passed, Failed}
 use Rattle.tx_records.specs.declared.tx.Tx.{Tx}
-use Rattle.ledger_model.specs.Ledger.{Ledger, params_of}
-use Rattle.book_records.specs.Dormancy.{is_kept_active, extended}
-use Rattle.gov_model.specs.Proposals.{without_vote}
-use Rattle.ledger_model.specs.Changes.{changed_by, dormant_added, fresh_expiry, has_voted, having_acted, new_drep, refreshed, voters_refreshed, withdrawn}
-use Rattle.ledger_model.specs.Draft.{draft_with, is_refused, last_draft}
-use Rattle.ledger_model.specs.Transaction.{after_passed, after_scripts, last_voting_epoch, ledger_after_tx, made_proposal, made_proposals, with_votes}
+use Rattle.run_model.specs.of_ledger_model.Ledger.{Ledger, params_of}
+use Rattle.run_model.specs.of_book_records.Dormancy.{is_kept_active, extended}
+use Rattle.run_model.specs.of_gov_model.Proposals.{without_vote}
+use Rattle.run_model.specs.of_ledger_model.Changes.{changed_by, dormant_added, fresh_expiry, has_voted, having_acted, new_drep, refreshed, voters_refreshed, withdrawn}
+use Rattle.run_model.specs.of_ledger_model.Draft.{draft_with, is_refused, last_draft}
+use Rattle.run_model.specs.of_ledger_model.Transaction.{after_passed, after_scripts, last_voting_epoch, ledger_after_tx, made_proposal, made_proposals, with_votes}
 use Rattle.run_model.specs.World.{World}
 use Rattle.run_model.specs.Boundary.{after_members, after_rewards, update_applied, world_after_boundary}
 use Rattle.run_model.specs.Genesis.{ledger_of_genesis, world_of_genesis}

@@ -3,8 +3,8 @@ use Rattle.std.proofs.Common.{◌≡◌, List, [], ◌∷◌, Option, map, refl,
 use Rattle.gov_actions.specs.declared.action.Proposal.{Proposal}
 use Rattle.gov_ids.specs.declared.Credential.{Credential}
 use Rattle.book_records.specs.declared.Registered.{Registered}
-use Rattle.proposal_store.specs.Leaving.{without_votes_of}
-use Rattle.proposal_store.proofs.Leavers.{leave_done}
+use Rattle.ledger_books.specs.of_proposal_store.Leaving.{without_votes_of}
+use Rattle.ledger_books.proofs.proofs_of_proposal_store.Leavers.{leave_done}
 use Rattle.stake_book.specs.Stakes.{without_dreps}
 use Rattle.draft_changes.specs.Changed.{with_registrations}
 

@@ -6,10 +6,10 @@ use Rattle.gov_ids.proofs.Exacts.{credential_exact}
 use Rattle.gov_ids.proofs.Totals.{credential_total}
 use Rattle.gov_actions.specs.declared.state.HotState.{HotState}
 use Rattle.gov_actions.specs.declared.state.Committee.{Committee}
-use Rattle.gov_model.specs.Hot.{is_hot_key, is_member, is_named, of_members}
-use Rattle.committee_book.specs.Counts.{count_of}
-use Rattle.committee_book.specs.Holders.{entries_beside}
-use Rattle.committee_book.proofs.Seating.{any_where}
+use Rattle.ledger_books.specs.of_gov_model.Hot.{is_hot_key, is_member, is_named, of_members}
+use Rattle.ledger_books.specs.of_committee_book.Counts.{count_of}
+use Rattle.ledger_books.specs.of_committee_book.Holders.{entries_beside}
+use Rattle.ledger_books.proofs.proofs_of_committee_book.Seating.{any_where}
 use Rattle.maps.proofs.Retained.{entries_where_all}
 use Rattle.maps.specs.Maps.{IsMap, has_key, with_values}
 use Rattle.draft_changes.specs.ChangedHot.{covered_by}

@@ -20,7 +20,7 @@ use Rattle.gov_ids.proofs.Totals.{credential_total}
 use Rattle.book_records.specs.declared.Registered.{Registered}
 use Rattle.book_records.specs.Outputs.{lovelace_in}
 use Rattle.stake_book.specs.Stakes.{HasRoom, Stakes, accounts_of, balances_in}
-use Rattle.utxo_set.specs.Utxos.{Utxos}
+use Rattle.stake_book.specs.of_utxo_set.Utxos.{Utxos}
 use Rattle.coin_frac.specs.declared.TheConstants.{SUPPLY_LIMIT}
 use Rattle.view_map.specs.View.{frozen_of}
 use Rattle.draft_changes.specs.Balances.{KeepsOutputs, NoneRises, balance_in}

@@ -20,7 +20,7 @@ use Rattle.maps.proofs.Several.{value_at-with_values_other}
 use Rattle.maps.specs.Maps.{IsMap, has_key, has_member, value_at}
 use Rattle.maps.specs.Replaced.{with_option}
 use Rattle.maps.specs.Words.{some_and}
-use Rattle.proposal_store.specs.Leaving.{is_drep_among}
+use Rattle.ledger_books.specs.of_proposal_store.Leaving.{is_drep_among}
 use Rattle.stake_book.specs.Stakes.{delegates_to_dreps, without_dreps}
 use Rattle.draft_changes.specs.Changed.{dormant_by, dreps_by}
 use Rattle.draft_changes.specs.Names.{LaidOverChangesNames, LeavingKeepsOtherVotes}

@@ -10,7 +10,7 @@ use Rattle.std.specs.List.Sorted.{IsStrictlySortedBy}
 use Rattle.std.specs.Map.{keys_of}
 use Rattle.std.proofs.lemmas.Bool.{lt-ltb, ltb-true, ltb_from_iff}
 use Rattle.std.proofs.lemmas.Cmp.{eq_by_cmp_equiv}
-use Rattle.committee_book.proofs.Seating.{any_where}
+use Rattle.ledger_books.proofs.proofs_of_committee_book.Seating.{any_where}
 use Rattle.maps.proofs.Joined.{or_swap, or_swap_assoc}
 use Rattle.maps.proofs.Kept.{IsMap-with_value}
 use Rattle.maps.proofs.Lookups.{none_below}

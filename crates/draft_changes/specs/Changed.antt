@@ -11,8 +11,8 @@ use Rattle.book_records.specs.declared.Registered.{Registered}
 use Rattle.book_records.specs.declared.pool.Pool.{Pool}
 use Rattle.book_records.specs.Dormancy.{with_dormant_added}
 use Rattle.gov_actions.specs.declared.state.HotState.{HotState}
-use Rattle.ledger_model.specs.Ledger.{Ledger}
-use Rattle.proposal_store.specs.Leaving.{without_votes_of}
+use Rattle.ledger_books.specs.of_ledger_model.Ledger.{Ledger}
+use Rattle.ledger_books.specs.of_proposal_store.Leaving.{without_votes_of}
 use Rattle.stake_book.specs.Stakes.{without_dreps}
 
 -- what a draft changed

@@ -8,7 +8,7 @@ use Rattle.gov_ids.specs.declared.Credential.{Credential}
 use Rattle.gov_ids.specs.Orders.{credential_cmp}
 use Rattle.book_records.specs.declared.DrepState.{DrepState}
 use Rattle.book_records.specs.Dormancy.{extended, is_kept_active}
-use Rattle.drep_book.specs.Dreps.{Dreps}
+use Rattle.ledger_books.specs.of_drep_book.Dreps.{Dreps}
 use Rattle.draft_changes.specs.Changed.{dormant_by, dreps_by, with_dreps}
 
 -- the changed DReps, none if one left, and whether the dormant epochs were added to those before

@@ -1,3 +1,4 @@
+pub use Rattle.ledger_books.specs as of_ledger_books
 pub mod Changed
 pub mod ChangedAccounts
 pub mod ChangedDreps

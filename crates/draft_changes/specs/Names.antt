@@ -8,8 +8,8 @@ use Rattle.gov_ids.specs.declared.Credential.{Credential}
 use Rattle.gov_ids.specs.declared.Voter.{Voter}
 use Rattle.gov_ids.specs.Orders.{credential_cmp, pool_cmp, voter_cmp}
 use Rattle.gov_actions.specs.declared.action.Proposal.{Proposal}
-use Rattle.ledger_model.specs.Ledger.{Ledger}
-use Rattle.proposal_store.specs.Leaving.{is_drep_among, without_votes_of}
+use Rattle.ledger_books.specs.of_ledger_model.Ledger.{Ledger}
+use Rattle.ledger_books.specs.of_proposal_store.Leaving.{is_drep_among, without_votes_of}
 use Rattle.stake_book.specs.Stakes.{delegates_to_dreps}
 use Rattle.draft_changes.specs.declared.changed_names.ChangedNames.{ChangedNames}
 use Rattle.draft_changes.specs.Changed.{Changed, laid_over}

@@ -7,7 +7,7 @@ ghost use Rattle.draft_changes.specs.ChangedDreps.{laid_over};
 ghost use Rattle.draft_changes.specs.ChangedParts.{changed_of};
 ghost use Rattle.draft_changes.specs.Names.{AreInOrder, names_of};
 ghost use Rattle.maps.specs.Maps.{IsMap, with_values};
-ghost use Rattle.proposal_store.specs.Leaving.{without_votes_of};
+ghost use Rattle.ledger_books.specs.of_proposal_store.Leaving.{without_votes_of};
 ghost use Rattle.stake_book.specs.Stakes.{HasRoom, accounts_of, without_dreps};
 
 use crate::account_changes::AccountChanges;
@@ -18,8 +18,8 @@ use crate::pool_changes::PoolChanges;
 use crate::voters::VoterChanges;
 use coin_frac::NoMemory;
 use ledger_books::Books;
+use ledger_books::of_proposal_store::ProposalStore;
 use listed::Listed;
-use proposal_store::ProposalStore;
 use stake_book::StakeBook;
 use std::alloc::Global;
 use std::marker::Model;

@@ -2,15 +2,15 @@ ghost use Rattle.std.specs.Prelude.{◌≡◌, IfOk, OnOk, OnErr, option_map};
 ghost use Rattle.std.specs.List.{list_any};
 ghost use Rattle.std.specs.Map.{keys_of};
 ghost use Rattle.gov_ids.specs.Orders.{credential_cmp};
-ghost use Rattle.gov_model.specs.Hot.{is_hot_key, is_named, of_members};
+ghost use Rattle.ledger_books.specs.of_gov_model.Hot.{is_hot_key, is_named, of_members};
 ghost use Rattle.draft_changes.specs.ChangedHot.{IsOver, none_changed};
 ghost use Rattle.maps.specs.Maps.{IsMap, value_at, with_value, with_values};
 ghost use Rattle.maps.specs.Words.{some_and};
 
 use coin_frac::NoMemory;
-use committee_book::HotBook;
 use gov_actions::{Committee, HotState};
 use gov_ids::Credential;
+use ledger_books::of_committee_book::HotBook;
 use std::alloc::Global;
 use std::marker::Model;
 use std::mem;

@@ -16,4 +16,6 @@ pub use changes::Changes;
 pub use drep_changes::DrepChanges;
 pub use hot_changes::HotChanges;
 pub use laws::{laid_over_changes_names, leaving_keeps_other_votes};
+pub use ledger_books as of_ledger_books;
+pub use ledger_books::of_snapshots;
 pub use pool_changes::PoolChanges;

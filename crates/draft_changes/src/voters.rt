@@ -9,8 +9,8 @@ use crate::hot_changes::HotChanges;
 use crate::pool_changes::PoolChanges;
 use cert_pool::PoolBook;
 use coin_frac::NoMemory;
-use committee_book::HotBook;
-use drep_book::DrepBook;
+use ledger_books::of_committee_book::HotBook;
+use ledger_books::of_drep_book::DrepBook;
 use std::alloc::Global;
 
 /// The changes of a draft to all who can vote.

@@ -10,8 +10,8 @@ ghost use Rattle.drep_book.specs.Dreps.{Dreps};
 
 pub use book_records::DrepState;
 use gov_ids::Credential;
+use gov_ids::of_no_memory::NoMemory;
 use maps::keys_past;
-use no_memory::NoMemory;
 use std::alloc::Global;
 use std::collections::BTreeMap;
 use std::marker::Model;

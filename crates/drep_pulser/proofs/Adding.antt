@@ -20,7 +20,7 @@ use Rattle.maps.proofs.Kept.{IsMap-filter}
 use Rattle.maps.proofs.Ties.{all_above}
 use Rattle.maps.specs.Maps.{IsMap, comes_past, has_key}
 use Rattle.maps.specs.Words.{holds}
-use Rattle.gov_model.specs.Stake.{votes_by}
+use Rattle.snapshots.specs.of_gov_model.Stake.{votes_by}
 use Rattle.view_map.specs.Walk.{entries_past}
 use Rattle.drep_pulser.specs.Count.{Count, sum_for}
 use Rattle.drep_pulser.specs.Facts.{AreSums, IsCountable, weight_by}

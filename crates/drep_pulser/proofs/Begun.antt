@@ -13,8 +13,8 @@ use Rattle.maps.proofs.Joined.{zero_either}
 use Rattle.maps.proofs.Lookups.{value_at-with_value}
 use Rattle.maps.proofs.Several.{has_key-with_values}
 use Rattle.maps.specs.Maps.{value_at, has_key, has_member, with_value, with_values}
-use Rattle.gov_model.specs.Snapshot.{Snapshot}
-use Rattle.gov_model.specs.Stake.{is_frozen_drep}
+use Rattle.snapshots.specs.of_gov_model.Snapshot.{Snapshot}
+use Rattle.snapshots.specs.of_gov_model.Stake.{is_frozen_drep}
 use Rattle.drep_pulser.specs.Count.{Count, sum_for, no_sums}
 use Rattle.drep_pulser.specs.Facts.{AreDeposits, AreDreps, IsCountable, IsCountIn, IsCountOf}
 

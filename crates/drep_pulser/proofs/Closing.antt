@@ -14,8 +14,8 @@ use Rattle.book_records.specs.declared.Registered.{Registered}
 use Rattle.maps.proofs.Joined.{at_most, summed}
 use Rattle.maps.specs.Maps.{has_key}
 use Rattle.maps.specs.Words.{amount}
-use Rattle.gov_model.specs.Snapshot.{Snapshot}
-use Rattle.gov_model.specs.Stake.{votes_by, weight_of}
+use Rattle.snapshots.specs.of_gov_model.Snapshot.{Snapshot}
+use Rattle.snapshots.specs.of_gov_model.Stake.{votes_by, weight_of}
 use Rattle.view_map.specs.Walk.{entries_past}
 use Rattle.drep_pulser.specs.Count.{Count, Ended, sum_for}
 use Rattle.drep_pulser.specs.Facts.{IsCountIn, IsCountOf, IsCountedOf, weight_by}

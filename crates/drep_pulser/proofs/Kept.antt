@@ -13,8 +13,8 @@ use Rattle.book_records.specs.declared.Registered.{Registered}
 use Rattle.maps.proofs.Lookups.{value_at-changed_at}
 use Rattle.maps.specs.Maps.{changed_at, value_at, has_key}
 use Rattle.maps.specs.Words.{amount, holds, some_and}
-use Rattle.gov_model.specs.Snapshot.{Snapshot}
-use Rattle.gov_model.specs.Stake.{votes_by}
+use Rattle.snapshots.specs.of_gov_model.Snapshot.{Snapshot}
+use Rattle.snapshots.specs.of_gov_model.Stake.{votes_by}
 use Rattle.drep_pulser.specs.Count.{Count, sum_for}
 use Rattle.drep_pulser.specs.Facts.{cursor_at, weight_by, AreSums, IsCountIn, IsCountOf}
 use Rattle.drep_pulser.specs.Parts.{no_part}

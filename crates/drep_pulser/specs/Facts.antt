@@ -13,8 +13,8 @@ use Rattle.drep_book.specs.Dreps.{Dreps}
 use Rattle.view_map.specs.View.{frozen_of}
 use Rattle.maps.specs.Maps.{IsMap, has_key, value_at}
 use Rattle.maps.specs.Words.{amount}
-use Rattle.gov_model.specs.Snapshot.{Snapshot, entry_count}
-use Rattle.gov_model.specs.Stake.{deposits_to, drep_stake, is_frozen_drep, votes_by}
+use Rattle.snapshots.specs.of_gov_model.Snapshot.{Snapshot, entry_count}
+use Rattle.snapshots.specs.of_gov_model.Stake.{deposits_to, drep_stake, is_frozen_drep, votes_by}
 use Rattle.drep_pulser.specs.Count.{Count, Ended, sum_for}
 
 -- the credential of the c-th entry, none at 0

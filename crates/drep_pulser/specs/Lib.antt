@@ -1,3 +1,4 @@
+pub use Rattle.accounts.specs as of_accounts
 pub mod Count
 pub mod Facts
 pub mod Parts

@@ -7,7 +7,7 @@ use Rattle.gov_ids.specs.declared.Credential.{Credential}
 use Rattle.gov_ids.specs.declared.Drep.{Drep}
 use Rattle.gov_ids.specs.Orders.{credential_cmp, drep_cmp}
 use Rattle.book_records.specs.declared.Entry.{Entry}
-use Rattle.gov_model.specs.Stake.{votes_by}
+use Rattle.snapshots.specs.of_gov_model.Stake.{votes_by}
 use Rattle.maps.specs.Maps.{comes_past, has_key}
 use Rattle.view_map.specs.Walk.{entries_past}
 use Rattle.drep_pulser.specs.Count.{Count, sum_for}

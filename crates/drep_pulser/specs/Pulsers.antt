@@ -2,7 +2,7 @@
 use Rattle.std.specs.Prelude.{ℕ, Bool, true, false, List}
 use Rattle.gov_ids.specs.declared.Credential.{Credential}
 use Rattle.book_records.specs.declared.Entry.{Entry}
-use Rattle.gov_model.specs.Snapshot.{Snapshot}
+use Rattle.snapshots.specs.of_gov_model.Snapshot.{Snapshot}
 use Rattle.drep_pulser.specs.declared.Pulser.{Pulser}
 use Rattle.drep_pulser.specs.declared.Pulser.TheVariants.{Counting, Counted}
 use Rattle.drep_pulser.specs.Facts.{IsCountIn, IsCountOf, IsCountedOf}

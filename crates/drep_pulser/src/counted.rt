@@ -1,6 +1,6 @@
 ghost use Rattle.std.specs.Prelude.{◌≡◌, IfOk};
-ghost use Rattle.gov_model.specs.Snapshot.{Snapshot};
-ghost use Rattle.gov_model.specs.Stake.{drep_stake};
+ghost use Rattle.snapshots.specs.of_gov_model.Snapshot.{Snapshot};
+ghost use Rattle.snapshots.specs.of_gov_model.Stake.{drep_stake};
 ghost use Rattle.drep_pulser.specs.Count.{sum_for};
 ghost use Rattle.drep_pulser.specs.Facts.{IsCountedOf};
 

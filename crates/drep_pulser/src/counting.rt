@@ -1,8 +1,8 @@
 ghost use Rattle.std.specs.Prelude.{◌≡◌, ◌+◌, ◌-◌, ◌^◌, ◌<◌, ◌≤◌, ◌↔◌, All, IsTrue, IfOk, length, min};
 ghost use Rattle.gov_ids.specs.Orders.{credential_cmp};
 ghost use Rattle.view_map.specs.View.{frozen_of};
-ghost use Rattle.gov_model.specs.Snapshot.{Snapshot};
-ghost use Rattle.gov_model.specs.Stake.{drep_stake_of_first};
+ghost use Rattle.snapshots.specs.of_gov_model.Snapshot.{Snapshot};
+ghost use Rattle.snapshots.specs.of_gov_model.Stake.{drep_stake_of_first};
 ghost use Rattle.drep_pulser.specs.Count.{Count, sum_for};
 ghost use Rattle.coin_frac.specs.Totals.{total_of};
 ghost use Rattle.drep_pulser.specs.Facts.{held_by, HasFrozen, ForSnapshotOf, IsCountOf, IsCountIn, IsCountedOf};

@@ -3,7 +3,7 @@ ghost use Rattle.book_records.specs.declared.Entry.{Entry};
 ghost use Rattle.gov_ids.specs.declared.Credential.{Credential};
 ghost use Rattle.gov_ids.specs.declared.Drep.{Drep};
 ghost use Rattle.gov_ids.specs.Orders.{credential_cmp};
-ghost use Rattle.gov_model.specs.Snapshot.{Snapshot};
+ghost use Rattle.snapshots.specs.of_gov_model.Snapshot.{Snapshot};
 ghost use Rattle.view_map.specs.View.{frozen_of};
 ghost use Rattle.drep_pulser.specs.Count.{Count, sum_for};
 ghost use Rattle.drep_pulser.specs.Facts.{AreSums, ForSnapshotOf, IsCountOf, IsCountIn, IsCountedOf, weight_by};

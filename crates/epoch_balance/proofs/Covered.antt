@@ -13,7 +13,7 @@ use Rattle.gov_model.specs.Enacted.{enacted_after, withdrawn_by}
 use Rattle.gov_model.specs.Ready.{is_ready, is_covered}
 use Rattle.gov_model.specs.Ratified.{order_of}
 use Rattle.gov_model.proofs.OneList.{ratified_are_chosen}
-use Rattle.tx_records.specs.declared.record.Rewards.{Rewards}
+use Rattle.ledger_model.specs.of_tx_records.declared.record.Rewards.{Rewards}
 use Rattle.ledger_model.specs.Ledger.{Ledger}
 use Rattle.ledger_model.proofs.SameSums.{sum_by-map}
 use Rattle.run_model.specs.Boundary.{payments_due, targets_of, enacted_targets, enacted_proposals, after_enactment, after_rewards, update_applied}

@@ -14,7 +14,7 @@ use Rattle.gov_ids.proofs.Totals.{credential_total}
 use Rattle.book_records.specs.declared.Registered.{Registered}
 use Rattle.book_records.specs.Pools.{retires_at, staying_at}
 use Rattle.book_records.specs.declared.pool.Pool.{Pool}
-use Rattle.tx_records.specs.declared.record.Rewards.{Rewards}
+use Rattle.ledger_model.specs.of_tx_records.declared.record.Rewards.{Rewards}
 use Rattle.ledger_model.specs.Ledger.{Ledger, is_account}
 use Rattle.ledger_model.specs.Supply.{pots_of}
 use Rattle.ledger_model.specs.Flows.{Pot, outputs, deposits, rewards, fees, donations, treasury, reserves, hand, Flow, End, source, sink, flow, same_pot, sum_at}

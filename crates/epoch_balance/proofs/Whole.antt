@@ -6,8 +6,8 @@ use Rattle.gov_ids.specs.Orders.{credential_cmp}
 use Rattle.book_records.specs.declared.Registered.{Registered}
 use Rattle.gov_actions.specs.declared.action.Proposal.{Proposal}
 use Rattle.gov_model.specs.Laws.{HaveDistinctIds}
-use Rattle.tx_records.specs.declared.record.Rewards.{Rewards}
-use Rattle.tx_records.specs.declared.report.Pots.{Pots}
+use Rattle.ledger_model.specs.of_tx_records.declared.record.Rewards.{Rewards}
+use Rattle.ledger_model.specs.of_tx_records.declared.report.Pots.{Pots}
 use Rattle.ledger_model.specs.Ledger.{Ledger}
 use Rattle.ledger_model.specs.Supply.{pots_of}
 use Rattle.ledger_model.specs.Flows.{deposits, donations, treasury, Flow, flow}

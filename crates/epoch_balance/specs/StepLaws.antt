@@ -4,7 +4,7 @@ use Rattle.maps.specs.Maps.{IsMap}
 use Rattle.gov_ids.specs.declared.ActionId.{ActionId}
 use Rattle.gov_ids.specs.declared.Credential.{Credential}
 use Rattle.gov_ids.specs.Orders.{credential_cmp}
-use Rattle.tx_records.specs.declared.record.Rewards.{Rewards}
+use Rattle.ledger_model.specs.of_tx_records.declared.record.Rewards.{Rewards}
 use Rattle.gov_actions.specs.declared.action.Proposal.{Proposal}
 use Rattle.gov_model.specs.Kept.{kept_of}
 use Rattle.gov_model.specs.Laws.{HaveDistinctIds}

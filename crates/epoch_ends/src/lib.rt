@@ -6,3 +6,4 @@ mod ends;
 
 pub use donations::donations_joined;
 pub use ends::{dormancy_noted, members_only, next_epoch};
+pub use ledger_books as of_ledger_books;

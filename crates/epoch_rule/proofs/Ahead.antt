@@ -5,7 +5,7 @@ use Rattle.gov_ids.specs.declared.ActionId.{ActionId}
 use Rattle.gov_model.specs.Laws.{HaveDistinctIds, OneListIsRatified}
 use Rattle.gov_model.specs.Ratified.{IsRatified, ratified_of}
 use Rattle.gov_model.specs.Snapshot.{Snapshot}
-use Rattle.ratify.specs.declared.outcome.Outcome.{Outcome}
+use Rattle.epoch_steps.specs.of_ratify.declared.outcome.Outcome.{Outcome}
 use Rattle.snapshots.specs.declared.frozen.Frozen.{Frozen}
 use Rattle.tally.specs.Counted.{AreOf, ForSnapshot}
 

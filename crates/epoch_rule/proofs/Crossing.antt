@@ -6,7 +6,7 @@ use Rattle.drep_pulser.specs.declared.Pulser.{Pulser}
 use Rattle.drep_pulser.specs.Facts.{IsCountedOf}
 use Rattle.drep_pulser.specs.Pulsers.{GoesOnIn, IsPulserOf, done_by}
 use Rattle.epoch_balance.specs.BoundaryLaws.{BoundaryBalances, PaymentsAreCovered}
-use Rattle.epoch_start.specs.Begun.{begun_of}
+use Rattle.ledger_state.specs.of_epoch_start.Begun.{begun_of}
 use Rattle.gov_ids.specs.Orders.{credential_cmp}
 use Rattle.gov_model.specs.Snapshot.{Snapshot}
 use Rattle.ledger_books.specs.declared.Books.{Books}

@@ -1,7 +1,7 @@
 ghost use Rattle.std.specs.Prelude.{◌≡◌, ◌<◌, ◌^◌, ℕ, IfOk};
 ghost use Rattle.epoch_rule.specs.Lists.{lists_of};
 ghost use Rattle.epoch_rule.specs.Sounds.{AreDecidedBooks, AreSoundBooks};
-ghost use Rattle.epoch_start.specs.Begun.{begun_of};
+ghost use Rattle.ledger_state.specs.of_epoch_start.Begun.{begun_of};
 ghost use Rattle.gov_model.specs.Snapshot.{Snapshot};
 ghost use Rattle.ledger_books.specs.Parts.{world_of_books};
 ghost use Rattle.run_model.specs.Boundary.{world_after_boundary};
@@ -10,8 +10,8 @@ ghost use Rattle.tally.specs.Cells.{AreCells};
 use coin_frac::NoMemory;
 use drep_pulser::Counted;
 use epoch_balance::payments_are_covered;
+use epoch_steps::of_frozen_reads::sound_can_be_counted;
 use epoch_steps::{Decided, after_pass, before_pass, decide};
-use frozen_reads::sound_can_be_counted;
 use gov_actions::Tally;
 use gov_ids::Drep;
 use ledger_books::Books;

@@ -7,5 +7,7 @@ mod counts;
 mod outlook;
 mod rule;
 
+pub use ledger_state as of_ledger_state;
 pub use outlook::next_outcome;
+pub use par_count as of_par_count;
 pub use rule::{cross, cross_alone};

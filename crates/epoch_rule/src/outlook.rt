@@ -9,10 +9,10 @@ ghost use Rattle.tally.specs.Counted.{CanBeCounted};
 use crate::counts::finished_alone;
 use coin_frac::NoMemory;
 use drep_pulser::Counted;
-use frozen_reads::sound_can_be_counted;
+use epoch_steps::of_frozen_reads::sound_can_be_counted;
+use epoch_steps::of_ratify::{Outcome, ratify};
 use gov_model::one_list_is_ratified;
 use ledger_state::LedgerState;
-use ratify::{Outcome, ratify};
 use std::alloc::Global;
 
 /// What the next boundary's pass decides of the frozen proposals, with its state and tallies.

@@ -9,7 +9,7 @@ use Rattle.gov_ids.specs.declared.PoolId.{PoolId}
 use Rattle.gov_ids.specs.Orders.{credential_cmp, pool_cmp}
 use Rattle.maps.proofs.Credits.{sum_values-entries}
 use Rattle.maps.specs.Maps.{has_key, sum_values, value_at}
-use Rattle.accounts.specs.Accounts.{Accounts}
+use Rattle.drep_pulser.specs.of_accounts.Accounts.{Accounts}
 use Rattle.book_records.specs.declared.DrepState.{DrepState}
 use Rattle.book_records.specs.declared.Entry.{Entry}
 use Rattle.coin_frac.specs.Totals.{total_of}
@@ -18,13 +18,13 @@ use Rattle.freeze.specs.Deposits.{paid_by, paid_with}
 use Rattle.freeze.specs.Pools.{pool_by}
 use Rattle.freeze.specs.Laws.{PoolsAreFrozen}
 use Rattle.genesis_books.proofs.Frozen.{live_is}
-use Rattle.gov_model.specs.Proposals.{deposits_of}
+use Rattle.run_model.specs.of_gov_model.Proposals.{deposits_of}
 use Rattle.ledger_books.specs.declared.Books.{Books}
 use Rattle.ledger_books.specs.Parts.{ledger_of_books}
 use Rattle.run_model.specs.SoundWorld.{IsSoundWorld}
 use Rattle.run_model.specs.SoundWorld.{held_by as held_by_entry}
 use Rattle.snapshots.specs.Frozen.{frozen_copy_of}
-use Rattle.stake_book.specs.Stakes.{AreKept}
+use Rattle.freeze.specs.of_stake_book.Stakes.{AreKept}
 use Rattle.view_map.specs.View.{frozen_of}
 use Rattle.epoch_start.specs.Begun.{accounts_of_pools, begun_of}
 

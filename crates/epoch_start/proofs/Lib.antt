@@ -1,1 +1,2 @@
+pub use Rattle.genesis_books.proofs as proofs_of_genesis_books
 pub mod Begun

@@ -6,3 +6,7 @@ mod counts;
 
 pub use copies::frozen_copy;
 pub use counts::begun_count;
+pub use freeze as of_freeze;
+pub use freeze::of_cert_pool;
+pub use genesis_books::of_committee_book;
+pub use ledger_books as of_ledger_books;

@@ -2,8 +2,8 @@
 use Rattle.std.proofs.Common.{◌≡◌, ℕ, List, Option, Some, None, refl, ap, ◌∙◌}
 use Rattle.gov_ids.specs.declared.Credential.{Credential}
 use Rattle.gov_model.specs.Snapshot.{Snapshot}
-use Rattle.ledger_books.specs.declared.Books.{Books}
-use Rattle.ledger_books.specs.Parts.{IsStep, world_of_books}
+use Rattle.epoch_ends.specs.of_ledger_books.declared.Books.{Books}
+use Rattle.epoch_ends.specs.of_ledger_books.Parts.{IsStep, world_of_books}
 use Rattle.ledger_model.specs.Ledger.{Ledger}
 use Rattle.tx_records.specs.declared.record.Rewards.{Rewards}
 use Rattle.run_model.specs.Boundary.{after_pools, after_rewards, after_snapshots, donations_joined, dormancy_noted, enacted, marked, members_only, payments_due, removals_made, update_applied, withdrawals_paid}

@@ -4,5 +4,7 @@
 mod halves;
 mod pass;
 
+pub use frozen_reads as of_frozen_reads;
 pub use halves::{after_pass, before_pass};
 pub use pass::{Decided, decide};
+pub use ratify as of_ratify;

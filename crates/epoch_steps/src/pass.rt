@@ -1,19 +1,19 @@
 ghost use Rattle.std.specs.Prelude.{◌≡◌, IfOk};
 ghost use Rattle.epoch_steps.specs.Decisions.{decided_of};
-ghost use Rattle.tally.specs.Cells.{AreCells};
-ghost use Rattle.tally.specs.Counted.{CanBeCounted, ForSnapshot};
+ghost use Rattle.ratify.specs.of_tally.Cells.{AreCells};
+ghost use Rattle.ratify.specs.of_tally.Counted.{CanBeCounted, ForSnapshot};
 
-use drep_pulser::Counted;
 use frozen_reads::{enacted_targets, stakes_of};
 use gov_actions::{EnactState, Tally};
 use gov_ids::{Account, ActionId, Drep};
 use gov_model::one_list_is_ratified;
 use listed::Listed;
 use no_memory::NoMemory;
+use ratify::of_drep_pulser::Counted;
+use ratify::of_tally::TallyCell;
 use ratify::ratify_tallied;
 use snapshots::Frozen;
 use std::alloc::Global;
-use tally::TallyCell;
 
 /// What the pass of the ended epoch decides, and what a boundary reports of it.
 /// (RatifyState of the formal specification; the stakes and the targets are own)

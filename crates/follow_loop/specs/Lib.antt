@@ -1,3 +1,4 @@
+pub use Rattle.follow_steps.specs as of_follow_steps
 pub mod Readings
 pub mod Outcomes
 pub mod Plays

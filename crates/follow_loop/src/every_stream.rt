@@ -4,7 +4,7 @@ ghost use Rattle.follow_loop.specs.Laws.{DoneFollowIsWhole, FollowIsComplete, Li
 
 use byte_lines::whole_lines;
 use follow_steps::followed_supply_stays;
-use further_laws::{
+use follow_steps::of_further_laws::{
     count_never_falls, followed_is_sound, kept_are_accepted, rollback_stays_in_epoch,
 };
 use record_read::lines_read_within_limits;

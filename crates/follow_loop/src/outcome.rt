@@ -8,7 +8,7 @@ use crate::plain::put_plain;
 use crate::state::FollowState;
 use byte_lines::{Sink, SinkFault};
 use follow_lines::UnknownLine;
-use gathered_lines::Through;
+use replay_loop::of_gathered_lines::Through;
 use replay_loop::{AnswerFault, Outcome};
 use report::{LineTaker, put_one};
 

@@ -3,7 +3,7 @@ use Rattle.std.specs.Prelude.{ℕ, ◌==◌, Bool, false, ◌&&◌, List, [], �
 use Rattle.std.specs.List.{list_any}
 use Rattle.tx_records.specs.declared.record.Record.{Record}
 use Rattle.tx_records.specs.declared.record.Record.TheVariants as records
-use Rattle.gov_model.specs.Snapshot.{entry_count}
+use Rattle.run_model.specs.of_gov_model.Snapshot.{entry_count}
 use Rattle.run_model.specs.Runs.{pulse_in, world_after_all}
 use Rattle.run_model.specs.Step.{epoch_at}
 use Rattle.run_model.specs.World.{World}

@@ -3,7 +3,7 @@ use Rattle.std.specs.Prelude.{ℕ, not, List, [], ◌∷◌, Option, Some, None,
 use Rattle.tx_records.specs.declared.reply.Reply.{Reply}
 use Rattle.tx_records.specs.declared.reply.Reply.TheVariants.{Accepted, Refused}
 use Rattle.tx_records.specs.declared.reply.Rule.{Rule}
-use Rattle.ledger_model.specs.Checks.{Check, breaks_keeping, first_among}
+use Rattle.run_model.specs.of_ledger_model.Checks.{Check, breaks_keeping, first_among}
 use Rattle.run_model.specs.Step.{acceptance_of, refusal_of}
 use Rattle.run_model.specs.World.{World}
 use Rattle.follow_records.specs.declared.record.FollowRecord.{FollowRecord}

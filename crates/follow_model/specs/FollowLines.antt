@@ -8,8 +8,8 @@ use Rattle.tx_records.specs.declared.reply.Reply.{Reply}
 use Rattle.tx_records.specs.declared.reply.Reply.TheVariants.{Refused}
 use Rattle.tx_records.specs.declared.reply.Rule.{Rule}
 use Rattle.tx_records.specs.RuleTexts.{RuleText, rule_text}
-use Rattle.gov_model.specs.Snapshot.{entry_count}
-use Rattle.ledger_model.specs.Supply.{pots_of}
+use Rattle.run_model.specs.of_gov_model.Snapshot.{entry_count}
+use Rattle.run_model.specs.of_ledger_model.Supply.{pots_of}
 use Rattle.run_model.specs.Genesis.{genesis_fault, world_of_genesis}
 use Rattle.run_model.specs.World.{World}
 use Rattle.text_model.specs.Replies.{pots_words, refusal_words}

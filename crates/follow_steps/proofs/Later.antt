@@ -11,8 +11,8 @@ use Rattle.run_model.specs.Runs.{world_after_all}
 use Rattle.run_model.specs.Step.{block_checks, epoch_at, refusal_of, world_after_accepted}
 use Rattle.run_model.specs.World.{World}
 use Rattle.tx_balance.proofs.Sounds.{tx_steady}
-use Rattle.run_laws.proofs.Good.{IsGood}
-use Rattle.run_laws.proofs.Reach.{accepted_good}
+use Rattle.further_laws.proofs.proofs_of_run_laws.Good.{IsGood}
+use Rattle.further_laws.proofs.proofs_of_run_laws.Reach.{accepted_good}
 use Rattle.further_laws.proofs.Standing.{Goes, IsTimed, Stand, after_first, goes_all, timed_accepted}
 use Rattle.follow_steps.specs.Laws.{IsNotLater}
 

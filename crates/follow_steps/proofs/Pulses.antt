@@ -15,9 +15,9 @@ use Rattle.run_model.specs.Runs.{pulse_in}
 use Rattle.run_model.specs.Step.{block_checks, crossed, enters_next, epoch_at, pulsed, refusal_of, world_after_accepted}
 use Rattle.run_model.specs.World.{World}
 use Rattle.tx_balance.proofs.Sounds.{tx_steady}
-use Rattle.run_laws.proofs.Counted.{later_epoch, min_right, not_equal, same_pulse}
-use Rattle.run_laws.proofs.Good.{IsGood}
-use Rattle.run_laws.proofs.GoodBlock.{boundary_epoch, boundary_length}
+use Rattle.further_laws.proofs.proofs_of_run_laws.Counted.{later_epoch, min_right, not_equal, same_pulse}
+use Rattle.further_laws.proofs.proofs_of_run_laws.Good.{IsGood}
+use Rattle.further_laws.proofs.proofs_of_run_laws.GoodBlock.{boundary_epoch, boundary_length}
 use Rattle.further_laws.proofs.Standing.{IsTimed}
 use Rattle.follow_model.specs.Chain.{counted_by}
 

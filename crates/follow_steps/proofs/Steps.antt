@@ -14,9 +14,9 @@ use Rattle.run_model.specs.Laws as laws
 use Rattle.run_model.specs.Runs.{world_after_all}
 use Rattle.run_model.specs.Step.{crossed, enters_next, pulsed, refusal_of, step, step_by, world_after_accepted}
 use Rattle.run_model.specs.World.{World}
-use Rattle.run_laws.proofs.Good.{IsGood}
-use Rattle.run_laws.proofs.Sound.{genesis_begins_sound}
-use Rattle.run_laws.proofs.Start.{genesis_good}
+use Rattle.further_laws.proofs.proofs_of_run_laws.Good.{IsGood}
+use Rattle.further_laws.proofs.proofs_of_run_laws.Sound.{genesis_begins_sound}
+use Rattle.further_laws.proofs.proofs_of_run_laws.Start.{genesis_good}
 use Rattle.follow_records.specs.declared.record.FollowRecord.{FollowRecord}
 use Rattle.follow_records.specs.declared.record.FollowRecord.TheVariants.{Plain, Rollback}
 use Rattle.follow_records.specs.declared.rules.TheConstants.{ROLLBACK_UNKNOWN}

@@ -1,6 +1,6 @@
 ghost use Rattle.follow_steps.specs.Laws.{EpochIsOfSlot, FollowedSupplyStays, KeptAreNotLater, KeptFrontsAreSound, PlainIsStep, RollbackLeavesKept};
 
-use run_laws::supply_stays;
+use further_laws::of_run_laws::supply_stays;
 
 /// A record of a replay moves the ledger of a followed stream by one step, with its count, also
 /// after rollbacks.

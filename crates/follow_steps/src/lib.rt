@@ -3,6 +3,7 @@
 
 mod laws;
 
+pub use further_laws as of_further_laws;
 pub use laws::{
     epoch_is_of_slot, followed_supply_stays, kept_are_not_later, kept_fronts_are_sound,
     plain_is_step, rollback_leaves_kept,

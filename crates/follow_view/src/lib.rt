@@ -3,4 +3,5 @@
 
 mod rolled;
 
+pub use ledger_state as of_ledger_state;
 pub use rolled::{put_rolled, rolled_text};

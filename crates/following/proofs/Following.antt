@@ -11,8 +11,8 @@ use Rattle.tx_records.specs.declared.reply.Rule.{Rule}
 use Rattle.tx_records.specs.GenesisLimits as genesis_limits
 use Rattle.ledger_model.proofs.Unbroken.{IsUnbroken, unbroken-cons}
 use Rattle.ledger_model.specs.Checks.{breaks_keeping, first_among}
-use Rattle.run_laws.proofs.Counted.{later_epoch, not_equal}
-use Rattle.run_laws.proofs.GoodBlock.{boundary_epoch, boundary_length}
+use Rattle.replay_loop.proofs.proofs_of_run_laws.Counted.{later_epoch, not_equal}
+use Rattle.replay_loop.proofs.proofs_of_run_laws.GoodBlock.{boundary_epoch, boundary_length}
 use Rattle.run_model.specs.Boundary.{world_after_boundary}
 use Rattle.run_model.specs.Genesis.{genesis_fault, world_of_genesis}
 use Rattle.run_model.specs.Runs.{world_after_all}
@@ -25,9 +25,9 @@ use Rattle.follow_records.specs.declared.rules.TheConstants.{ROLLBACK_UNKNOWN}
 use Rattle.follow_model.specs.Chain.{Chain, is_known_block, no_records, taken_back_to, with_record, world_of_chain}
 use Rattle.follow_model.specs.Follow.{chain_after_all, follow_refusal, follow_step, follow_step_by}
 use Rattle.follow_model.specs.Laws.{IsFollowed, is_within_limits}
-use Rattle.further_laws.proofs.Followed.{all_join, follow_is_replay, followed_is_sound}
-use Rattle.follow_steps.proofs.Steps.{epoch_is_of_slot, kept_are_not_later, plain_is_step, rollback_leaves_kept}
-use Rattle.follow_steps.specs.Laws.{IsNotLater}
+use Rattle.follow_loop.proofs.proofs_of_further_laws.Followed.{all_join, follow_is_replay, followed_is_sound}
+use Rattle.follow_loop.proofs.proofs_of_follow_steps.Steps.{epoch_is_of_slot, kept_are_not_later, plain_is_step, rollback_leaves_kept}
+use Rattle.follow_loop.specs.of_follow_steps.Laws.{IsNotLater}
 use Rattle.follow_loop.specs.Outcomes.{rollback_outcome}
 use Rattle.undo_log.specs.Back.{back_reply, cut_at, cut_by, entries_after, mark_at, undone_all, world_at}
 use Rattle.undo_log.specs.Logs.{IsInOrder, Log, empty_log}

@@ -2,9 +2,9 @@
 use Rattle.std.proofs.Common.{◌≡◌, ◌∙◌, ℕ, ◌+◌, ◌/◌, ◌==◌, ◌<◌, ◌≤◌, List, [], ◌∷◌, ◌++◌, Bool, true, false, cond, ◌&&◌, ◌||◌, Option, Some, None, refl, ap, sym, arith}
 use Rattle.std.specs.List.{AllByRecursion, cons_option, list_any}
 use Rattle.std.proofs.lemmas.Bool.{eqb-true, false≢true, ne_eqb}
-use Rattle.further_laws.proofs.Standing.{parted, past_block}
+use Rattle.follow_loop.proofs.proofs_of_further_laws.Standing.{parted, past_block}
 use Rattle.follow_model.specs.Chain.{is_block_of, up_to_block}
-use Rattle.follow_steps.specs.Laws.{IsNotLater}
+use Rattle.follow_loop.specs.of_follow_steps.Laws.{IsNotLater}
 use Rattle.ledger_model.specs.Ledger.{Ledger}
 use Rattle.run_model.specs.Step.{epoch_at}
 use Rattle.tx_records.specs.declared.record.Record.{Record}

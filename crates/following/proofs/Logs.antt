@@ -5,7 +5,7 @@ use Rattle.std.proofs.lemmas.Bool.{and_parts, eq-eqb, eqb-true}
 use Rattle.std.proofs.lemmas.List.{drop_all, length-take-le, map-append, take-append-drop}
 use Rattle.std.proofs.lemmas.List.Elements.{filter_map-append}
 use Rattle.follow_model.specs.Chain.{is_block_of, up_to_block}
-use Rattle.follow_steps.specs.Laws.{IsNotLater}
+use Rattle.follow_loop.specs.of_follow_steps.Laws.{IsNotLater}
 use Rattle.ledger_model.specs.Ledger.{Ledger}
 use Rattle.run_model.specs.Runs.{world_after_all}
 use Rattle.run_model.specs.SoundWorld.{IsSoundWorld}

@@ -3,7 +3,7 @@ use Rattle.std.proofs.Common.{◌≡◌, ◌∙◌, ℕ, ◌≤◌, List, [], �
 use Rattle.std.proofs.lemmas.List.{drop-append-le, length-take-le, take-append-drop}
 use Rattle.run_model.specs.SoundWorld.{IsSoundWorld}
 use Rattle.run_model.specs.World.{World}
-use Rattle.undo_back.specs.Undoable.{IsUndoable}
+use Rattle.undo_log.specs.of_undo_back.Undoable.{IsUndoable}
 use Rattle.undo_log.proofs.Undone.{undoable_both, undone_both}
 use Rattle.undo_log.specs.Back.{AllUndoable, undone_all}
 use Rattle.undo_model.proofs.Undoing.{undone_is_before}

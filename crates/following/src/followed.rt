@@ -3,9 +3,9 @@ ghost use Rattle.undo_log.specs.Logs.{with_entry};
 
 use byte_lines::SinkFault;
 use follow_loop::FollowState;
+use follow_view::of_ledger_state::LedgerState;
 use follow_view::put_rolled;
 use held_ledger::Held;
-use ledger_state::LedgerState;
 use listed::Boxed;
 use no_memory::NoMemory;
 use replay_loop::{AnswerFault, Outcome, RunState};

@@ -4,7 +4,7 @@ ghost use Rattle.undo_log.specs.Back.{AllUndoable};
 
 use crate::followed::Followed;
 use follow_loop::{FollowAnswered, FollowOutcome};
-use ledger_state::LedgerState;
+use follow_view::of_ledger_state::LedgerState;
 use std::alloc::Global;
 use tx_records::Reply;
 

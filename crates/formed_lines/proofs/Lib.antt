@@ -1,3 +1,4 @@
+pub use Rattle.formed_laws.proofs as proofs_of_formed_laws
 pub mod Ids
 pub mod Updates
 pub mod Actions

@@ -8,10 +8,10 @@ ghost use Rattle.gov_model.specs.Proposals.{deposits_of};
 ghost use Rattle.maps.specs.Maps.{value_at, with_value};
 ghost use Rattle.stake_book.specs.Stakes.{registered_at};
 
-use accounts::AccountBook;
 use coin_frac::{NoMemory, TotalMap};
 use gov_ids::{Credential, PoolId};
 use proposal_store::ProposalStore;
+use stake_book::of_accounts::AccountBook;
 use std::alloc::Global;
 
 /// The deposits of the live proposals, in lovelace, by the credential to which they return.

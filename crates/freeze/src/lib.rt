@@ -7,6 +7,7 @@ mod pools;
 mod proposals;
 mod stakes;
 
+pub use cert_pool as of_cert_pool;
 pub use deposits::{deposits_by_account, deposits_by_pool};
 pub use laws::{pools_are_frozen, words_are_of_snapshots};
 pub use pools::frozen_pools;

@@ -3,13 +3,13 @@ ghost use Rattle.coin_frac.specs.Totals.{total_of};
 ghost use Rattle.freeze.specs.Pools.{delegation_of, pool_by, reward_account};
 ghost use Rattle.gov_model.specs.Sides.{default_of_delegation};
 
-use accounts::AccountBook;
 use book_records::{DefaultVote, PoolTerms};
 use cert_pool::PoolBook;
 use coin_frac::{NoMemory, TotalMap};
 use gov_ids::{Account, Drep, PoolId};
 use listed::Listed;
 use snapshots::FrozenPool;
+use stake_book::of_accounts::AccountBook;
 use std::alloc::Global;
 
 /// The pools of mark as the freeze takes them, in the order of mark.

@@ -2,7 +2,7 @@
 use Rattle.std.proofs.Common.{◌≡◌, ℕ, ◌+◌, List, sum_by, ap, sym, subst, ◌∙◌, arith}
 use Rattle.std.specs.List.{All}
 use Rattle.std.proofs.lemmas.List.Elements.{All-from_recursion}
-use Rattle.drep_pulser.specs.Count.{Ended, sum_for}
+use Rattle.tally.specs.of_drep_pulser.Count.{Ended, sum_for}
 use Rattle.gov_actions.specs.declared.action.Proposal.{Proposal}
 use Rattle.gov_ids.specs.declared.Credential.{Credential}
 use Rattle.gov_ids.specs.declared.Drep.TheVariants as drep
@@ -12,7 +12,7 @@ use Rattle.gov_model.specs.Laws.{HaveDistinctIds}
 use Rattle.gov_model.specs.Sides.{members_of}
 use Rattle.gov_model.specs.Snapshot.{Snapshot}
 use Rattle.gov_model.specs.Stake.{drep_stake, pool_stake}
-use Rattle.ledger_model.proofs.SameSums.{sum_by-map}
+use Rattle.run_model.proofs.proofs_of_ledger_model.SameSums.{sum_by-map}
 use Rattle.maps.specs.Maps.{IsMap}
 use Rattle.run_model.specs.SoundLaws.{DrepStakesAreWithin, PoolStakesAreWithin}
 use Rattle.run_model.specs.SoundWorld.{AreSoundStakes}

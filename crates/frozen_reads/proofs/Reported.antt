@@ -2,7 +2,7 @@
 use Rattle.std.proofs.Common.{◌≡◌, ℕ, ◌+◌, ◌<◌, List, [], ◌∷◌, ◌++◌, Bool, map, filter, drop, get_or, length, nat_lt, ap, sym, ◌∙◌, append_assoc}
 use Rattle.std.proofs.lemmas.List.{at_drop_more, map-append}
 use Rattle.std.proofs.lemmas.List.Elements.{filter-append}
-use Rattle.drep_pulser.specs.Count.{Ended, sum_for}
+use Rattle.tally.specs.of_drep_pulser.Count.{Ended, sum_for}
 use Rattle.gov_ids.specs.declared.Credential.{Credential}
 use Rattle.gov_ids.specs.declared.Drep.{Drep}
 use Rattle.gov_ids.specs.declared.Drep.TheVariants as drep

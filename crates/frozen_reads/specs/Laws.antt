@@ -1,5 +1,5 @@
 -- What is frozen of a sound World can be counted; src/laws.rt has the law as a contract. (Own)
-use Rattle.drep_pulser.specs.Count.{Ended}
+use Rattle.tally.specs.of_drep_pulser.Count.{Ended}
 use Rattle.run_model.specs.SoundWorld.{IsSoundWorld}
 use Rattle.run_model.specs.World.{World}
 use Rattle.snapshots.specs.declared.frozen.Frozen.{Frozen}

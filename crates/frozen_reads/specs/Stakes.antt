@@ -1,6 +1,6 @@
 -- The stakes that a boundary reports, by the sums of a count. (Own)
 use Rattle.std.specs.Prelude.{ℕ, List, filter, map, nat_lt}
-use Rattle.drep_pulser.specs.Count.{sum_for}
+use Rattle.tally.specs.of_drep_pulser.Count.{sum_for}
 use Rattle.gov_ids.specs.declared.Credential.{Credential}
 use Rattle.gov_ids.specs.declared.Drep.{Drep}
 use Rattle.gov_ids.specs.declared.Drep.TheVariants as drep

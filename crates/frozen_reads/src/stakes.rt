@@ -3,11 +3,11 @@ ghost use Rattle.frozen_reads.specs.Stakes.{registered, stakes_by};
 ghost use Rattle.run_model.specs.Report.{stakes_of};
 ghost use Rattle.tally.specs.Counted.{ForSnapshot};
 
-use drep_pulser::Counted;
 use gov_ids::{Credential, Drep};
 use no_memory::NoMemory;
 use snapshots::Frozen;
 use std::alloc::Global;
+use tally::of_drep_pulser::Counted;
 
 /// Stakes of the frozen DReps by credential, then of the two predefined ones, in lovelace.
 /// DReps without stake are left out.

@@ -1,3 +1,4 @@
+pub use Rattle.run_laws.proofs as proofs_of_run_laws
 pub mod Standing
 pub mod Followed
 pub mod Resumed

@@ -9,3 +9,4 @@ pub use laws::{
     reached_is_timed, reached_were_proposed, replay_is_resumed, resumable_is_sound,
     rollback_stays_in_epoch, short_by_form, verdicts_are_of_one_list,
 };
+pub use run_laws as of_run_laws;

@@ -8,10 +8,10 @@ use Rattle.line_runs.proofs.Gathers.{line_told}
 use Rattle.line_runs.proofs.Fronts.{front_behind, front_more, front_take, took_both, took_none}
 use Rattle.bare_lines.specs.Bare.{bare, bare_part}
 use Rattle.bare_lines.proofs.Joined.{bare_joined}
-use Rattle.report.specs.Taking as taking
-use Rattle.text_forms.specs.Lines.{joined, text_of_bare}
-use Rattle.text_model.specs.Runs.{text_of_lines}
-use Rattle.text_model.specs.Words.{Text, line_of}
+use Rattle.bare_lines.specs.of_report.Taking as taking
+use Rattle.bare_lines.specs.of_text_forms.Lines.{joined, text_of_bare}
+use Rattle.bare_lines.specs.of_text_model.Runs.{text_of_lines}
+use Rattle.bare_lines.specs.of_text_model.Words.{Text, line_of}
 use Rattle.gathered_lines.specs.Through.{HaveWords, IsLinePart, Waiting, with_line}
 
 abbrev pub All : Gathered → Gathered → List ℕ → Type 0

@@ -1,6 +1,6 @@
 -- A text that is gathered line by line. (Own)
 use Rattle.std.specs.Prelude.{◌≡◌, ℕ, List, [], ◌∷◌}
-use Rattle.text_model.specs.Words.{Text}
+use Rattle.bare_lines.specs.of_text_model.Words.{Text}
 use Rattle.line_runs.specs.Batches.{Gathered, IsGatheredPart, with_gathered}
 
 -- what is gathered, and for which sink, by the names of the two references

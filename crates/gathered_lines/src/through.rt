@@ -1,6 +1,6 @@
+use bare_lines::of_report::LineTaker;
 use byte_lines::{Sink, SinkFault};
 use line_runs::gather;
-use report::LineTaker;
 
 /// Takes the lines of a record, and gathers them for the sink.
 #[derive(Drop)]

@@ -2,7 +2,7 @@
 use Rattle.std.proofs.Common.{◌≡◌, ℕ, ◌+◌, ◌-◌, ◌*◌, ◌<◌, ◌≤◌, List, [], ◌∷◌, ◌++◌, Bool, true, false, cond, drop, flat_map, map, nat_lt, ap, arith, refl, sym, ◌∙◌}
 use Rattle.std.specs.List.{range_with_len}
 use Rattle.std.proofs.lemmas.Bool.Decides.{nat_tests}
-use Rattle.text_model.specs.Words.{Text}
+use Rattle.load_model.specs.of_text_model.Words.{Text}
 use Rattle.load_model.specs.Amounts.{registration_count, spent_before, spent_by_registration}
 use Rattle.load_model.specs.Genesis.{genesis_line}
 use Rattle.load_model.specs.Stream.{bytes_of_lines, epoch_lines, registration_line}

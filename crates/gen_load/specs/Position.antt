@@ -1,7 +1,7 @@
 -- The position of the program in the stream, and the lines that are still to come. (Own)
 use Rattle.std.specs.Prelude.{◌≡◌, ℕ, ◌+◌, ◌-◌, ◌*◌, ◌<◌, ◌≤◌, List, [], ◌++◌, drop, flat_map, map, nat_lt, if◌then◌else◌, ⊤}
 use Rattle.std.specs.List.{range_with_len}
-use Rattle.text_model.specs.Words.{Text}
+use Rattle.load_model.specs.of_text_model.Words.{Text}
 use Rattle.load_model.specs.Amounts.{first_pulse, first_slot, last_slot, registration_count, spent_before}
 use Rattle.load_model.specs.Stream.{block_line, bytes_of_lines, epoch_lines, lines_of_load, proposal_line, registration_line, rewards_line, votes_line}
 use Rattle.gen_load.specs.declared.position.EpochLine.{EpochLine}

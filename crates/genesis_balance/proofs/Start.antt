@@ -10,7 +10,7 @@ use Rattle.std.specs.Ordering.{eq_by_cmp}
 use Rattle.std.proofs.lemmas.Bool.{eqb-true, not-false, or_left, or_parts, or_right}
 use Rattle.std.proofs.lemmas.Cmp.{eq_by_cmp_equiv}
 use Rattle.std.proofs.lemmas.List.Sums.{sum_by-cons}
-use Rattle.gov_model.specs.Sides.{members_of}
+use Rattle.run_model.specs.of_gov_model.Sides.{members_of}
 use Rattle.maps.specs.Maps.{IsMap, has_member, in_order, sum_values, value_at, with_key, with_values}
 use Rattle.maps.specs.Words.{repeats}
 use Rattle.maps.proofs.Credits.{sum_by-plus}
@@ -24,21 +24,21 @@ use Rattle.gov_ids.specs.declared.Drep.{Drep}
 use Rattle.gov_ids.specs.declared.OutRef.{OutRef}
 use Rattle.gov_ids.specs.declared.PoolId.{PoolId}
 use Rattle.gov_ids.specs.declared.TxId.{TxId}
-use Rattle.gov_actions.specs.declared.state.HotState.TheVariants.{Hot}
+use Rattle.run_model.specs.of_gov_actions.declared.state.HotState.TheVariants.{Hot}
 use Rattle.gov_ids.specs.Orders.{credential_cmp, outref_cmp, pool_cmp, txid_cmp}
 use Rattle.gov_ids.proofs.Totals.{credential_total, outref_total, pool_total, txid_total}
-use Rattle.book_records.specs.declared.Output.{Output}
-use Rattle.book_records.specs.declared.Registered.{Registered}
-use Rattle.book_records.specs.declared.DrepState.{DrepState}
-use Rattle.book_records.specs.declared.pool.Pool.{Pool}
-use Rattle.tx_records.specs.declared.genesis.Genesis.{Genesis}
-use Rattle.tx_records.specs.declared.genesis.GenesisCommittee.{GenesisCommittee}
-use Rattle.tx_records.specs.declared.genesis.GenesisPool.{GenesisPool}
-use Rattle.tx_records.specs.declared.genesis.GenesisRule.{GenesisRule}
+use Rattle.run_model.specs.of_book_records.declared.Output.{Output}
+use Rattle.run_model.specs.of_book_records.declared.Registered.{Registered}
+use Rattle.run_model.specs.of_book_records.declared.DrepState.{DrepState}
+use Rattle.run_model.specs.of_book_records.declared.pool.Pool.{Pool}
+use Rattle.run_model.specs.of_tx_records.declared.genesis.Genesis.{Genesis}
+use Rattle.run_model.specs.of_tx_records.declared.genesis.GenesisCommittee.{GenesisCommittee}
+use Rattle.run_model.specs.of_tx_records.declared.genesis.GenesisPool.{GenesisPool}
+use Rattle.run_model.specs.of_tx_records.declared.genesis.GenesisRule.{GenesisRule}
 use Rattle.genesis_balance.specs.Laws.{GenesisHoldsSupply, GenesisIsSound}
 use Rattle.run_model.specs.Genesis.{genesis_checks, genesis_fault, genesis_sum, pool_ids, drep_ids, committee_of_genesis}
-use Rattle.tx_records.specs.Limits.{genesis_members}
-use Rattle.coin_frac.specs.declared.TheConstants.{SUPPLY_LIMIT}
+use Rattle.run_model.specs.of_tx_records.Limits.{genesis_members}
+use Rattle.run_model.specs.of_coin_frac.declared.TheConstants.{SUPPLY_LIMIT}
 use Rattle.maps.proofs.Fresh.{all-with_values, distinct_from_repeats}
 
 pub empty_sorted : {K : Type 0} (cmp : K → K → Ordering) → IsStrictlySortedBy cmp []

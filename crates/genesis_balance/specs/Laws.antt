@@ -1,8 +1,8 @@
 -- The laws on the ledger of a genesis; src/laws.rt has a function for each law.
 use Rattle.std.specs.Prelude.{◌≡◌, None}
-use Rattle.tx_records.specs.declared.genesis.Genesis.{Genesis}
-use Rattle.ledger_model.specs.Sound.{IsSound}
-use Rattle.ledger_model.specs.Supply.{supply_of}
+use Rattle.run_model.specs.of_tx_records.declared.genesis.Genesis.{Genesis}
+use Rattle.run_model.specs.of_ledger_model.Sound.{IsSound}
+use Rattle.run_model.specs.of_ledger_model.Supply.{supply_of}
 use Rattle.run_model.specs.Genesis.{genesis_fault, ledger_of_genesis}
 
 -- the ledger of a genesis is sound

@@ -32,10 +32,10 @@ use Rattle.tx_records.specs.declared.genesis.Genesis.{Genesis}
 use Rattle.tx_records.specs.declared.genesis.GenesisPool.{GenesisPool}
 use Rattle.coin_frac.specs.declared.TheConstants.{SUPPLY_LIMIT}
 use Rattle.genesis_balance.proofs.Start.{sum-started, unbroken_genesis}
-use Rattle.run_model.specs.Genesis.{genesis_fault, ledger_of_genesis}
+use Rattle.genesis_balance.specs.of_run_model.Genesis.{genesis_fault, ledger_of_genesis}
 use Rattle.drep_book.specs.Dreps.{Dreps}
 use Rattle.stake_book.specs.Stakes.{balances_in}
-use Rattle.utxo_set.specs.Utxos.{Utxos}
+use Rattle.stake_book.specs.of_utxo_set.Utxos.{Utxos}
 use Rattle.genesis_books.proofs.Walks.{walk_on}
 
 -- ---- the accounts

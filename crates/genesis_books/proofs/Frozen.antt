@@ -31,9 +31,9 @@ use Rattle.maps.proofs.Sets.{IsSet-in_order, has_member-in_order}
 use Rattle.maps.proofs.Ties.{all_tied, is_equal, same_key}
 use Rattle.maps.specs.Maps.{IsMap, IsSet, entries_where, has_key, has_member, in_order, value_at}
 use Rattle.maps.specs.Words.{amount, holds}
-use Rattle.accounts.specs.Accounts.{is_nothing}
-use Rattle.ledger_model.specs.Ledger.{Ledger, account_at, is_account, output_stake}
-use Rattle.run_model.specs.Freeze.{entries_of, stake_parts}
+use Rattle.stake_book.specs.of_accounts.Accounts.{is_nothing}
+use Rattle.genesis_balance.specs.of_ledger_model.Ledger.{Ledger, account_at, is_account, output_stake}
+use Rattle.genesis_balance.specs.of_run_model.Freeze.{entries_of, stake_parts}
 use Rattle.stake_book.specs.Stakes.{Stakes, AreKept, accounts_of, registrations, stake_held}
 
 -- ---- an entry for each of some keys

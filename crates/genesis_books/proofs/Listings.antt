@@ -11,7 +11,7 @@ use Rattle.maps.proofs.Sets.{has_member-in_order}
 use Rattle.maps.specs.Maps.{has_member, in_order}
 use Rattle.maps.specs.Words.{none_or}
 use Rattle.tx_records.specs.declared.genesis.Genesis.{Genesis}
-use Rattle.run_model.specs.Genesis.{drep_ids, names_an_unknown, pool_ids}
+use Rattle.genesis_balance.specs.of_run_model.Genesis.{drep_ids, names_an_unknown, pool_ids}
 use Rattle.genesis_books.specs.Listing.{is_drep_among}
 
 -- an account names an unknown, as the code tests it

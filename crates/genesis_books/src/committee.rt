@@ -3,7 +3,7 @@ ghost use Rattle.gov_actions.specs.declared.state.HotState.TheVariants.{Hot};
 ghost use Rattle.gov_ids.specs.Orders.{credential_cmp};
 ghost use Rattle.maps.specs.Maps.{with_values};
 ghost use Rattle.genesis_books.specs.Members.{with_hot_key};
-ghost use Rattle.run_model.specs.Genesis.{committee_of_genesis};
+ghost use Rattle.genesis_balance.specs.of_run_model.Genesis.{committee_of_genesis};
 ghost use Rattle.tx_records.specs.Limits.{genesis_members};
 
 use coin_frac::NoMemory;

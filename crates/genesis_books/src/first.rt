@@ -1,7 +1,7 @@
 ghost use Rattle.std.specs.Prelude.{◌≡◌, [], None, IfOk};
 ghost use Rattle.gov_ids.specs.Orders.{credential_cmp};
-ghost use Rattle.run_model.specs.Freeze.{entries_of};
-ghost use Rattle.run_model.specs.Genesis.{genesis_fault, hot_of_genesis, ledger_of_genesis};
+ghost use Rattle.genesis_balance.specs.of_run_model.Freeze.{entries_of};
+ghost use Rattle.genesis_balance.specs.of_run_model.Genesis.{genesis_fault, hot_of_genesis, ledger_of_genesis};
 ghost use Rattle.stake_book.specs.Stakes.{accounts_of};
 ghost use Rattle.view_map.specs.View.{frozen_of};
 

@@ -4,7 +4,7 @@ ghost use Rattle.gov_ids.specs.Orders.{pool_cmp};
 ghost use Rattle.genesis_books.specs.Listing.{is_drep_among};
 ghost use Rattle.maps.specs.Maps.{has_member};
 ghost use Rattle.maps.specs.Words.{none_or};
-ghost use Rattle.run_model.specs.Genesis.{genesis_fault, genesis_sum, names_an_unknown, names_another_network, repeats_a_name};
+ghost use Rattle.genesis_balance.specs.of_run_model.Genesis.{genesis_fault, genesis_sum, names_an_unknown, names_another_network, repeats_a_name};
 ghost use Rattle.tx_records.specs.GenesisLimits.{is_within_limits};
 
 use crate::committee::members_of;

@@ -2,8 +2,8 @@ ghost use Rattle.std.specs.Prelude.{◌≡◌, IfOk};
 
 use crate::action::Action;
 use crate::state::{Committee, EnactState};
-use coin_frac::NoMemory;
 use listed::Listed;
+use pparams::of_coin_frac::NoMemory;
 use std::alloc::Global;
 
 impl Action {

@@ -2,10 +2,10 @@ ghost use Rattle.std.specs.Prelude.{◌≡◌, IsTrue, ◌↔◌, IfOk};
 ghost use Rattle.std.specs.List.{list_any};
 ghost use Rattle.gov_ids.specs.Orders.{credential_cmp};
 ghost use Rattle.gov_ids.specs.Same.{same_credential};
-ghost use Rattle.maps.specs.Maps.{IsMap};
+ghost use Rattle.gov_ids.specs.of_maps.Maps.{IsMap};
 
-use coin_frac::NoMemory;
 use gov_ids::Credential;
+use pparams::of_coin_frac::NoMemory;
 use std::alloc::Global;
 use std::marker::Model;
 
@@ -21,7 +21,7 @@ impl Model for MemberList {
     ghost use Rattle.std.specs.Prelude.{ℕ, List, IsTrue, ◌↔◌};
     ghost use Rattle.gov_ids.specs.declared.Credential.{Credential};
     ghost use Rattle.gov_ids.specs.Orders.{credential_cmp};
-    ghost use Rattle.maps.specs.Maps.{IsMap};
+    ghost use Rattle.gov_ids.specs.of_maps.Maps.{IsMap};
 
     ghost Value = { List (Credential × ℕ) };
 

@@ -1,6 +1,6 @@
 use crate::action::ActionKind;
-use coin_frac::Unit;
 use gov_ids::ActionId;
+use pparams::of_coin_frac::Unit;
 
 /// Who votes on actions, in the order of a tally. (CIP-1694, Ratification)
 #[derive(Clone, Copy, Debug, PartialEq, Eq)]

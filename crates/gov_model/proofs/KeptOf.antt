@@ -2,8 +2,8 @@
 use Rattle.std.proofs.Common.{◌≡◌, List, [], ◌∷◌, Bool, true, false, ◌&&◌, not, cond, inl, inr, filter, refl, sym, subst, Contains}
 use Rattle.std.proofs.lemmas.Bool.{cond_both}
 use Rattle.std.specs.List.{AllByRecursion}
-use Rattle.gov_ids.specs.declared.ActionId.{ActionId}
-use Rattle.gov_ids.specs.Same.{same_action}
+use Rattle.book_records.specs.of_gov_ids.declared.ActionId.{ActionId}
+use Rattle.book_records.specs.of_gov_ids.Same.{same_action}
 use Rattle.gov_actions.specs.declared.action.Proposal.{Proposal}
 use Rattle.gov_model.specs.Kept.{is_kept}
 use Rattle.gov_model.specs.Laws.{HaveDistinctIds, KeptOfIsKept}

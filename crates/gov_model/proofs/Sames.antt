@@ -2,11 +2,11 @@
 use Rattle.std.proofs.Common.{◌≡◌, Option, Some, None, refl, ◌∙◌}
 use Rattle.std.specs.Option.{option_eq}
 use Rattle.std.proofs.lemmas.Cmp.{eq_by_cmp_equiv}
-use Rattle.gov_ids.specs.declared.ActionId.{ActionId}
-use Rattle.gov_ids.specs.contracts.ActionIdPartialEq.TheImpl as action_eq
-use Rattle.gov_ids.specs.Same.{same_action}
-use Rattle.gov_ids.proofs.Sames.{action_same}
-use Rattle.gov_ids.proofs.Totals.{action_id_total}
+use Rattle.book_records.specs.of_gov_ids.declared.ActionId.{ActionId}
+use Rattle.book_records.specs.of_gov_ids.contracts.ActionIdPartialEq.TheImpl as action_eq
+use Rattle.book_records.specs.of_gov_ids.Same.{same_action}
+use Rattle.book_records.proofs.proofs_of_gov_ids.Sames.{action_same}
+use Rattle.book_records.proofs.proofs_of_gov_ids.Totals.{action_id_total}
 use Rattle.gov_actions.specs.declared.action.Purpose.{Purpose}
 use Rattle.gov_actions.specs.declared.action.Purpose.TheVariants.{Committee, Constitution, HardFork, Parameters}
 use Rattle.gov_actions.specs.contracts.action.PurposePartialEq.TheImpl as purpose_eq

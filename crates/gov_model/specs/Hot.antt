@@ -3,8 +3,8 @@
 use Rattle.std.specs.Prelude.{ℕ, Bool, false, List, Option}
 use Rattle.std.specs.List.{list_any}
 use Rattle.maps.specs.Maps.{entries_where}
-use Rattle.gov_ids.specs.declared.Credential.{Credential}
-use Rattle.gov_ids.specs.Same.{same_credential}
+use Rattle.book_records.specs.of_gov_ids.declared.Credential.{Credential}
+use Rattle.book_records.specs.of_gov_ids.Same.{same_credential}
 use Rattle.gov_actions.specs.declared.action.Action.{Action}
 use Rattle.gov_actions.specs.declared.action.Action.TheVariants.{UpdateCommittee}
 use Rattle.gov_actions.specs.declared.state.Committee.{Committee}

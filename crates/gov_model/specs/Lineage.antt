@@ -2,8 +2,8 @@
 -- (CIP-1694, Governance actions: Content; GOV of the formal specification)
 use Rattle.std.specs.Prelude.{ℕ, ◌+◌, ◌==◌, Bool, true, false, ◌&&◌, ◌||◌, List, Option, Some, None, option_and_then}
 use Rattle.maps.specs.Words.{holds, same_option, some_and, none_or}
-use Rattle.gov_ids.specs.declared.ActionId.{ActionId}
-use Rattle.gov_ids.specs.Same.{same_action}
+use Rattle.book_records.specs.of_gov_ids.declared.ActionId.{ActionId}
+use Rattle.book_records.specs.of_gov_ids.Same.{same_action}
 use Rattle.gov_actions.specs.declared.action.Action.{Action}
 use Rattle.gov_actions.specs.declared.action.Action.TheVariants.{HardForkInitiation}
 use Rattle.gov_actions.specs.declared.action.Proposal.{Proposal}

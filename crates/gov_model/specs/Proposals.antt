@@ -3,10 +3,10 @@
 use Rattle.std.specs.Prelude.{ℕ, not, Bool, ◌&&◌, List, Option, filter, find, map, sum_by, if◌then◌else◌}
 use Rattle.maps.specs.Maps.{with_value, without_key}
 use Rattle.maps.specs.Words.{holds, same_option}
-use Rattle.gov_ids.specs.declared.ActionId.{ActionId}
-use Rattle.gov_ids.specs.declared.Voter.{Voter}
-use Rattle.gov_ids.specs.Orders.{voter_cmp}
-use Rattle.gov_ids.specs.Same.{same_action}
+use Rattle.book_records.specs.of_gov_ids.declared.ActionId.{ActionId}
+use Rattle.book_records.specs.of_gov_ids.declared.Voter.{Voter}
+use Rattle.book_records.specs.of_gov_ids.Orders.{voter_cmp}
+use Rattle.book_records.specs.of_gov_ids.Same.{same_action}
 use Rattle.gov_actions.specs.declared.action.Proposal.{Proposal}
 use Rattle.gov_actions.specs.declared.action.Purpose.{Purpose}
 use Rattle.gov_actions.specs.declared.action.Vote.{Vote}

@@ -3,10 +3,10 @@
 -- specification)
 use Rattle.std.specs.Prelude.{ℕ, ◌*◌, List, [], ◌∷◌, filter, map, nat_lt, unwrap_or, slice_get, if◌then◌else◌}
 use Rattle.std.specs.List.{reduce}
-use Rattle.coin_frac.specs.Fraction.{Fraction, fraction}
-use Rattle.pparams.specs.declared.Params.{Params}
-use Rattle.pparams.specs.declared.Update.{Update}
-use Rattle.pparams.specs.Marks.{Group, network, economic, technical, governance, touches}
+use Rattle.book_records.specs.of_coin_frac.Fraction.{Fraction, fraction}
+use Rattle.gov_actions.specs.of_pparams.declared.Params.{Params}
+use Rattle.gov_actions.specs.of_pparams.declared.Update.{Update}
+use Rattle.gov_actions.specs.of_pparams.Marks.{Group, network, economic, technical, governance, touches}
 
 -- 0/1
 abbrev pub zero_share : Fraction

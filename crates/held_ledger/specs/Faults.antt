@@ -1,6 +1,6 @@
 -- Why a genesis has no answer. (Own)
-use Rattle.live_ledger.specs.declared.fault.GenesisFault.{GenesisFault}
-use Rattle.live_ledger.specs.declared.fault.GenesisFault.TheVariants as genesis_faults
+use Rattle.shortfall.specs.of_live_ledger.declared.fault.GenesisFault.{GenesisFault}
+use Rattle.shortfall.specs.of_live_ledger.declared.fault.GenesisFault.TheVariants as genesis_faults
 use Rattle.replay_loop.specs.declared.fault.AnswerFault.{AnswerFault}
 use Rattle.replay_loop.specs.declared.fault.AnswerFault.TheVariants as answer_faults
 use Rattle.replay_loop.specs.declared.status.GenesisCause.TheVariants.{Broken}

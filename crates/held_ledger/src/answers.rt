@@ -12,14 +12,14 @@ ghost use Rattle.tx_records.specs.Rules.{plain_rule};
 
 use crate::crew::Crew;
 use crate::held::Held;
-use ledger_state::LedgerState;
 use listed::Boxed;
-use live_ledger::GenesisFault;
 use no_memory::NoMemory;
-use par_count::Gate;
 use record_rule::apply_record;
+use record_rule::of_par_count::Gate;
 use replay_loop::{AnswerFault, Answered, GenesisCause, Outcome};
 use report::PotsWord;
+use shortfall::of_ledger_state::LedgerState;
+use shortfall::of_live_ledger::GenesisFault;
 use std::alloc::Global;
 use std::thread::Threads;
 use tx_records::rules::{GENESIS_AGAIN, MALFORMED, TOO_LONG};

@@ -8,14 +8,14 @@ ghost use Rattle.shortfall_model.specs.ShortLines.{shortfall_lines};
 use bare_lines::Bare;
 use byte_lines::SinkFault;
 use certificate_print::put_certificate;
+use checkpoint_print::of_state_view::{put_assets, put_block, put_state};
 use checkpoint_print::put_checkpoint;
-use ledger_state::LedgerState;
 use listed::Boxed;
 use outlook::put_outlook;
 use replay_loop::{CertifiedState, LastState, RunState};
 use report::LineTaker;
+use shortfall::of_ledger_state::LedgerState;
 use shortfall::put_shortfall;
-use state_view::{put_assets, put_block, put_state};
 use std::alloc::Global;
 use tx_records::Pots;
 

@@ -8,3 +8,4 @@ mod held;
 pub use answers::answer;
 pub use crew::Crew;
 pub use held::Held;
+pub use outlook::of_epoch_rule;

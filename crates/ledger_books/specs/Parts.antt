@@ -1,13 +1,13 @@
 -- The World of a ledger's parts, together with what is frozen and counted.
 -- (NewEpochState of the formal specification)
 use Rattle.std.specs.Prelude.{◌≡◌, ◌≤◌, ℕ, List}
-use Rattle.book_records.specs.declared.Entry.{Entry}
+use Rattle.cert_pool.specs.of_book_records.declared.Entry.{Entry}
 use Rattle.gov_ids.specs.declared.Credential.{Credential}
 use Rattle.gov_ids.specs.Orders.{credential_cmp}
-use Rattle.gov_model.specs.Snapshot.{Snapshot}
+use Rattle.run_model.specs.of_gov_model.Snapshot.{Snapshot}
 use Rattle.ledger_books.specs.declared.Books.{Books}
-use Rattle.ledger_model.specs.Ledger.{Ledger}
-use Rattle.ledger_model.specs.Supply.{supply_of}
+use Rattle.run_model.specs.of_ledger_model.Ledger.{Ledger}
+use Rattle.run_model.specs.of_ledger_model.Supply.{supply_of}
 use Rattle.run_model.specs.World.{World}
 use Rattle.stake_book.specs.Stakes.{registrations}
 use Rattle.coin_frac.specs.declared.TheConstants.{SUPPLY_LIMIT}

@@ -4,15 +4,19 @@
 mod treasury;
 
 use cert_pool::PoolBook;
+pub use committee_book as of_committee_book;
 use committee_book::HotBook;
+use committee_book::of_gov_actions::EnactState;
+pub use drep_book as of_drep_book;
 use drep_book::DrepBook;
-use gov_actions::EnactState;
 use listed::Boxed;
+pub use proposal_store as of_proposal_store;
 use proposal_store::ProposalStore;
+use run_model::of_tx_records::Rewards;
+pub use snapshots as of_snapshots;
 use snapshots::Snapshots;
 use stake_book::StakeBook;
 pub use treasury::with_treasury;
-use tx_records::Rewards;
 
 /// All parts of a ledger except what is frozen and counted.
 /// (NewEpochState of the formal specification)

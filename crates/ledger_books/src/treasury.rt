@@ -1,7 +1,7 @@
 ghost use Rattle.std.specs.Prelude.{◌≡◌, IfOk};
 
 use coin_frac::NoMemory;
-use gov_actions::EnactState;
+use committee_book::of_gov_actions::EnactState;
 use listed::Boxed;
 use std::alloc::Global;
 

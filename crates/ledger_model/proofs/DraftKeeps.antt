@@ -9,18 +9,18 @@ use Rattle.gov_ids.specs.declared.Voter.{Voter}
 use Rattle.gov_ids.specs.declared.Voter.TheVariants as voter
 use Rattle.gov_ids.specs.Orders.{credential_cmp, pool_cmp, voter_cmp}
 use Rattle.gov_ids.proofs.Totals.{credential_total, pool_total}
-use Rattle.gov_actions.specs.declared.action.Proposal.{Proposal}
-use Rattle.gov_actions.specs.declared.action.Vote.{Vote}
-use Rattle.gov_actions.specs.declared.state.HotState.TheVariants.{Hot, Resigned}
+use Rattle.tx_records.specs.of_gov_actions.declared.action.Proposal.{Proposal}
+use Rattle.tx_records.specs.of_gov_actions.declared.action.Vote.{Vote}
+use Rattle.tx_records.specs.of_gov_actions.declared.state.HotState.TheVariants.{Hot, Resigned}
 use Rattle.gov_model.specs.Ratified.{ids_of}
 use Rattle.tx_records.specs.declared.cert.Cert.{Cert}
 use Rattle.tx_records.specs.declared.cert.Cert.TheVariants.{AccountReg, AccountUnreg, Delegate, PoolReg, PoolRetire, DrepReg, DrepUnreg, DrepUpdate, HotAuth, HotResign}
 use Rattle.tx_records.specs.declared.tx.Tx.{Tx}
 use Rattle.ledger_model.specs.Ledger.{Ledger}
-use Rattle.book_records.specs.Dormancy.{is_kept_active, extended}
-use Rattle.book_records.specs.Pools.{retiring}
+use Rattle.gov_model.specs.of_book_records.Dormancy.{is_kept_active, extended}
+use Rattle.gov_model.specs.of_book_records.Pools.{retiring}
 use Rattle.gov_model.specs.Proposals.{without_vote}
-use Rattle.book_records.specs.Delegations.{without_drep}
+use Rattle.gov_model.specs.of_book_records.Delegations.{without_drep}
 use Rattle.ledger_model.specs.Changes.{changed_by, delegating, emptied, has_voted, having_acted, is_withdrawn, new_account, new_drep, withdrawn, refreshed, voters_refreshed, dormant_added}
 use Rattle.ledger_model.specs.Draft.{draft_after, draft_with, is_refused}
 

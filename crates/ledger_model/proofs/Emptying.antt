@@ -7,7 +7,7 @@ use Rattle.gov_ids.proofs.Totals.{credential_total}
 use Rattle.gov_ids.specs.declared.Credential.{Credential}
 use Rattle.gov_ids.specs.Orders.{credential_cmp}
 use Rattle.gov_ids.specs.Same.{same_credential}
-use Rattle.book_records.specs.declared.Registered.{Registered}
+use Rattle.gov_model.specs.of_book_records.declared.Registered.{Registered}
 use Rattle.ledger_model.specs.Changes.{emptied}
 
 -- emptied at once, or first for the one and then for the others

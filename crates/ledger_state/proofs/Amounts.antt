@@ -5,7 +5,7 @@ use Rattle.gov_ids.specs.Orders.{credential_cmp}
 use Rattle.gov_ids.specs.contracts.CredentialOrd.TheImpl as credential_ord
 use Rattle.gov_ids.specs.Derived.{credential_is}
 use Rattle.maps.specs.Maps.{with_value, with_values}
-use Rattle.genesis_books.proofs.Walks.{walk_on}
+use Rattle.epoch_start.proofs.proofs_of_genesis_books.Walks.{walk_on}
 
 -- with these rewards
 abbrev pub with_rewards : List (Credential × ℕ) → List (Credential × ℕ) → List (Credential × ℕ)

@@ -23,12 +23,12 @@ use Rattle.tx_records.specs.declared.genesis.Genesis.{Genesis}
 use Rattle.gov_ids.specs.Orders.{credential_cmp}
 use Rattle.epoch_start.proofs.Begun.{entries_are}
 use Rattle.view_map.specs.View.{frozen_of}
-use Rattle.stake_book.specs.Stakes.{AreKept, Stakes, accounts_of, pool_stake_in, stake_held}
+use Rattle.live_ledger.specs.of_stake_book.Stakes.{AreKept, Stakes, accounts_of, pool_stake_in, stake_held}
 use Rattle.book_records.specs.declared.Registered.{Registered}
 use Rattle.gov_ids.specs.Same.{same_pool}
 use Rattle.maps.specs.Words.{holds}
-use Rattle.ledger_books.specs.declared.Books.{Books}
-use Rattle.ledger_books.specs.Parts.{frozen_entries, ledger_of_books}
+use Rattle.epoch_start.specs.of_ledger_books.declared.Books.{Books}
+use Rattle.epoch_start.specs.of_ledger_books.Parts.{frozen_entries, ledger_of_books}
 use Rattle.live_ledger.specs.Kept.{IsLiveLedger}
 use Rattle.live_ledger.specs.Standing.{Standing}
 use Rattle.live_ledger.specs.Standing.{on_ledger as on_live}

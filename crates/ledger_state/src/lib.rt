@@ -5,4 +5,6 @@ mod blocks;
 mod rewards;
 mod state;
 
+pub use live_ledger as of_live_ledger;
+pub use run_laws as of_run_laws;
 pub use state::LedgerState;

@@ -37,7 +37,7 @@ use Rattle.tx_balance.proofs.OutputParts.{IsPassed, collateral_once, collateral_
 use Rattle.tx_balance.proofs.Outputs.{made_from, made_not_there, made_once, not_there_after, sum-made}
 use Rattle.tx_balance.proofs.Sounds.{allowed_keeps_supply, allowed_stays_sound, new_used, tx_steady}
 use Rattle.proposal_store.specs.Store.{AllOrdered}
-use Rattle.run_model.specs.Laws.{IsWithinDormantBound}
+use Rattle.dormant_laws.specs.of_run_model.Laws.{IsWithinDormantBound}
 use Rattle.stake_book.specs.Stakes.{balances_in, without_dreps}
 use Rattle.coin_frac.specs.declared.TheConstants.{SUPPLY_LIMIT}
 use Rattle.draft_changes.specs.Balances.{NoneRises}

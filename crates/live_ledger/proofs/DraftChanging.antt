@@ -21,7 +21,7 @@ use Rattle.book_records.specs.Delegations.{delegates_to_drep, without_drep}
 use Rattle.ledger_model.specs.Changes.{dormant_added}
 use Rattle.ledger_model.specs.Ledger.{Ledger, account_at}
 use Rattle.dormant_laws.proofs.Dormant.{all_from_found}
-use Rattle.run_model.specs.Laws.{IsWithinDormantBound}
+use Rattle.dormant_laws.specs.of_run_model.Laws.{IsWithinDormantBound}
 use Rattle.stake_book.specs.Stakes.{delegates_to_dreps, without_dreps}
 use Rattle.draft_changes.specs.ChangedAccounts.{ChangedAccounts, ended, with_leaving}
 use Rattle.draft_changes.specs.ChangedAccounts as changed_accounts

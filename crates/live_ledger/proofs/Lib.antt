@@ -1,3 +1,4 @@
+pub use Rattle.tx_balance.proofs as proofs_of_tx_balance
 pub mod Puts
 pub mod Replacing
 pub mod Starting

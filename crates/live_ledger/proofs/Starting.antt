@@ -10,13 +10,13 @@ use Rattle.gov_actions.specs.declared.state.EnactState.{EnactState}
 use Rattle.gov_actions.specs.declared.state.HotState.{HotState}
 use Rattle.tx_records.proofs.Parts.{genesis_parts}
 use Rattle.tx_records.specs.declared.genesis.Genesis.{Genesis}
-use Rattle.run_model.specs.Genesis.{genesis_fault, hot_of_genesis, ledger_of_genesis, state_of_genesis}
+use Rattle.dormant_laws.specs.of_run_model.Genesis.{genesis_fault, hot_of_genesis, ledger_of_genesis, state_of_genesis}
 use Rattle.dormant_laws.proofs.Dormant.{genesis_timely}
 use Rattle.drep_book.specs.Dreps.{Dreps}
 use Rattle.stake_book.specs.Stakes.{Stakes, accounts_of}
 use Rattle.coin_frac.specs.declared.TheConstants.{SUPPLY_LIMIT}
 use Rattle.tx_records.specs.GenesisLimits.{is_within_limits}
-use Rattle.genesis_balance.proofs.Start.{genesis_holds_supply, genesis_is_sound, unbroken_genesis, seated_first}
+use Rattle.genesis_books.proofs.proofs_of_genesis_balance.Start.{genesis_holds_supply, genesis_is_sound, unbroken_genesis, seated_first}
 use Rattle.live_ledger.specs.Kept.{IsLiveLedger}
 
 -- the ledger with the parts that were made for it

@@ -16,7 +16,7 @@ use Rattle.drep_book.proofs.NoneAdded.{none_added}
 use Rattle.ledger_model.specs.Changes.{dormant_added}
 use Rattle.ledger_model.specs.Ledger.{Ledger}
 use Rattle.dormant_laws.proofs.Dormant.{all_from_found}
-use Rattle.run_model.specs.Laws.{IsWithinDormantBound}
+use Rattle.dormant_laws.specs.of_run_model.Laws.{IsWithinDormantBound}
 use Rattle.draft_changes.specs.ChangedDreps.{awakened}
 use Rattle.live_ledger.specs.Drafts.{IsTimely, having_drep}
 

@@ -3,7 +3,7 @@ use Rattle.std.specs.Prelude.{ℕ, ◌-◌, ◌*◌, ◌^◌, ◌≤◌}
 use Rattle.maps.specs.Maps.{IsMap}
 use Rattle.gov_ids.specs.Orders.{credential_cmp, pool_cmp}
 use Rattle.ledger_model.specs.Ledger.{Ledger}
-use Rattle.run_model.specs.Laws.{IsWithinDormantBound}
+use Rattle.dormant_laws.specs.of_run_model.Laws.{IsWithinDormantBound}
 use Rattle.draft_changes.specs.ChangedHot as changed_hot
 use Rattle.draft_changes.specs.ChangedHot.{ChangedHot}
 use Rattle.draft_changes.specs.ChangedPools as changed_pools

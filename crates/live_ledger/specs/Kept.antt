@@ -4,14 +4,14 @@ use Rattle.std.specs.List.{AllByRecursion}
 use Rattle.ledger_model.specs.Ledger.{Ledger, params_of}
 use Rattle.ledger_model.specs.Sound.{IsSound}
 use Rattle.ledger_model.specs.Supply.{supply_of}
-use Rattle.run_model.specs.Laws.{IsWithinDormantBound}
+use Rattle.dormant_laws.specs.of_run_model.Laws.{IsWithinDormantBound}
 use Rattle.coin_frac.specs.declared.TheConstants.{SUPPLY_LIMIT}
 use Rattle.gov_actions.specs.declared.action.Proposal.{Proposal}
 use Rattle.gov_ids.specs.Orders.{credential_cmp, txid_cmp}
 use Rattle.gov_model.specs.Sides.{members_of}
 use Rattle.maps.specs.Maps.{IsMap, has_member}
 use Rattle.proposal_store.specs.Store.{AllOrdered}
-use Rattle.ledger_books.specs.Parts.{frozen_entries, ledger_of_books}
+use Rattle.draft_changes.specs.of_ledger_books.Parts.{frozen_entries, ledger_of_books}
 use Rattle.live_ledger.specs.Standing.{Standing}
 use Rattle.live_ledger.specs.declared.state.LiveLedger.TheInside.{Inside}
 

@@ -1,3 +1,5 @@
+pub use Rattle.stake_book.specs as of_stake_book
+pub use Rattle.draft_changes.specs as of_draft_changes
 pub mod Kept
 pub mod Standing
 pub mod Starts

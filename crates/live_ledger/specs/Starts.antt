@@ -1,8 +1,8 @@
 -- The ledger of a genesis.
 use Rattle.std.specs.Prelude.{◌≡◌, Result, Ok, Err, Some, None}
 use Rattle.tx_records.specs.declared.genesis.Genesis.{Genesis}
-use Rattle.run_model.specs.Freeze.{entries_of}
-use Rattle.run_model.specs.Genesis.{genesis_fault, ledger_of_genesis}
+use Rattle.dormant_laws.specs.of_run_model.Freeze.{entries_of}
+use Rattle.dormant_laws.specs.of_run_model.Genesis.{genesis_fault, ledger_of_genesis}
 use Rattle.live_ledger.specs.declared.fault.GenesisFault.{GenesisFault}
 use Rattle.live_ledger.specs.declared.fault.GenesisFault.TheVariants as faults
 use Rattle.live_ledger.specs.Standing.{Standing}

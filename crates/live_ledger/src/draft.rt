@@ -10,13 +10,13 @@ ghost use Rattle.live_ledger.specs.Drafts.{IsDraftOf, IsTimely, deposit_in, draf
 ghost use Rattle.live_ledger.specs.Drafts.{with_account, with_drep, with_hot, with_pool, with_pool_registered};
 ghost use Rattle.live_ledger.specs.Drafts.{with_pool_retiring, with_refresh};
 ghost use Rattle.maps.specs.Maps.{IsMap, value_at};
-ghost use Rattle.run_model.specs.Laws.{IsWithinDormantBound};
+ghost use Rattle.dormant_laws.specs.of_run_model.Laws.{IsWithinDormantBound};
 
 use crate::state::LiveLedger;
 use book_records::{DrepState, Pool, PoolTerms, Registered};
-use cert_pool::registered;
 use coin_frac::NoMemory;
 use draft_changes::{AccountChanges, Changes, DrepChanges, HotChanges, PoolChanges};
+use genesis_books::of_cert_pool::registered;
 use gov_actions::HotState;
 use gov_ids::{Credential, PoolId};
 use std::alloc::Global;

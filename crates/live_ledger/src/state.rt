@@ -14,12 +14,12 @@ mod genesis;
 mod parts;
 
 use book_records::{DrepState, Pool};
-use cert_pool::PoolBook;
-use committee_book::{HotBook, is_member};
+use draft_changes::of_ledger_books::Books;
 use drep_book::DrepBook;
+use genesis_books::of_cert_pool::PoolBook;
+use genesis_books::of_committee_book::{HotBook, is_member};
 use gov_actions::EnactState;
 use gov_ids::{Credential, PoolId};
-use ledger_books::Books;
 use pparams::Params;
 use proposal_store::ProposalStore;
 use stake_book::StakeBook;

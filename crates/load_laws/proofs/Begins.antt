@@ -6,8 +6,8 @@ use Rattle.byte_lines.proofs.PieceLemmas.{pieces_of-feed}
 use Rattle.load_model.specs.Amounts.{registration_count}
 use Rattle.load_model.specs.Genesis.{genesis_line}
 use Rattle.load_model.specs.Stream.{bytes_of_lines, bytes_of_load, epoch_lines, registration_line}
-use Rattle.record_read.specs.LineFaults.{LineFault}
-use Rattle.record_read.specs.Lines.{record_of_line}
+use Rattle.record_stream.specs.of_record_read.LineFaults.{LineFault}
+use Rattle.record_stream.specs.of_record_read.Lines.{record_of_line}
 use Rattle.record_stream.specs.Records.{is_blank, records_from, records_of}
 use Rattle.run_model.specs.Genesis.{genesis_fault}
 use Rattle.tx_records.specs.declared.genesis.Genesis.{Genesis}

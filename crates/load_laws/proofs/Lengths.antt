@@ -10,7 +10,7 @@ use Rattle.load_model.specs.Genesis.{genesis_line}
 use Rattle.load_model.specs.Json.{joined, with_commas}
 use Rattle.load_model.specs.Names.{hash28, hash32, key, padded}
 use Rattle.load_model.specs.Stream.{account_cert, account_output, block_line, bytes_of_lines, drep_of, epoch_lines, left_output, proposing, registration_line, rewarding, transaction_begun, voting}
-use Rattle.text_model.specs.Words.{Text}
+use Rattle.load_model.specs.of_text_model.Words.{Text}
 use Rattle.load_laws.specs.Laws.{StreamsAreShort}
 
 -- ---- texts one after another

@@ -7,14 +7,14 @@ use Rattle.hex.proofs.OnLiterals.{hex_on_literals}
 use Rattle.serde_json.proofs.OnLiterals.{serde_json_on_literals}
 use Rattle.json_fields.specs.Entries.{both_in}
 use Rattle.json_fields.specs.Kinds.{ratio_in, unit_in}
-use Rattle.action_read.specs.Params.{fees_in, governance_group_in, incomes_in, network_group_in, technical_group_in, update_in}
-use Rattle.action_read.specs.Whole.{fee_params_of, governance_params_of, income_params_of, network_params_of, params_of_update, technical_params_of}
+use Rattle.record_stream.specs.of_action_read.Params.{fees_in, governance_group_in, incomes_in, network_group_in, technical_group_in, update_in}
+use Rattle.record_stream.specs.of_action_read.Whole.{fee_params_of, governance_params_of, income_params_of, network_params_of, params_of_update, technical_params_of}
 use Rattle.byte_lines.specs.Pieces.{has_feed, kept}
 use Rattle.load_model.specs.Genesis.{genesis_line}
-use Rattle.record_read.specs.Entries.{committee_in, genesis_drep_in, genesis_output_in, genesis_pool_in, member_in}
-use Rattle.record_read.specs.LineFaults.{LineFault}
-use Rattle.record_read.specs.Lines.{record_of_line}
-use Rattle.record_read.specs.Records.{founding_in, funds_in, genesis_in, registered_in, times_in}
+use Rattle.record_stream.specs.of_record_read.Entries.{committee_in, genesis_drep_in, genesis_output_in, genesis_pool_in, member_in}
+use Rattle.record_stream.specs.of_record_read.LineFaults.{LineFault}
+use Rattle.record_stream.specs.of_record_read.Lines.{record_of_line}
+use Rattle.record_stream.specs.of_record_read.Records.{founding_in, funds_in, genesis_in, registered_in, times_in}
 use Rattle.record_stream.specs.Records.{is_blank}
 use Rattle.run_model.specs.Genesis.{genesis_fault}
 use Rattle.tx_records.specs.declared.limits.TheConstants.{LINE_LIMIT}

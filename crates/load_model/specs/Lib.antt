@@ -1,3 +1,4 @@
+pub use Rattle.text_model.specs as of_text_model
 pub mod Json
 pub mod Names
 pub mod Amounts

@@ -9,11 +9,11 @@ use Rattle.tx_records.specs.declared.record.Reading.{Reading}
 use Rattle.tx_records.specs.declared.record.Reading.TheVariants.{Read}
 use Rattle.tx_records.specs.declared.record.Record.{Record}
 use Rattle.tx_records.specs.declared.record.Record.TheVariants as records
-use Rattle.ledger_model.specs.Supply.{pots_of}
-use Rattle.run_model.specs.Genesis.{world_of_genesis}
-use Rattle.run_model.specs.Report.{report_of}
-use Rattle.run_model.specs.Step.{enters_next, refusal_of}
-use Rattle.run_model.specs.World.{World}
+use Rattle.text_model.specs.of_ledger_model.Supply.{pots_of}
+use Rattle.text_model.specs.of_run_model.Genesis.{world_of_genesis}
+use Rattle.text_model.specs.of_run_model.Report.{report_of}
+use Rattle.text_model.specs.of_run_model.Step.{enters_next, refusal_of}
+use Rattle.text_model.specs.of_run_model.World.{World}
 use Rattle.text_model.specs.Runs.{world_after_reading}
 use Rattle.load_model.specs.declared.summary.LoadSummary.{LoadSummary}
 

@@ -1,11 +1,11 @@
 //! With what each line of what is frozen begins.
 
 use crate::one::NamedLines;
-use book_kinds::{
-    AccountLines, ExpiryLines, HotLines, PoolAccountLines, ProposalIdLines, VoteLines,
-};
 use line_kinds::Frozen;
 use state_kinds::TreasuryLines;
+use state_kinds::of_book_kinds::{
+    AccountLines, ExpiryLines, HotLines, PoolAccountLines, ProposalIdLines, VoteLines,
+};
 
 impl NamedLines for Frozen<TreasuryLines> {
     ghost use Rattle.std.specs.Prelude.{codes};

@@ -1,7 +1,7 @@
 //! With what each line of a state begins.
 
 use crate::one::NamedLines;
-use book_kinds::{
+use state_kinds::of_book_kinds::{
     AccountLines, AssetLines, DrepLines, GoLines, HotLines, MarkLines, NextLines, OutputLines,
     PoolLines, RewardLines, SetLines, UsedLines, VoteLines,
 };

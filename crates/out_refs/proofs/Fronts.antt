@@ -8,10 +8,10 @@ use Rattle.gov_ids.specs.declared.OutRef.{OutRef}
 use Rattle.gov_ids.specs.Orders.{outref_cmp}
 use Rattle.gov_ids.specs.Same.{same_outref}
 use Rattle.gov_ids.proofs.Totals.{outref_total}
-use Rattle.maps.proofs.Joined.{no_from_not, or_swap, yes_from_not}
-use Rattle.maps.proofs.Sets.{has_member-with_key}
-use Rattle.maps.specs.Maps.{has_member, with_key}
-use Rattle.maps.specs.Words.{among, fronts_from}
+use Rattle.gov_ids.proofs.proofs_of_maps.Joined.{no_from_not, or_swap, yes_from_not}
+use Rattle.gov_ids.proofs.proofs_of_maps.Sets.{has_member-with_key}
+use Rattle.gov_ids.specs.of_maps.Maps.{has_member, with_key}
+use Rattle.gov_ids.specs.of_maps.Words.{among, fronts_from}
 use Rattle.out_refs.specs.Repeated.{is_among_front, place_of}
 
 -- the first of these that is repeated, where front stands before them

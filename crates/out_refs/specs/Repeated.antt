@@ -2,7 +2,7 @@
 use Rattle.std.specs.Prelude.{ℕ, Bool, List, Option, find, length, option_map}
 use Rattle.gov_ids.specs.declared.OutRef.{OutRef}
 use Rattle.gov_ids.specs.Same.{same_outref}
-use Rattle.maps.specs.Words.{among, with_fronts}
+use Rattle.gov_ids.specs.of_maps.Words.{among, with_fronts}
 
 -- a reference is among those before it
 abbrev pub is_among_front : List OutRef × OutRef → Bool

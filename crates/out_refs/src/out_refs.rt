@@ -3,7 +3,7 @@ ghost use Rattle.out_refs.specs.Repeated.{first_repeated};
 
 use crate::repeats::first_repeated;
 use gov_ids::OutRef;
-use no_memory::NoMemory;
+use gov_ids::of_no_memory::NoMemory;
 use std::alloc::Global;
 use std::marker::Model;
 

@@ -1,11 +1,11 @@
 // Finds the first repeated reference: pair by pair in a short list, with a set in a longer one.
 ghost use Rattle.std.specs.Prelude.{◌≡◌, IfOk, take};
 ghost use Rattle.gov_ids.specs.Same.{same_outref};
-ghost use Rattle.maps.specs.Words.{among};
+ghost use Rattle.gov_ids.specs.of_maps.Words.{among};
 ghost use Rattle.out_refs.specs.Repeated.{first_repeated};
 
 use gov_ids::OutRef;
-use no_memory::NoMemory;
+use gov_ids::of_no_memory::NoMemory;
 use std::alloc::Global;
 use std::collections::BTreeSet;
 

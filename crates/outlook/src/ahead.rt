@@ -4,7 +4,7 @@ ghost use Rattle.report.specs.Taking.{HasPut};
 
 use byte_lines::SinkFault;
 use epoch_rule::cross_alone;
-use ledger_state::LedgerState;
+use epoch_rule::of_ledger_state::LedgerState;
 use report::{LineTaker, put_each, put_one};
 use std::alloc::Global;
 use tx_records::EpochReport;

@@ -4,3 +4,4 @@
 mod ahead;
 
 pub use ahead::put_outlook;
+pub use epoch_rule as of_epoch_rule;

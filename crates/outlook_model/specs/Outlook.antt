@@ -1,13 +1,13 @@
 -- The tallies of two boundaries in a row: the frozen votes count at the first, today's votes at the
 -- second. (Own; the boundaries are those of the formal specification)
 use Rattle.std.specs.Prelude.{ℕ, Bool, List, [], ◌∷◌, ◌++◌, ◌^◌, Option, if◌then◌else◌, map, nat_lt, option_map}
-use Rattle.run_model.specs.Boundary.{world_after_boundary}
-use Rattle.run_model.specs.Report.{report_of}
-use Rattle.run_model.specs.World.{World}
+use Rattle.text_forms.specs.of_run_model.Boundary.{world_after_boundary}
+use Rattle.text_forms.specs.of_run_model.Report.{report_of}
+use Rattle.text_forms.specs.of_run_model.World.{World}
 use Rattle.text_forms.specs.Lines.{text_of_bare}
 use Rattle.text_forms.specs.Worlds.{world_of_readings}
-use Rattle.text_model.specs.EpochLines.{epoch_words, tally_words}
-use Rattle.text_model.specs.Words.{Text}
+use Rattle.text_forms.specs.of_text_model.EpochLines.{epoch_words, tally_words}
+use Rattle.text_forms.specs.of_text_model.Words.{Text}
 use Rattle.tx_records.specs.declared.record.Reading.{Reading}
 use Rattle.tx_records.specs.declared.report.EpochReport.{EpochReport}
 

@@ -5,7 +5,7 @@ use Rattle.gov_ids.specs.declared.Credential.{Credential}
 use Rattle.gov_ids.specs.Orders.{credential_cmp}
 use Rattle.book_records.specs.declared.Registered.{Registered}
 use Rattle.maps.specs.Maps.{each_value, has_key}
-use Rattle.run_model.specs.Boundary.{amount_to}
+use Rattle.ledger_books.specs.of_run_model.Boundary.{amount_to}
 
 -- each account has its amounts: the accounts of run_model's `credited`
 abbrev pub accounts_credited : List (Credential × ℕ) → List (Credential × Registered) → List (Credential × Registered)

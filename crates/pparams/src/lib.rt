@@ -4,6 +4,7 @@
 mod marks;
 mod overlay;
 
+pub use coin_frac as of_coin_frac;
 use coin_frac::{Ratio, Unit};
 
 /// The protocol parameters. Those that no rule here reads are kept and printed.

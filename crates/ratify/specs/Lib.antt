@@ -1,3 +1,4 @@
+pub use Rattle.tally.specs as of_tally
 pub mod Passes
 pub mod Outcomes
 pub mod Wholes

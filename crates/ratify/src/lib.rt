@@ -10,3 +10,5 @@ mod ready;
 pub use laws::whole_is_ratified;
 pub use outcome::{Outcome, ratify, ratify_tallied};
 pub use passing::Passing;
+pub use tally as of_tally;
+pub use tally::of_drep_pulser;

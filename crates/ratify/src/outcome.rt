@@ -9,7 +9,6 @@ ghost use Rattle.tally.specs.Counted.{CanBeCounted, ForSnapshot};
 
 use crate::pass::Pass;
 use coin_frac::NoMemory;
-use drep_pulser::Counted;
 use gov_actions::{EnactState, Proposal, Tally};
 use gov_ids::ActionId;
 use listed::Listed;
@@ -17,6 +16,7 @@ use maps::set_of;
 use snapshots::Frozen;
 use std::alloc::Global;
 use std::collections::BTreeSet;
+use tally::of_drep_pulser::Counted;
 use tally::{TallyCell, fill_cells};
 
 /// The result of the pass over a frozen epoch. (RatifyState of the formal specification)

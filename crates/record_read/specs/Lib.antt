@@ -1,3 +1,4 @@
+pub use Rattle.action_read.specs as of_action_read
 pub mod Faults
 pub mod LineFaults
 pub mod Fields

@@ -5,8 +5,8 @@ use Rattle.ledger_model.specs.Checks.{breaks, breaks_keeping, first_among}
 use Rattle.ledger_model.specs.Ledger.{Ledger}
 use Rattle.ledger_model.specs.Transaction.{tx_step, tx_step_by}
 use Rattle.ledger_model.specs.Broken.{first_broken}
-use Rattle.ledger_state.proofs.Steps.{block_stays, step_accepted}
-use Rattle.run_laws.proofs.GoodBlock.{boundary_epoch, boundary_length, update_only}
+use Rattle.epoch_rule.proofs.proofs_of_ledger_state.Steps.{block_stays, step_accepted}
+use Rattle.epoch_rule.proofs.proofs_of_run_laws.GoodBlock.{boundary_epoch, boundary_length, update_only}
 use Rattle.run_model.specs.Boundary.{world_after_boundary}
 use Rattle.run_model.specs.Step.{block_checks, crossed, enters_next, epoch_at, pulsed, step, step_by, world_after_block}
 use Rattle.run_model.specs.World.{World, on_ledger}

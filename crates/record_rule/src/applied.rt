@@ -1,6 +1,6 @@
 ghost use Rattle.std.specs.Prelude.{◌≡◌, None};
 
-use ledger_state::LedgerState;
+use epoch_rule::of_ledger_state::LedgerState;
 use tx_records::{EpochReport, Reply};
 
 /// A ledger after a record, and what the record was answered.

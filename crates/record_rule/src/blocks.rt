@@ -6,9 +6,9 @@ ghost use Rattle.tx_records.specs.declared.record.Record.TheVariants as records;
 
 use crate::applied::Applied;
 use epoch_rule::cross;
-use ledger_state::LedgerState;
+use epoch_rule::of_ledger_state::LedgerState;
+use epoch_rule::of_par_count::Gate;
 use no_memory::NoMemory;
-use par_count::Gate;
 use std::alloc::Global;
 use std::thread::Threads;
 use tx_records::Reply;

@@ -6,4 +6,5 @@ mod blocks;
 mod records;
 
 pub use applied::Applied;
+pub use epoch_rule::of_par_count;
 pub use records::apply_record;

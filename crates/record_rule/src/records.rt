@@ -5,9 +5,9 @@ ghost use Rattle.tx_records.specs.RecordLimits.{is_within_limits};
 
 use crate::applied::Applied;
 use crate::blocks::apply_block;
-use ledger_state::LedgerState;
+use epoch_rule::of_ledger_state::LedgerState;
+use epoch_rule::of_par_count::Gate;
 use no_memory::NoMemory;
-use par_count::Gate;
 use std::alloc::Global;
 use std::thread::Threads;
 use tx_records::rules::GENESIS_AGAIN;

@@ -4,3 +4,4 @@
 mod reading;
 
 pub use reading::read_line;
+pub use record_read as of_record_read;

@@ -19,8 +19,8 @@ use Rattle.tx_records.specs.declared.reply.Rule.{Rule}
 use Rattle.tx_records.specs.declared.tx.Scripts.{Scripts}
 use Rattle.tx_records.specs.declared.tx.Scripts.TheVariants as scripts
 use Rattle.byte_lines.specs.Pieces.{lines_of}
-use Rattle.record_read.specs.LineFaults as faults
-use Rattle.record_read.specs.Lines.{record_of_line}
+use Rattle.record_stream.specs.of_record_read.LineFaults as faults
+use Rattle.record_stream.specs.of_record_read.Lines.{record_of_line}
 use Rattle.replay_loop.specs.Laws.{LinesAreWithin, LinesReach, RefusedChangesNothing, SupplyStays, are_within, world_after_readings}
 use Rattle.tx_records.specs.declared.limits.TheConstants.{LINE_LIMIT}
 use Rattle.record_stream.specs.Records.{is_blank, is_within, reading_by, records_from}

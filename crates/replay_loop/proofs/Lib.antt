@@ -1,3 +1,5 @@
+pub use Rattle.run_laws.proofs as proofs_of_run_laws
+pub use Rattle.gathered_lines.proofs as proofs_of_gathered_lines
 pub mod Numbers
 pub mod Lines
 pub mod Counts

@@ -1,3 +1,4 @@
+pub use Rattle.certificate_model.specs as of_certificate_model
 pub mod Runs
 pub mod Laws
 pub mod Statuses

@@ -3,7 +3,7 @@ ghost use Rattle.replay_loop.specs.Laws.{LinesAreWithin, LinesReach, RefusedChan
 ghost use Rattle.replay_loop.specs.Certificates.{DoneCertifyIsWhole};
 ghost use Rattle.replay_loop.specs.Lasts.{DoneCheckpointIsWhole, DoneOutlookIsWhole, DoneShortfallIsWhole};
 
-use record_read::lines_read_within_limits;
+use record_stream::of_record_read::lines_read_within_limits;
 use run_laws::{assets_change_by_mint, supply_stays};
 
 /// What holds of every run. It does nothing.

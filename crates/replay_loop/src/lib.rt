@@ -19,6 +19,7 @@ mod told_texts;
 
 pub use every_run::laws;
 pub use fault::{AnswerFault, Answered};
+pub use gathered_lines as of_gathered_lines;
 pub use loading::load;
 pub use outcome::Outcome;
 pub use records::Records;

@@ -13,7 +13,7 @@ use crate::teller::Teller;
 use byte_lines::{Sink, SinkFault};
 use line_runs::{LineCommand, RunFault};
 use no_memory::NoMemory;
-use record_read::Scratch;
+use record_stream::of_record_read::Scratch;
 use record_stream::read_line;
 use std::alloc::Global;
 use tx_records::Reading;

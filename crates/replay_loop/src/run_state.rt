@@ -54,7 +54,7 @@ pub trait RunState: Sized {
 /// A state that can say at the end of a run what it comes to, in lines without numbers. Each call
 /// consumes the state.
 pub trait LastState: RunState {
-    ghost use Rattle.bare_lines.specs.Bare.{bare, bare_part};
+    ghost use Rattle.gathered_lines.specs.of_bare_lines.Bare.{bare, bare_part};
     ghost use Rattle.checkpoint_model.specs.Checkpoint.{checkpoint_lines};
     ghost use Rattle.outlook_model.specs.Outlook.{outlook_lines};
     ghost use Rattle.report.specs.Taking.{HasPut};
@@ -94,7 +94,7 @@ pub trait LastState: RunState {
 /// A state whose epoch can be certified before a block ends it.
 pub trait CertifiedState: RunState {
     ghost use Rattle.std.specs.Prelude.{◌≡◌};
-    ghost use Rattle.bare_lines.specs.Bare.{bare, bare_part};
+    ghost use Rattle.gathered_lines.specs.of_bare_lines.Bare.{bare, bare_part};
     ghost use Rattle.certificate_model.specs.Certificate.{certificate_lines};
     ghost use Rattle.replay_loop.specs.Certificates.{ends_epoch};
     ghost use Rattle.report.specs.Taking.{HasPut};

@@ -11,7 +11,7 @@ use crate::status::GenesisCause;
 use crate::teller::Teller;
 use byte_lines::{Lines, Sink, Source};
 use line_runs::{RunFault, run_lines};
-use record_read::Scratch;
+use record_stream::of_record_read::Scratch;
 use std::alloc::Global;
 use tx_records::Reading;
 use tx_records::limits::{LINE_LIMIT, STREAM_LIMIT};

@@ -16,7 +16,7 @@ use tx_records::Reading;
 // The lines of the end of a run, over its last state.
 pub(crate) trait LastLines<R: RunState> {
     ghost use Rattle.std.specs.Prelude.{◌≡◌, ℕ, List};
-    ghost use Rattle.bare_lines.specs.Bare.{bare, bare_part};
+    ghost use Rattle.gathered_lines.specs.of_bare_lines.Bare.{bare, bare_part};
     ghost use Rattle.gathered_lines.specs.Through.{HaveWords};
     ghost use Rattle.report.specs.Taking.{HasPut};
     ghost use Rattle.run_model.specs.World.{World};

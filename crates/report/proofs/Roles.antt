@@ -1,7 +1,7 @@
 -- The counts and needs of the roles, some after others.
 use Rattle.std.proofs.Common.{◌≡◌, ℕ, List, [], ◌∷◌, ◌++◌, codes, flat_map, zip, length, slice_index_or, ap, sym, ◌∙◌, append_assoc, refl, arith}
 use Rattle.std.proofs.lemmas.Grind.{flat_map-append}
-use Rattle.gov_actions.specs.declared.tally.Need.{Need}
+use Rattle.text_model.specs.of_gov_actions.declared.tally.Need.{Need}
 use Rattle.text_model.specs.EpochLines.{role_texts, role_words}
 use Rattle.text_model.specs.Words.{Text, spaced}
 

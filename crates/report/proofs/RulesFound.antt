@@ -1,6 +1,6 @@
 -- A rule's text, found in the table.
 use Rattle.std.proofs.Common.{◌≡◌, ℕ, ◌==◌, Bool, true, false, List, [], ◌∷◌, Option, Some, None, find, map, option_map, cond, refl, ap, ◌∙◌, Bor}
-use Rattle.tx_records.specs.RuleTexts as texts
+use Rattle.text_model.specs.of_tx_records.RuleTexts as texts
 use Rattle.report.specs.declared.rule_texts.RuleText.{RuleText}
 use Rattle.report.specs.RuleNames.{text_seen}
 

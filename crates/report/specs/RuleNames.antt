@@ -1,7 +1,7 @@
 -- The texts of rules as the program holds them. (Own)
 use Rattle.std.specs.Prelude.{map}
-use Rattle.tx_records.specs.RuleTexts as texts
-use Rattle.tx_records.specs.RuleTexts.{rule_text}
+use Rattle.text_model.specs.of_tx_records.RuleTexts as texts
+use Rattle.text_model.specs.of_tx_records.RuleTexts.{rule_text}
 use Rattle.report.specs.declared.rule_texts.RuleText.{RuleText}
 
 -- a rule's text, with its words as texts

@@ -10,7 +10,7 @@ use crate::pots::PotsWord;
 use byte_lines::SinkFault;
 use no_memory::NoMemory;
 use std::alloc::Global;
-use tx_records::{EpochReport, Pots};
+use text_model::of_tx_records::{EpochReport, Pots};
 
 /// Hands over the epoch that begins, its stakes and its tallies.
 fn put_count<T: LineTaker>(

@@ -9,10 +9,10 @@ ghost use Rattle.report.specs.WordTexts.{word_text};
 use crate::lines::Printed;
 use crate::parts::{Word, push_line, push_parts};
 use crate::words::{end_line, push_digits, push_word};
-use gov_actions::{ActionKind, Need, Tally, Verdict};
 use gov_ids::{Account, Drep};
 use no_memory::NoMemory;
-use tx_records::{EpochReport, Paid, Removed, Retired, Why};
+use text_model::of_gov_actions::{ActionKind, Need, Tally, Verdict};
+use text_model::of_tx_records::{EpochReport, Paid, Removed, Retired, Why};
 
 /// The type of an action, as in lines. (Own)
 pub fn kind_name(kind: ActionKind) -> &'static str

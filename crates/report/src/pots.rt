@@ -1,5 +1,5 @@
 ghost use Rattle.std.specs.Prelude.{◌≡◌, ◌++◌, ◌∷◌, flat_map, OnOk};
-ghost use Rattle.ledger_model.specs.Supply.{total_of};
+ghost use Rattle.text_model.specs.of_ledger_model.Supply.{total_of};
 ghost use Rattle.text_model.specs.Replies.{pots_words};
 ghost use Rattle.text_model.specs.Words.{Text, line_of, spaced};
 ghost use Rattle.report.specs.Amounts.{amount_words};
@@ -8,7 +8,7 @@ ghost use Rattle.report.specs.PotsWords.{pots_word_text};
 use crate::lines::Printed;
 use crate::words::{end_line, push_amounts, push_digits, push_word};
 use no_memory::NoMemory;
-use tx_records::Pots;
+use text_model::of_tx_records::Pots;
 
 /// The word before the pots in their line. (Own)
 #[derive(Clone, Copy)]

@@ -1,5 +1,5 @@
 ghost use Rattle.std.specs.Prelude.{◌≡◌, ◌++◌, ◌∷◌, map, zip, flat_map, OnOk, Some};
-ghost use Rattle.tx_records.specs.declared.reply.Reply.TheVariants.{Refused};
+ghost use Rattle.text_model.specs.of_tx_records.declared.reply.Reply.TheVariants.{Refused};
 ghost use Rattle.text_model.specs.Replies.{bracketed, place_words, refusal_words, reply_words, what_words};
 ghost use Rattle.text_model.specs.Words.{line_of, spaced};
 ghost use Rattle.report.specs.Amounts.{amount_words};
@@ -8,7 +8,7 @@ ghost use Rattle.report.specs.RuleNames.{text_seen};
 use crate::rule_texts::{RuleText, text_of};
 use crate::words::{begin, end_line, push_digits, push_number, push_word};
 use no_memory::NoMemory;
-use tx_records::{FieldName, Reply, Rule, rules};
+use text_model::of_tx_records::{FieldName, Reply, Rule, rules};
 
 /// Adds the place of a refusal, if it has one.
 fn push_place(line: &mut Vec<u8>, place: Option<u32>) -> Result<(), NoMemory>

@@ -1,8 +1,8 @@
 ghost use Rattle.std.specs.Prelude.{◌≡◌, ◌==◌, find, map, option_map};
-ghost use Rattle.tx_records.specs.RuleTexts.{rule_texts, text_of_rule};
+ghost use Rattle.text_model.specs.of_tx_records.RuleTexts.{rule_texts, text_of_rule};
 ghost use Rattle.report.specs.RuleNames.{text_seen};
 
-use tx_records::rules;
+use text_model::of_tx_records::rules;
 
 /// A rule's number, its name, and the words of the numbers that it keeps.
 #[derive(Clone, Copy)]

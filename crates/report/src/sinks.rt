@@ -8,7 +8,7 @@ ghost use Rattle.text_model.specs.Runs.{text_of_lines};
 use crate::boundaries::put_epoch;
 use crate::lines::LineTaker;
 use byte_lines::{Sink, SinkFault, put_all};
-use tx_records::{EpochReport, Pots};
+use text_model::of_tx_records::{EpochReport, Pots};
 
 impl<K: Sink> LineTaker for K {
     ghost use Rattle.std.specs.Prelude.{ℕ, List, Option};

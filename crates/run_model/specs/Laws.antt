@@ -1,34 +1,34 @@
 -- The laws on every World that records reach, stated here, proved where a public call cites them.
 use Rattle.std.specs.Prelude.{◌≡◌, ◌+◌, ◌^◌, ◌≤◌, ◌<◌, ◌⊎◌, ℤ, List, [], Some, None, Contains, true}
 use Rattle.std.specs.List.{AllZip, list_all}
-use Rattle.assets.specs.Quantities.{all_burned, all_minted, quantity_of}
+use Rattle.ledger_model.specs.of_assets.Quantities.{all_burned, all_minted, quantity_of}
 use Rattle.maps.specs.Maps.{value_at}
 use Rattle.gov_ids.specs.Orders.{credential_cmp}
 use Rattle.gov_ids.specs.declared.ActionId.{ActionId}
 use Rattle.gov_ids.specs.declared.assets.AssetId.{AssetId}
 use Rattle.gov_ids.specs.declared.Credential.{Credential}
-use Rattle.book_records.specs.declared.DrepState.{DrepState}
-use Rattle.book_records.specs.Outputs.{assets_in}
-use Rattle.gov_actions.specs.declared.action.Proposal.{Proposal}
-use Rattle.gov_model.specs.Laws.{IsOneOrNoneDelays}
-use Rattle.gov_model.specs.Ratified.{IsRatified, ratified_of}
-use Rattle.tx_records.specs.declared.record.Record.{Record}
-use Rattle.tx_records.specs.declared.record.Record.TheVariants as records
-use Rattle.tx_records.specs.declared.record.Rewards.{Rewards}
-use Rattle.tx_records.specs.declared.reply.Reply.{Reply}
-use Rattle.tx_records.specs.declared.reply.Reply.TheVariants as replies
+use Rattle.ledger_model.specs.of_book_records.declared.DrepState.{DrepState}
+use Rattle.ledger_model.specs.of_book_records.Outputs.{assets_in}
+use Rattle.ledger_model.specs.of_gov_actions.declared.action.Proposal.{Proposal}
+use Rattle.ledger_model.specs.of_gov_model.Laws.{IsOneOrNoneDelays}
+use Rattle.ledger_model.specs.of_gov_model.Ratified.{IsRatified, ratified_of}
+use Rattle.ledger_model.specs.of_tx_records.declared.record.Record.{Record}
+use Rattle.ledger_model.specs.of_tx_records.declared.record.Record.TheVariants as records
+use Rattle.ledger_model.specs.of_tx_records.declared.record.Rewards.{Rewards}
+use Rattle.ledger_model.specs.of_tx_records.declared.reply.Reply.{Reply}
+use Rattle.ledger_model.specs.of_tx_records.declared.reply.Reply.TheVariants as replies
 use Rattle.ledger_model.specs.Ledger.{Ledger}
 use Rattle.ledger_model.specs.Supply.{pots_of, supply_of}
 use Rattle.ledger_model.specs.Moves.{IsMovedBy}
 use Rattle.run_model.specs.World.{World}
 use Rattle.run_model.specs.Boundary.{enacted_proposals}
 use Rattle.run_model.specs.BoundaryFlows.{flows_of}
-use Rattle.tx_records.specs.GenesisLimits as genesis_limits
-use Rattle.tx_records.specs.RecordLimits.{is_within_limits}
+use Rattle.ledger_model.specs.of_tx_records.GenesisLimits as genesis_limits
+use Rattle.ledger_model.specs.of_tx_records.RecordLimits.{is_within_limits}
 use Rattle.run_model.specs.Step.{step, rewards_in, rewards_out}
 use Rattle.run_model.specs.Runs.{IsReached, replies_of, world_after_all, counted_of}
 use Rattle.run_model.specs.Genesis.{genesis_fault, world_of_genesis}
-use Rattle.tx_records.specs.declared.genesis.Genesis.{Genesis}
+use Rattle.ledger_model.specs.of_tx_records.declared.genesis.Genesis.{Genesis}
 
 -- the balance of flows: each record moves the pots by its flows
 abbrev pub FlowsBalance : Type 0

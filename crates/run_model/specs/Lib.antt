@@ -1,3 +1,11 @@
+pub use Rattle.ledger_model.specs.of_coin_frac
+pub use Rattle.ledger_model.specs.of_assets
+pub use Rattle.ledger_model.specs.of_pparams
+pub use Rattle.ledger_model.specs.of_gov_actions
+pub use Rattle.ledger_model.specs.of_book_records
+pub use Rattle.ledger_model.specs.of_tx_records
+pub use Rattle.ledger_model.specs.of_gov_model
+pub use Rattle.ledger_model.specs as of_ledger_model
 pub mod World
 pub mod Freeze
 pub mod Boundary

@@ -1,12 +1,12 @@
 -- The laws that records keep a World sound; src/ of run_laws has a function for each law. (Own)
 use Rattle.std.specs.Prelude.{◌≡◌, ℕ, ◌+◌, ◌≤◌, None, true, sum_by}
 use Rattle.gov_ids.specs.declared.Drep.TheVariants as drep
-use Rattle.tx_records.specs.declared.genesis.Genesis.{Genesis}
-use Rattle.tx_records.specs.declared.record.Record.{Record}
-use Rattle.tx_records.specs.GenesisLimits as genesis_limits
-use Rattle.tx_records.specs.RecordLimits.{is_within_limits}
-use Rattle.gov_model.specs.Snapshot.{Snapshot}
-use Rattle.gov_model.specs.Stake.{drep_stake, pool_stake}
+use Rattle.ledger_model.specs.of_tx_records.declared.genesis.Genesis.{Genesis}
+use Rattle.ledger_model.specs.of_tx_records.declared.record.Record.{Record}
+use Rattle.ledger_model.specs.of_tx_records.GenesisLimits as genesis_limits
+use Rattle.ledger_model.specs.of_tx_records.RecordLimits.{is_within_limits}
+use Rattle.ledger_model.specs.of_gov_model.Snapshot.{Snapshot}
+use Rattle.ledger_model.specs.of_gov_model.Stake.{drep_stake, pool_stake}
 use Rattle.run_model.specs.Genesis.{genesis_fault, world_of_genesis}
 use Rattle.run_model.specs.SoundWorld.{AreSoundStakes, IsSoundSnapshot, IsSoundWorld}
 use Rattle.run_model.specs.Step.{step}

@@ -5,17 +5,17 @@ use Rattle.maps.specs.Maps.{IsMap, has_member, sum_values}
 use Rattle.maps.specs.Words.{amount}
 use Rattle.gov_ids.specs.declared.PoolId.{PoolId}
 use Rattle.gov_ids.specs.Orders.{credential_cmp, pool_cmp, txid_cmp, voter_cmp}
-use Rattle.pparams.specs.declared.Update.{Update}
-use Rattle.book_records.specs.declared.Entry.{Entry}
-use Rattle.book_records.specs.declared.Registered.{Registered}
-use Rattle.gov_actions.specs.declared.action.Action.{Action}
-use Rattle.gov_actions.specs.declared.action.Proposal.{Proposal}
-use Rattle.coin_frac.specs.declared.TheConstants.{SUPPLY_LIMIT}
-use Rattle.gov_model.specs.Enacted.{update_of}
-use Rattle.gov_model.specs.Laws.{HaveDistinctIds}
-use Rattle.gov_model.specs.Proposals.{deposits_of}
-use Rattle.gov_model.specs.Sides.{members_of}
-use Rattle.gov_model.specs.Snapshot.{Snapshot, entry_count}
+use Rattle.ledger_model.specs.of_pparams.declared.Update.{Update}
+use Rattle.ledger_model.specs.of_book_records.declared.Entry.{Entry}
+use Rattle.ledger_model.specs.of_book_records.declared.Registered.{Registered}
+use Rattle.ledger_model.specs.of_gov_actions.declared.action.Action.{Action}
+use Rattle.ledger_model.specs.of_gov_actions.declared.action.Proposal.{Proposal}
+use Rattle.ledger_model.specs.of_coin_frac.declared.TheConstants.{SUPPLY_LIMIT}
+use Rattle.ledger_model.specs.of_gov_model.Enacted.{update_of}
+use Rattle.ledger_model.specs.of_gov_model.Laws.{HaveDistinctIds}
+use Rattle.ledger_model.specs.of_gov_model.Proposals.{deposits_of}
+use Rattle.ledger_model.specs.of_gov_model.Sides.{members_of}
+use Rattle.ledger_model.specs.of_gov_model.Snapshot.{Snapshot, entry_count}
 use Rattle.ledger_model.specs.Ledger.{Ledger, params_of}
 use Rattle.ledger_model.specs.Sound.{IsSound}
 use Rattle.ledger_model.specs.Supply.{supply_of}

@@ -2,8 +2,8 @@
 -- (EpochState and NewEpochState of the formal specification)
 use Rattle.std.specs.Prelude.{ℕ, List, Option}
 use Rattle.gov_ids.specs.declared.PoolId.{PoolId}
-use Rattle.tx_records.specs.declared.record.Rewards.{Rewards}
-use Rattle.gov_model.specs.Snapshot.{Snapshot}
+use Rattle.ledger_model.specs.of_tx_records.declared.record.Rewards.{Rewards}
+use Rattle.ledger_model.specs.of_gov_model.Snapshot.{Snapshot}
 use Rattle.ledger_model.specs.Ledger.{Ledger}
 
 -- the whole state

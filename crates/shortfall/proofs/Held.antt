@@ -10,8 +10,8 @@ use Rattle.drep_pulser.specs.Pulsers.{GoesOnIn, IsPulserOf}
 use Rattle.gov_ids.specs.declared.Credential.{Credential}
 use Rattle.gov_ids.specs.Orders.{credential_cmp}
 use Rattle.gov_model.specs.Snapshot.{Snapshot}
-use Rattle.ledger_books.specs.declared.Books.{Books}
-use Rattle.ledger_books.specs.Parts.{frozen_entries}
+use Rattle.ledger_state.specs.of_ledger_books.declared.Books.{Books}
+use Rattle.ledger_state.specs.of_ledger_books.Parts.{frozen_entries}
 use Rattle.ledger_state.specs.Parts.{world_of_parts}
 use Rattle.ledger_state.specs.Worlds.{IsHeldBy}
 use Rattle.run_model.specs.World.{World}

@@ -1,0 +1,1 @@
+pub use Rattle.ledger_state.specs.of_live_ledger

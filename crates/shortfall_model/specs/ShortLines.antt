@@ -7,11 +7,11 @@ use Rattle.gov_ids.specs.Spelling.{action_id_text, credential_text}
 use Rattle.gov_actions.specs.declared.action.Proposal.{Proposal}
 use Rattle.gov_model.specs.Ratified.{order_of}
 use Rattle.gov_model.specs.Snapshot.{Snapshot}
-use Rattle.tx_records.specs.declared.record.Reading.{Reading}
-use Rattle.run_model.specs.World.{World}
+use Rattle.text_forms.specs.of_tx_records.declared.record.Reading.{Reading}
+use Rattle.text_forms.specs.of_run_model.World.{World}
 use Rattle.text_forms.specs.Lines.{text_of_bare}
 use Rattle.text_forms.specs.Worlds.{world_of_readings}
-use Rattle.text_model.specs.Words.{Text, share_text}
+use Rattle.text_forms.specs.of_text_model.Words.{Text, share_text}
 use Rattle.shortfall_model.specs.declared.short.Short.{Short}
 use Rattle.shortfall_model.specs.declared.short.Short.TheVariants as short
 use Rattle.shortfall_model.specs.Silent.{short_of}

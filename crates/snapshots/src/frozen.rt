@@ -1,7 +1,7 @@
 use crate::hot::HotList;
-use book_records::DefaultVote;
-use gov_actions::{EnactState, Proposal};
 use gov_ids::{Account, Credential, PoolId};
+use gov_model::of_book_records::DefaultVote;
+use gov_model::of_gov_actions::{EnactState, Proposal};
 use listed::Listed;
 
 /// What is frozen when an epoch begins, except the account entries, which their book keeps.

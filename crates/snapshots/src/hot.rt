@@ -2,8 +2,8 @@ ghost use Rattle.std.specs.Prelude.{◌≡◌, IsTrue, ◌↔◌};
 ghost use Rattle.gov_ids.specs.Orders.{credential_cmp};
 ghost use Rattle.maps.specs.Maps.{IsMap, value_at};
 
-use gov_actions::HotState;
 use gov_ids::Credential;
+use gov_model::of_gov_actions::HotState;
 use std::marker::Model;
 
 /// What cold keys have authorized; contracts see the list. From its making on it knows whether the
@@ -17,7 +17,7 @@ pub struct HotList {
 
 impl Model for HotList {
     ghost use Rattle.std.specs.Prelude.{List, IsTrue, ◌↔◌};
-    ghost use Rattle.gov_actions.specs.declared.state.HotState.{HotState};
+    ghost use Rattle.gov_model.specs.of_gov_actions.declared.state.HotState.{HotState};
     ghost use Rattle.gov_ids.specs.declared.Credential.{Credential};
     ghost use Rattle.gov_ids.specs.Orders.{credential_cmp};
     ghost use Rattle.maps.specs.Maps.{IsMap};

@@ -5,7 +5,7 @@ mod frozen;
 mod hot;
 mod stakes;
 
-pub use book_records::DefaultVote;
 pub use frozen::{Frozen, FrozenPool};
+pub use gov_model::of_book_records::DefaultVote;
 pub use hot::HotList;
 pub use stakes::Snapshots;

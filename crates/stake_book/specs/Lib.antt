@@ -1,3 +1,5 @@
+pub use Rattle.utxo_set.specs as of_utxo_set
+pub use Rattle.accounts.specs as of_accounts
 pub mod Delegators
 pub mod Ended
 pub mod Paid

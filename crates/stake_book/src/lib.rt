@@ -22,6 +22,7 @@ mod leaving;
 mod pay;
 mod summed;
 
+pub use accounts as of_accounts;
 use accounts::AccountBook;
 pub use book_records::{Entry, Output, Registered};
 use coin_frac::NoMemory;

@@ -1,9 +1,9 @@
 //! Amounts: the noted fees, the treasury, a pending update.
 
+use book_kinds::of_state_lines::push_noted_fees_line;
 use line_kinds::{LineKind, read_number, word};
 use no_memory::NoMemory;
 use report::{Word, push_line};
-use state_lines::push_noted_fees_line;
 
 /// The line of the fee pot at the last boundary. (Own)
 pub struct NotedFeesLines;

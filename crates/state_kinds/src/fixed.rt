@@ -1,9 +1,9 @@
 //! Lines that say one thing alone.
 
+use book_kinds::of_state_lines::push_none_pending_line;
 use line_kinds::LineKind;
 use no_memory::NoMemory;
 use report::{Word, push_line};
-use state_lines::push_none_pending_line;
 
 /// The line that ends a text. (Own)
 pub struct EndLines;

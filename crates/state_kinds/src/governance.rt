@@ -4,6 +4,7 @@ ghost use Rattle.gov_ids.specs.Spelling.{action_id_of};
 ghost use Rattle.book_kinds.specs.Words.{or_none_of};
 ghost use Rattle.state_kinds.specs.States.{hot_or_none_of, script_of, term_of};
 
+use book_kinds::of_state_lines::{push_constitution_line, push_enacted_line, push_member_line};
 use book_kinds::{read_hot_state, read_unit};
 use coin_frac::Unit;
 use gov_actions::{HotState, LastIds};
@@ -11,7 +12,6 @@ use gov_ids::{ActionId, Credential, hash28, hash32, read_action_id, read_credent
 use line_kinds::{LineKind, read_number, word};
 use no_memory::NoMemory;
 use report::{Word, push_line};
-use state_lines::{push_constitution_line, push_enacted_line, push_member_line};
 use tx_records::limits::SLOT_LIMIT;
 
 /// Reads a term.

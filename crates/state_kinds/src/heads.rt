@@ -1,14 +1,14 @@
 //! The first line of a checkpoint, and where the chain is.
 ghost use Rattle.std.specs.Prelude.{◌≡◌, ℕ, option_map};
-ghost use Rattle.checkpoint_model.specs.Checkpoint.{checkpoint_words};
+ghost use Rattle.book_kinds.specs.of_checkpoint_model.Checkpoint.{checkpoint_words};
 ghost use Rattle.run_model.specs.World.{World};
 ghost use Rattle.book_kinds.specs.Pools.{halves};
 ghost use Rattle.state_kinds.specs.Heads.{head_line, u32_of, version_of};
 
+use book_kinds::of_state_lines::push_now_line;
 use line_kinds::{LineKind, read_number, word};
 use no_memory::NoMemory;
 use report::{Word, push_line};
-use state_lines::push_now_line;
 
 /// Does nothing. A law: the first line of a checkpoint is that of its numbers.
 pub fn heads_are_of_checkpoints()

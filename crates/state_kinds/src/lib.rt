@@ -8,6 +8,7 @@ mod heads;
 mod proposals;
 
 pub use amounts::{NotedFeesLines, PendingLines, TreasuryLines};
+pub use book_kinds as of_book_kinds;
 pub use fixed::{EndLines, NonePendingLines};
 pub use governance::{CommitteeLines, ConstitutionLines, EnactedLines, MemberLines};
 pub use heads::{HeadLines, NowLines, heads_are_of_checkpoints};

@@ -5,5 +5,6 @@ mod block;
 mod put;
 mod view;
 
+pub use ledger_state as of_ledger_state;
 pub use put::{put_assets, put_block, put_state};
 pub use view::view_of;

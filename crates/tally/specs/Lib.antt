@@ -1,3 +1,4 @@
+pub use Rattle.drep_pulser.specs as of_drep_pulser
 pub mod Adding
 pub mod Active
 pub mod Stakes

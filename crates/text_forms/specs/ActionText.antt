@@ -7,10 +7,10 @@ use Rattle.gov_ids.specs.declared.Account.{Account}
 use Rattle.gov_ids.specs.declared.ActionId.{ActionId}
 use Rattle.gov_ids.specs.declared.Credential.{Credential}
 use Rattle.gov_ids.specs.Spelling.{account_text, action_id_text, credential_text, hash_text}
-use Rattle.gov_actions.specs.declared.action.Action.{Action}
-use Rattle.gov_actions.specs.declared.action.Action.TheVariants.{NoConfidence, UpdateCommittee, NewConstitution, HardForkInitiation, ParameterChange, TreasuryWithdrawals, Info}
-use Rattle.gov_actions.specs.Kinds.{kind_of}
-use Rattle.pparams.specs.declared.Update.{Update}
+use Rattle.text_model.specs.of_gov_actions.declared.action.Action.{Action}
+use Rattle.text_model.specs.of_gov_actions.declared.action.Action.TheVariants.{NoConfidence, UpdateCommittee, NewConstitution, HardForkInitiation, ParameterChange, TreasuryWithdrawals, Info}
+use Rattle.text_model.specs.of_gov_actions.Kinds.{kind_of}
+use Rattle.text_model.specs.of_pparams.declared.Update.{Update}
 use Rattle.text_model.specs.ActionWords.{kind_text}
 use Rattle.text_model.specs.Words.{Text}
 

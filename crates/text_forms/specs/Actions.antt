@@ -10,14 +10,14 @@ use Rattle.gov_ids.specs.declared.ActionId.{ActionId}
 use Rattle.gov_ids.specs.declared.Credential.{Credential}
 use Rattle.gov_ids.specs.declared.Voter.{Voter}
 use Rattle.gov_ids.specs.Orders.{account_cmp, action_id_cmp, credential_cmp, voter_cmp}
-use Rattle.pparams.specs.declared.Update.{Update}
-use Rattle.gov_actions.specs.declared.action.Action.{Action}
-use Rattle.gov_actions.specs.declared.action.Action.TheVariants.{NoConfidence, UpdateCommittee, NewConstitution, HardForkInitiation, ParameterChange, TreasuryWithdrawals, Info}
-use Rattle.gov_actions.specs.declared.action.Proposal.{Proposal}
-use Rattle.gov_actions.specs.declared.action.Vote.{Vote}
-use Rattle.gov_model.specs.Ratified.{ids_of}
-use Rattle.tx_records.specs.declared.limits.TheConstants.{LIST_LIMIT}
-use Rattle.tx_records.specs.Limits.{is_at_most, is_slot, is_u32, is_u64}
+use Rattle.text_model.specs.of_pparams.declared.Update.{Update}
+use Rattle.text_model.specs.of_gov_actions.declared.action.Action.{Action}
+use Rattle.text_model.specs.of_gov_actions.declared.action.Action.TheVariants.{NoConfidence, UpdateCommittee, NewConstitution, HardForkInitiation, ParameterChange, TreasuryWithdrawals, Info}
+use Rattle.text_model.specs.of_gov_actions.declared.action.Proposal.{Proposal}
+use Rattle.text_model.specs.of_gov_actions.declared.action.Vote.{Vote}
+use Rattle.text_model.specs.of_gov_model.Ratified.{ids_of}
+use Rattle.text_model.specs.of_tx_records.declared.limits.TheConstants.{LIST_LIMIT}
+use Rattle.text_model.specs.of_tx_records.Limits.{is_at_most, is_slot, is_u32, is_u64}
 use Rattle.text_forms.specs.Ids.{are_u64, are_units, is_account_id, is_action_id, is_credential, is_hash, is_map, is_ratio, is_u16, is_unit, is_voter}
 
 -- the parameters of the network group that an update names have the form

@@ -1,7 +1,7 @@
 -- Which entries of the books have the form of the formats. (Own)
 use Rattle.std.specs.Prelude.{ℕ, Bool, true, ◌&&◌, List}
 use Rattle.std.specs.List.{list_all}
-use Rattle.assets.specs.Quantities.{is_held}
+use Rattle.text_model.specs.of_assets.Quantities.{is_held}
 use Rattle.maps.specs.Words.{none_or}
 use Rattle.gov_ids.specs.declared.Account.{Account}
 use Rattle.gov_ids.specs.declared.assets.AssetId.{AssetId}
@@ -9,16 +9,16 @@ use Rattle.gov_ids.specs.declared.Credential.{Credential}
 use Rattle.gov_ids.specs.declared.OutRef.{OutRef}
 use Rattle.gov_ids.specs.declared.PoolId.{PoolId}
 use Rattle.gov_ids.specs.Orders.{asset_cmp}
-use Rattle.book_records.specs.declared.DrepState.{DrepState}
-use Rattle.book_records.specs.declared.Entry.{Entry}
-use Rattle.book_records.specs.declared.Output.{Output}
-use Rattle.book_records.specs.declared.pool.Pool.{Pool}
-use Rattle.book_records.specs.declared.pool.PoolTerms.{PoolTerms}
-use Rattle.book_records.specs.declared.Registered.{Registered}
-use Rattle.gov_actions.specs.declared.state.HotState.{HotState}
-use Rattle.gov_actions.specs.declared.state.HotState.TheVariants.{Hot, Resigned}
-use Rattle.tx_records.specs.declared.record.Rewards.{Rewards}
-use Rattle.tx_records.specs.Limits.{is_u64}
+use Rattle.text_model.specs.of_book_records.declared.DrepState.{DrepState}
+use Rattle.text_model.specs.of_book_records.declared.Entry.{Entry}
+use Rattle.text_model.specs.of_book_records.declared.Output.{Output}
+use Rattle.text_model.specs.of_book_records.declared.pool.Pool.{Pool}
+use Rattle.text_model.specs.of_book_records.declared.pool.PoolTerms.{PoolTerms}
+use Rattle.text_model.specs.of_book_records.declared.Registered.{Registered}
+use Rattle.text_model.specs.of_gov_actions.declared.state.HotState.{HotState}
+use Rattle.text_model.specs.of_gov_actions.declared.state.HotState.TheVariants.{Hot, Resigned}
+use Rattle.text_model.specs.of_tx_records.declared.record.Rewards.{Rewards}
+use Rattle.text_model.specs.of_tx_records.Limits.{is_u64}
 use Rattle.text_forms.specs.Ids.{is_account_id, is_address, is_asset_id, is_credential, is_drep_id, is_hash, is_map, is_pool_id, is_ref, is_unit}
 
 -- an asset with its amount in an output

@@ -18,7 +18,7 @@ use Rattle.gov_ids.specs.declared.PoolId.{PoolId}
 use Rattle.gov_ids.specs.declared.TxId.{TxId}
 use Rattle.gov_ids.specs.declared.Voter.{Voter}
 use Rattle.gov_ids.specs.declared.Voter.TheVariants as voter
-use Rattle.tx_records.specs.Limits.{is_network, is_share, is_u64}
+use Rattle.text_model.specs.of_tx_records.Limits.{is_network, is_share, is_u64}
 
 -- ---- lists in order
 

@@ -1,7 +1,7 @@
 -- Lines without a number: words with a space between each two. (Own)
 use Rattle.std.specs.Prelude.{List, [], ◌∷◌, ◌++◌, Bool, flat_map, length, map, nat_le}
 use Rattle.std.specs.List.{join_by, list_all}
-use Rattle.tx_records.specs.declared.limits.TheConstants.{LINE_LIMIT}
+use Rattle.text_model.specs.of_tx_records.declared.limits.TheConstants.{LINE_LIMIT}
 use Rattle.text_model.specs.Words.{Text}
 
 -- the words of a line, with a space between each two

@@ -7,8 +7,8 @@ use Rattle.gov_ids.specs.declared.Credential.{Credential}
 use Rattle.gov_ids.specs.declared.PoolId.{PoolId}
 use Rattle.gov_ids.specs.Orders.{credential_cmp, pool_cmp}
 use Rattle.gov_ids.specs.Spelling.{account_text, action_id_text, credential_text, pool_text}
-use Rattle.gov_actions.specs.declared.action.Proposal.{Proposal}
-use Rattle.gov_model.specs.Snapshot.{Snapshot}
+use Rattle.text_model.specs.of_gov_actions.declared.action.Proposal.{Proposal}
+use Rattle.text_model.specs.of_gov_model.Snapshot.{Snapshot}
 use Rattle.text_forms.specs.ActionText.{action_text}
 use Rattle.text_forms.specs.Actions.{are_proposals}
 use Rattle.text_forms.specs.Books.{is_entry, is_frozen_drep, is_hot, is_pool_account, is_stake}

@@ -3,12 +3,12 @@ use Rattle.std.specs.Prelude.{ℕ, Bool, ◌&&◌, nat_le}
 use Rattle.std.specs.List.{list_all}
 use Rattle.maps.specs.Words.{none_or}
 use Rattle.gov_ids.specs.Orders.{credential_cmp}
-use Rattle.pparams.specs.declared.Params.{Params}
-use Rattle.gov_actions.specs.declared.state.Committee.{Committee}
-use Rattle.gov_actions.specs.declared.state.EnactState.{EnactState}
-use Rattle.gov_actions.specs.declared.state.LastIds.{LastIds}
-use Rattle.tx_records.specs.declared.limits.TheConstants.{LEAST_MAJOR}
-use Rattle.tx_records.specs.Limits.{is_u32, is_u64}
+use Rattle.text_model.specs.of_pparams.declared.Params.{Params}
+use Rattle.text_model.specs.of_gov_actions.declared.state.Committee.{Committee}
+use Rattle.text_model.specs.of_gov_actions.declared.state.EnactState.{EnactState}
+use Rattle.text_model.specs.of_gov_actions.declared.state.LastIds.{LastIds}
+use Rattle.text_model.specs.of_tx_records.declared.limits.TheConstants.{LEAST_MAJOR}
+use Rattle.text_model.specs.of_tx_records.Limits.{is_u32, is_u64}
 use Rattle.text_forms.specs.Actions.{are_prices, is_member, is_previous, is_version}
 use Rattle.text_forms.specs.Ids.{are_u64, are_units, is_hash, is_map, is_ratio, is_u16, is_unit}
 

@@ -1,12 +1,12 @@
 -- The World that a whole run leaves. (Own)
 use Rattle.std.specs.Prelude.{ℕ, List, ◌∷◌, Option, Some, None, fold}
-use Rattle.tx_records.specs.declared.genesis.Genesis.{Genesis}
-use Rattle.tx_records.specs.declared.genesis.GenesisRule.{GenesisRule}
-use Rattle.tx_records.specs.declared.record.Reading.{Reading}
-use Rattle.tx_records.specs.declared.record.Reading.TheVariants.{Read}
-use Rattle.tx_records.specs.declared.record.Record.TheVariants as records
-use Rattle.run_model.specs.Genesis.{genesis_fault, world_of_genesis}
-use Rattle.run_model.specs.World.{World}
+use Rattle.text_model.specs.of_tx_records.declared.genesis.Genesis.{Genesis}
+use Rattle.text_model.specs.of_tx_records.declared.genesis.GenesisRule.{GenesisRule}
+use Rattle.text_model.specs.of_tx_records.declared.record.Reading.{Reading}
+use Rattle.text_model.specs.of_tx_records.declared.record.Reading.TheVariants.{Read}
+use Rattle.text_model.specs.of_tx_records.declared.record.Record.TheVariants as records
+use Rattle.text_model.specs.of_run_model.Genesis.{genesis_fault, world_of_genesis}
+use Rattle.text_model.specs.of_run_model.World.{World}
 use Rattle.text_model.specs.Runs.{world_after_reading}
 
 -- the World after these readings

@@ -4,16 +4,16 @@ use Rattle.std.specs.Prelude.{ℕ, List, Option}
 use Rattle.gov_ids.specs.declared.Credential.{Credential}
 use Rattle.gov_ids.specs.declared.OutRef.{OutRef}
 use Rattle.gov_ids.specs.declared.PoolId.{PoolId}
-use Rattle.book_records.specs.declared.DrepState.{DrepState}
-use Rattle.book_records.specs.declared.Entry.{Entry}
-use Rattle.book_records.specs.declared.Output.{Output}
-use Rattle.book_records.specs.declared.pool.Pool.{Pool}
-use Rattle.gov_actions.specs.declared.action.Proposal.{Proposal}
-use Rattle.gov_actions.specs.declared.state.EnactState.{EnactState}
-use Rattle.gov_actions.specs.declared.state.HotState.{HotState}
-use Rattle.tx_records.specs.declared.record.Rewards.{Rewards}
-use Rattle.tx_records.specs.declared.report.Pots.{Pots}
-use Rattle.ledger_model.specs.Supply.{pots_of}
+use Rattle.run_model.specs.of_book_records.declared.DrepState.{DrepState}
+use Rattle.run_model.specs.of_book_records.declared.Entry.{Entry}
+use Rattle.run_model.specs.of_book_records.declared.Output.{Output}
+use Rattle.run_model.specs.of_book_records.declared.pool.Pool.{Pool}
+use Rattle.run_model.specs.of_gov_actions.declared.action.Proposal.{Proposal}
+use Rattle.run_model.specs.of_gov_actions.declared.state.EnactState.{EnactState}
+use Rattle.run_model.specs.of_gov_actions.declared.state.HotState.{HotState}
+use Rattle.run_model.specs.of_tx_records.declared.record.Rewards.{Rewards}
+use Rattle.run_model.specs.of_tx_records.declared.report.Pots.{Pots}
+use Rattle.run_model.specs.of_ledger_model.Supply.{pots_of}
 use Rattle.run_model.specs.Freeze.{entries_of}
 use Rattle.run_model.specs.World.{World}
 

@@ -17,12 +17,12 @@ use Rattle.book_records.specs.Pools.{pool_after, retiring}
 use Rattle.book_records.specs.declared.pool.Pool.{Pool}
 use Rattle.book_records.specs.declared.pool.PoolTerms.{PoolTerms}
 use Rattle.book_records.specs.declared.DrepState.{DrepState}
-use Rattle.gov_actions.specs.declared.action.Proposal.{Proposal}
+use Rattle.tx_records.specs.of_gov_actions.declared.action.Proposal.{Proposal}
 use Rattle.tx_records.specs.declared.cert.Cert.{Cert}
 use Rattle.tx_records.specs.declared.cert.Cert.TheVariants.{AccountReg, AccountUnreg, Delegate, PoolReg, PoolRetire, DrepReg, DrepUnreg, DrepUpdate, HotAuth, HotResign}
 use Rattle.ledger_model.specs.Ledger.{Ledger, params_of, account_at, is_account, is_drep}
 use Rattle.ledger_model.specs.Supply.{deposits_of}
-use Rattle.gov_model.specs.Proposals.{without_vote}
+use Rattle.ledger_model.specs.of_gov_model.Proposals.{without_vote}
 use Rattle.book_records.specs.Delegations.{without_drep, delegates_to_drep}
 use Rattle.ledger_model.specs.Changes.{changed_by, new_account, delegating, new_drep, having_acted}
 use Rattle.ledger_model.specs.CertRules.{cert_checks, account_deposit, drep_deposit_of, rewards_at}

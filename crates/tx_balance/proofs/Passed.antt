@@ -11,7 +11,7 @@ use Rattle.gov_ids.specs.declared.TxId.{TxId}
 use Rattle.gov_ids.specs.Orders.{outref_cmp}
 use Rattle.book_records.specs.declared.Output.{Output}
 use Rattle.book_records.specs.declared.Registered.{Registered}
-use Rattle.gov_actions.specs.declared.action.Proposal.{Proposal}
+use Rattle.tx_records.specs.of_gov_actions.declared.action.Proposal.{Proposal}
 use Rattle.tx_records.specs.declared.tx.ProposalRecord.{ProposalRecord}
 use Rattle.tx_records.specs.declared.tx.Scripts.{Scripts}
 use Rattle.tx_records.specs.declared.tx.Scripts.TheVariants.{Absent, Passed, Failed}

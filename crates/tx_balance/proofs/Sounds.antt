@@ -15,7 +15,7 @@ use Rattle.gov_ids.specs.declared.TxId.{TxId}
 use Rattle.gov_ids.specs.Orders.{outref_cmp, txid_cmp, voter_cmp}
 use Rattle.gov_ids.proofs.Totals.{outref_total, txid_total}
 use Rattle.book_records.specs.declared.Output.{Output}
-use Rattle.gov_actions.specs.declared.action.Proposal.{Proposal}
+use Rattle.tx_records.specs.of_gov_actions.declared.action.Proposal.{Proposal}
 use Rattle.tx_records.specs.declared.tx.Scripts.{Scripts}
 use Rattle.tx_records.specs.declared.tx.Scripts.TheVariants.{Absent, Passed, Failed}
 use Rattle.tx_records.specs.declared.tx.Tx.{Tx}

@@ -3,13 +3,13 @@ use Rattle.std.specs.Prelude.{ℕ, ◌^◌, ℤ, Bool, true, not, ◌&&◌, List
 use Rattle.std.specs.List.{list_all}
 use Rattle.std.specs.Map.{keys_of}
 use Rattle.assets.specs.Quantities.{is_held, is_moved}
-use Rattle.maps.specs.Words.{none_or, repeats}
+use Rattle.gov_ids.specs.of_maps.Words.{none_or, repeats}
 use Rattle.gov_ids.specs.declared.assets.AssetId.{AssetId}
 use Rattle.gov_ids.specs.declared.Credential.{Credential}
 use Rattle.gov_ids.specs.Orders.{account_cmp, asset_cmp, credential_cmp}
-use Rattle.coin_frac.specs.Fraction.{Fraction}
-use Rattle.pparams.specs.declared.Params.{Params}
-use Rattle.pparams.specs.declared.Update.{Update}
+use Rattle.gov_actions.specs.of_coin_frac.Fraction.{Fraction}
+use Rattle.gov_actions.specs.of_pparams.declared.Params.{Params}
+use Rattle.gov_actions.specs.of_pparams.declared.Update.{Update}
 use Rattle.gov_actions.specs.declared.action.Action.{Action}
 use Rattle.gov_actions.specs.declared.action.Action.TheVariants.{UpdateCommittee, ParameterChange, TreasuryWithdrawals}
 use Rattle.tx_records.specs.declared.genesis.GenesisCommittee.{GenesisCommittee}

@@ -1,7 +1,7 @@
 -- The limits of a reward update. (Own)
 use Rattle.std.specs.Prelude.{Bool, ◌&&◌, not, map}
 use Rattle.std.specs.List.{list_all}
-use Rattle.maps.specs.Words.{repeats}
+use Rattle.gov_ids.specs.of_maps.Words.{repeats}
 use Rattle.gov_ids.specs.Orders.{credential_cmp}
 use Rattle.tx_records.specs.declared.limits.TheConstants.{LIST_LIMIT}
 use Rattle.tx_records.specs.declared.record.Rewards.{Rewards}

@@ -2,7 +2,7 @@
 -- That every field reads as its kind says, the reading itself states.
 use Rattle.std.specs.Prelude.{Bool, ◌&&◌, not, map}
 use Rattle.std.specs.List.{list_all}
-use Rattle.maps.specs.Words.{none_or, repeats}
+use Rattle.gov_ids.specs.of_maps.Words.{none_or, repeats}
 use Rattle.gov_ids.specs.Orders.{account_cmp}
 use Rattle.tx_records.specs.declared.limits.TheConstants.{OUTPUT_LIMIT, TX_LIST_LIMIT}
 use Rattle.tx_records.specs.declared.tx.ProposalRecord.{ProposalRecord}

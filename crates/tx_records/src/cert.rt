@@ -1,4 +1,4 @@
-use coin_frac::Unit;
+use gov_actions::of_coin_frac::Unit;
 use gov_ids::{Account, Credential, Drep, PoolId};
 
 /// A certificate. Deposits and refunds are in lovelace; one not stated is what is due (own).

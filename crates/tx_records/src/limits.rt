@@ -1,6 +1,6 @@
 //! The limits of the formats. docs/use/formats.md lists them; each number is here alone. (Own)
 
-pub use coin_frac::SUPPLY_LIMIT;
+pub use gov_actions::of_coin_frac::SUPPLY_LIMIT;
 
 /// The longest line, in bytes, its line feed not counted.
 pub const LINE_LIMIT: u32 = 16_777_216;

@@ -4,19 +4,19 @@
 ghost use Rattle.std.specs.Prelude.{◌≡◌, IfOk, ◌&&◌};
 ghost use Rattle.std.specs.List.{list_all};
 ghost use Rattle.tx_records.specs.declared.tx.ProposalRecord.{ProposalRecord};
-ghost use Rattle.maps.specs.Words.{none_or};
+ghost use Rattle.gov_ids.specs.of_maps.Words.{none_or};
 ghost use Rattle.tx_records.specs.Limits.{are_assets, are_params, is_action, is_mint, is_at_most, is_network, is_output, is_share, is_slot, is_u32, is_u64, is_update};
 
 use crate::limits::{LIST_LIMIT, NETWORK_LIMIT, SLOT_LIMIT};
 use crate::tx::{ProposalRecord, TxOutput};
+use assets::of_listed::Listed;
 use assets::{Assets, Mint};
-use coin_frac::{NoMemory, Unit};
-use credential_list::CredentialList;
 use gov_actions::Action;
+use gov_actions::of_coin_frac::{NoMemory, Unit};
+use gov_actions::of_credential_list::CredentialList;
+use gov_actions::of_pparams::{Params, Update};
 use gov_ids::{Account, Credential, repeats_a_name};
-use listed::Listed;
 use out_refs::OutRefs;
-use pparams::{Params, Update};
 use std::alloc::Global;
 
 /// Whether a list has at most `limit` entries.

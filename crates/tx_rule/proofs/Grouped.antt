@@ -13,7 +13,7 @@ use Rattle.ledger_model.specs.ProposalRules.{proposal_checks, vote_checks}
 use Rattle.ledger_model.specs.Transaction.{accepted_as, ledger_after_tx, tx_step, tx_step_by}
 use Rattle.ledger_model.specs.UtxoRules.{unless_failed, utxo_checks}
 use Rattle.ledger_model.proofs.CheckLaws.{first_among-append}
-use Rattle.live_ledger.specs.Standing.{Standing, on_ledger}
+use Rattle.cert_deleg.specs.of_live_ledger.Standing.{Standing, on_ledger}
 use Rattle.tx_rule.specs.Drafted.{drafted_checks}
 use Rattle.tx_rule.proofs.Certified.{checks_from}
 

@@ -4,8 +4,8 @@ use Rattle.tx_records.specs.declared.reply.TxFault.{TxFault}
 use Rattle.tx_records.specs.declared.tx.Tx.{Tx}
 use Rattle.ledger_model.specs.Ledger.{Ledger}
 use Rattle.ledger_model.specs.Broken.{first_broken}
-use Rattle.draft_changes.specs.Changed.{Changed, laid_over}
-use Rattle.live_ledger.specs.Drafts.{draft_of}
+use Rattle.cert_deleg.specs.of_draft_changes.Changed.{Changed, laid_over}
+use Rattle.cert_deleg.specs.of_live_ledger.Drafts.{draft_of}
 use Rattle.rule_checks.specs.Answered.{IsAnswered}
 
 -- the changes give the draft over the ledger, or the first rule is broken, unless memory ran out

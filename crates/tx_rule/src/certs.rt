@@ -1,5 +1,5 @@
 ghost use Rattle.std.specs.Prelude.{◌≡◌, ◌+◌, ◌≤◌, ◌^◌, true, map, OnOk};
-ghost use Rattle.live_ledger.specs.Moved.{HasMoved};
+ghost use Rattle.cert_deleg.specs.of_live_ledger.Moved.{HasMoved};
 ghost use Rattle.ledger_model.specs.CertRules.{cert_checks};
 ghost use Rattle.ledger_model.specs.Changes.{changed_by};
 ghost use Rattle.ledger_model.specs.Checks.{at_place, first_among, per_place};
@@ -9,7 +9,7 @@ ghost use Rattle.rule_checks.specs.Answered.{IsAnswered};
 ghost use Rattle.tx_records.specs.TxLimits.{is_within_limits};
 
 use cert_deleg::is_account_or_pool_cert;
-use live_ledger::Draft;
+use cert_deleg::of_live_ledger::Draft;
 use tx_records::{Cert, Tx, TxFault};
 
 /// Applies a transaction's certificates to the draft, in order, or refuses the first that breaks a

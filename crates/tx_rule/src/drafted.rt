@@ -7,7 +7,7 @@ ghost use Rattle.tx_records.specs.TxLimits.{is_within_limits};
 ghost use Rattle.tx_rule.specs.Drafted.{drafted_checks};
 ghost use Rattle.utxo_rules.specs.Spent.{IsSpent};
 
-use live_ledger::Draft;
+use cert_deleg::of_live_ledger::Draft;
 use rule_checks::as_fault;
 use std::alloc::Global;
 use tx_records::{Tx, TxFault};

@@ -1,3 +1,4 @@
+pub use Rattle.ledger_state.proofs as proofs_of_ledger_state
 mod PutBack
 mod Rooms
 mod Votes

@@ -1,2 +1,3 @@
+pub use Rattle.ledger_state.specs as of_ledger_state
 pub mod Steps
 pub mod Undoable

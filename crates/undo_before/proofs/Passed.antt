@@ -14,7 +14,7 @@ use Rattle.ledger_model.specs.Draft.{last_draft}
 use Rattle.ledger_model.specs.Ledger.{Ledger}
 use Rattle.ledger_model.specs.Sound.{IsSound}
 use Rattle.ledger_model.specs.Transaction.{after_failed, after_passed, after_scripts, ledger_after_tx, last_voting_epoch, made_outputs, made_proposals, made_return, with_votes}
-use Rattle.live_ledger.specs.Drafts.{draft_by, draft_of}
+use Rattle.tx_rule.specs.of_live_ledger.Drafts.{draft_by, draft_of}
 use Rattle.maps.proofs.Sets.{has_member-with_key}
 use Rattle.maps.specs.Maps.{has_member, with_key}
 use Rattle.proposal_store.specs.Leaving.{without_votes_of}

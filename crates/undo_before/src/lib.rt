@@ -8,5 +8,7 @@ mod records;
 mod transactions;
 mod votes;
 
+pub use draft_changes as of_draft_changes;
 pub use records::before;
 pub use transactions::before_judged;
+pub use tx_rule as of_tx_rule;

@@ -10,11 +10,11 @@ use committee_book::HotBook;
 use drep_book::DrepBook;
 use gov_actions::HotState;
 use gov_ids::{Credential, OutRef, PoolId, TxId};
-use ledger_state::LedgerState;
 use listed::Listed;
 use no_memory::NoMemory;
 use stake_book::StakeBook;
 use std::alloc::Global;
+use tx_rule::of_ledger_state::LedgerState;
 use undo_records::{OldEntries, OldValues};
 
 /// These old outputs, and no old value at another name.

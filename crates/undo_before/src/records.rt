@@ -9,12 +9,12 @@ ghost use Rattle.undo_model.specs.Holds.{Holds};
 
 use crate::old::{old_values, outputs_only};
 use crate::transactions::before_judged;
-use ledger_state::LedgerState;
 use listed::Listed;
 use no_memory::NoMemory;
 use std::alloc::Global;
 use tx_records::{Record, Tx, TxFault};
 use tx_rule::judged;
+use tx_rule::of_ledger_state::LedgerState;
 use undo_records::Before;
 
 /// The old values of all that a record changes, if it stays in the epoch; it judges a transaction.

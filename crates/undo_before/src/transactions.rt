@@ -21,12 +21,12 @@ use book_records::{DrepState, Registered};
 use draft_changes::{ChangedNames, Changes};
 use drep_book::DrepBook;
 use gov_ids::Credential;
-use ledger_state::LedgerState;
 use listed::Listed;
 use no_memory::NoMemory;
 use stake_book::StakeBook;
 use std::alloc::Global;
 use tx_records::{Scripts, Tx};
+use tx_rule::of_ledger_state::LedgerState;
 use undo_records::{Before, OldEntries};
 
 /// The old values of all that a transaction changes, of which `judged` gave these changes.

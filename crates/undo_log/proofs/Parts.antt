@@ -5,8 +5,8 @@ use Rattle.drep_pulser.specs.Pulsers.{done_by}
 use Rattle.gov_model.specs.Snapshot.{Snapshot}
 use Rattle.ledger_books.specs.declared.Books.{Books}
 use Rattle.ledger_books.specs.Parts.{IsStep, frozen_entries, world_of_books}
-use Rattle.ledger_state.specs.Parts.{world_of_parts}
-use Rattle.ledger_state.specs.Worlds.{IsHeldBy, snapshot_with}
+use Rattle.undo_back.specs.of_ledger_state.Parts.{world_of_parts}
+use Rattle.undo_back.specs.of_ledger_state.Worlds.{IsHeldBy, snapshot_with}
 use Rattle.run_model.specs.World.{World}
 use Rattle.snapshots.specs.declared.frozen.Frozen.{Frozen}
 use Rattle.undo_back.proofs.Undoing.{undone_is_held}

@@ -6,12 +6,12 @@ use crate::log::UndoLog;
 use crate::marks::place_of;
 use follow_records::rules::ROLLBACK_UNKNOWN;
 use ledger_books::Books;
-use ledger_state::LedgerState;
 use no_memory::NoMemory;
 use std::alloc::Global;
 use tx_records::{Reply, Rule};
+use undo_back::of_ledger_state::LedgerState;
+use undo_back::of_undo_records::Before;
 use undo_back::{ledger_of_parts, undo_books};
-use undo_records::Before;
 
 impl UndoLog {
     /// Goes back to the mark of a slot: the entries pushed after it are undone, from the last to

@@ -5,7 +5,7 @@ use crate::marks::Mark;
 use no_memory::NoMemory;
 use std::alloc::Global;
 use std::marker::Model;
-use undo_records::Before;
+use undo_back::of_undo_records::Before;
 
 /// The old values of the records of an epoch, in order, and a mark at each of its blocks.
 pub struct UndoLog {

@@ -7,9 +7,9 @@ use Rattle.std.proofs.lemmas.Bool.Decides.{nat_tests}
 use Rattle.std.proofs.lemmas.Cmp.{eq_by_cmp_equiv}
 use Rattle.std.proofs.lemmas.List.Sums.{sum_by-cons}
 use Rattle.std.proofs.lemmas.Map.Entries.{option_filter}
-use Rattle.assets.proofs.Quantities.{quantity_of-append}
-use Rattle.assets.specs.Quantities.{quantity_of}
-use Rattle.assets.specs.Totals.{AreTotals, total_at}
+use Rattle.book_records.proofs.proofs_of_assets.Quantities.{quantity_of-append}
+use Rattle.book_records.specs.of_assets.Quantities.{quantity_of}
+use Rattle.book_records.specs.of_assets.Totals.{AreTotals, total_at}
 use Rattle.book_records.specs.declared.Output.{Output}
 use Rattle.book_records.specs.Outputs.{asset_totals, assets_in, assets_named}
 use Rattle.gov_ids.proofs.Exacts.{asset_exact}

@@ -7,11 +7,11 @@ ghost use Rattle.maps.specs.Maps.{value_at, with_value, without_key, entry_after
 ghost use Rattle.book_records.specs.Outputs.{asset_totals, assets_in, lovelace_in};
 ghost use Rattle.utxo_set.specs.Utxos.{IsInOrder};
 
-use assets::AssetTotals;
 pub use book_records::Output;
+use book_records::of_assets::AssetTotals;
+use gov_ids::of_no_memory::NoMemory;
 use gov_ids::{AssetId, OutRef, TxId};
 use maps::keys_past;
-use no_memory::NoMemory;
 use std::alloc::Global;
 use std::collections::{BTreeMap, BTreeSet};
 use std::marker::Model;
@@ -28,7 +28,7 @@ pub struct UtxoSet {
 
 impl Model for UtxoSet {
     ghost use Rattle.std.specs.Prelude.{◌≡◌};
-    ghost use Rattle.assets.specs.Totals.{AreTotals, total_at};
+    ghost use Rattle.book_records.specs.of_assets.Totals.{AreTotals, total_at};
     ghost use Rattle.book_records.specs.Outputs.{assets_in, lovelace_in};
     ghost use Rattle.gov_ids.specs.declared.assets.AssetId.{AssetId};
     ghost use Rattle.utxo_set.specs.Utxos.{Utxos, IsInOrder};

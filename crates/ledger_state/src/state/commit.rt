@@ -1,14 +1,14 @@
 ghost use Rattle.std.specs.Prelude.{◌≡◌, IfOk, true};
 ghost use Rattle.ledger_model.specs.Broken.{is_allowed};
 ghost use Rattle.ledger_model.specs.Transaction.{ledger_after_tx};
-ghost use Rattle.draft_changes.specs.Changed.{laid_over};
+ghost use Rattle.live_ledger.specs.of_draft_changes.Changed.{laid_over};
 ghost use Rattle.live_ledger.specs.Drafts.{draft_of};
 ghost use Rattle.run_model.specs.World.{on_ledger};
 ghost use Rattle.tx_records.specs.TxLimits.{is_within_limits};
 
 use super::LedgerState;
 use coin_frac::NoMemory;
-use draft_changes::Changes;
+use live_ledger::of_draft_changes::Changes;
 use tx_records::Tx;
 
 impl LedgerState {

@@ -1,13 +1,13 @@
 ghost use Rattle.std.specs.Prelude.{◌≡◌, ◌≤◌, [], None, IfOk, true};
-ghost use Rattle.ledger_books.specs.Parts.{ledger_of_books};
+ghost use Rattle.epoch_start.specs.of_ledger_books.Parts.{ledger_of_books};
 ghost use Rattle.ledger_state.specs.Starts.{StartsAs};
 ghost use Rattle.run_model.specs.Boundary.{pool_stakes};
 ghost use Rattle.tx_records.specs.GenesisLimits.{is_within_limits};
 
 use super::LedgerState;
 use coin_frac::NoMemory;
-use freeze::pool_stakes;
-use ledger_books::Books;
+use epoch_start::of_freeze::pool_stakes;
+use epoch_start::of_ledger_books::Books;
 use listed::Listed;
 use live_ledger::{GenesisFault, LiveLedger};
 use snapshots::Snapshots;

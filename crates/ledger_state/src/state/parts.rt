@@ -4,7 +4,7 @@ ghost use Rattle.ledger_state.specs.Worlds.{IsHeldBy};
 
 use super::LedgerState;
 use drep_pulser::Pulser;
-use ledger_books::Books;
+use epoch_start::of_ledger_books::Books;
 use listed::Boxed;
 use live_ledger::LiveLedger;
 use snapshots::Frozen;

@@ -1,12 +1,12 @@
 ghost use Rattle.std.specs.Prelude.{◌≡◌};
-ghost use Rattle.ledger_books.specs.Parts.{frozen_entries, ledger_of_books};
+ghost use Rattle.draft_changes.specs.of_ledger_books.Parts.{frozen_entries, ledger_of_books};
 ghost use Rattle.live_ledger.specs.Kept.{IsLiveLedger};
 ghost use Rattle.live_ledger.specs.Standing.{on_ledger};
 
 use super::LiveLedger;
-use ledger_books::Books;
+use draft_changes::of_ledger_books::Books;
+use draft_changes::of_snapshots::Snapshots;
 use listed::Listed;
-use snapshots::Snapshots;
 use std::alloc::Global;
 use std::mem;
 use tx_records::Rewards;

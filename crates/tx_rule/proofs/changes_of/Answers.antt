@@ -1,5 +1,5 @@
 use Rattle.std.proofs.Common.{◌≡◌, Result, Err, sym, subst, rules}
-use Rattle.draft_changes.specs.Changed.{Changed}
+use Rattle.cert_deleg.specs.of_draft_changes.Changed.{Changed}
 use Rattle.tx_records.specs.declared.reply.TxFault.{TxFault}
 use Rattle.ledger_model.specs.Broken.{body_checks, first_broken}
 use Rattle.ledger_model.specs.Checks.{first_among}

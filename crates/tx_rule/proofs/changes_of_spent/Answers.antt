@@ -3,8 +3,8 @@ use Rattle.ledger_model.specs.Broken.{body_checks}
 use Rattle.ledger_model.specs.Checks.{first_among}
 use Rattle.ledger_model.specs.Ledger.{Ledger}
 use Rattle.ledger_model.specs.UtxoRules.{unless_failed}
-use Rattle.draft_changes.specs.Changed.{laid_over}
-use Rattle.live_ledger.specs.Drafts.{Drafted, draft_of}
+use Rattle.cert_deleg.specs.of_draft_changes.Changed.{laid_over}
+use Rattle.cert_deleg.specs.of_live_ledger.Drafts.{Drafted, draft_of}
 use Rattle.rule_checks.specs.Answered.{IsAnswered}
 use Rattle.rule_checks.proofs.Faults.{answered_later}
 use Rattle.tx_rule.proofs.Grouped.{two_groups}

@@ -6,7 +6,7 @@ use Rattle.ledger_model.specs.Changes.{refreshed, withdrawn}
 use Rattle.ledger_model.specs.Checks.{first_among}
 use Rattle.ledger_model.specs.Draft.{draft_after}
 use Rattle.ledger_model.specs.Ledger.{Ledger}
-use Rattle.live_ledger.specs.Drafts.{Drafted}
+use Rattle.cert_deleg.specs.of_live_ledger.Drafts.{Drafted}
 use Rattle.rule_checks.specs.Answered.{IsAnswered}
 use Rattle.tx_rule.specs.Drafted.{drafted_checks}
 use Rattle.rule_checks.proofs.Faults.{answered_later, faulted}

@@ -7,7 +7,7 @@ use Rattle.ledger_model.specs.Broken.{consumed, produced}
 use Rattle.ledger_model.specs.Flows.{flows_of_certs, hand, sink, source, sum_at}
 use Rattle.ledger_model.specs.Ledger.{Ledger}
 use Rattle.ledger_model.specs.UtxoRules.{lovelace_at}
-use Rattle.tx_balance.proofs.Passed.{passed_sum}
+use Rattle.live_ledger.proofs.proofs_of_tx_balance.Passed.{passed_sum}
 use Rattle.utxo_rules.proofs.Balances.{balanced, unbalanced}
 use Rattle.utxo_rules.proofs.balance_of_lovelace.Goals as goal
 

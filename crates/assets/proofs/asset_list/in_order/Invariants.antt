@@ -1,6 +1,6 @@
 use Rattle.std.proofs.Common.{◌≡◌, [], drop}
 use Rattle.gov_ids.specs.Orders.{asset_cmp}
-use Rattle.maps.specs.Maps.{with_values}
+use Rattle.gov_ids.specs.of_maps.Maps.{with_values}
 use Rattle.assets.proofs.asset_list.in_order.Given as goal
 
 -- the entries so far with those that are left

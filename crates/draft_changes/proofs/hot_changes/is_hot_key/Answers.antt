@@ -1,7 +1,7 @@
 use Rattle.std.proofs.Common.{Option, Some, ap, sym, ◌∙◌}
 use Rattle.gov_ids.proofs.Sames.{credential_same}
 use Rattle.gov_actions.specs.declared.state.HotState.{HotState}
-use Rattle.gov_model.specs.Hot.{is_hot_key}
+use Rattle.ledger_books.specs.of_gov_model.Hot.{is_hot_key}
 use Rattle.maps.specs.Words.{some_and}
 use Rattle.draft_changes.proofs.hot_changes.is_hot_key.Goals as goal
 

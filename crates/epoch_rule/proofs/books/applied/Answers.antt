@@ -6,7 +6,7 @@ use Rattle.ledger_books.specs.Parts.{ledger_of_books, world_of_books}
 use Rattle.run_model.specs.Boundary.{after_pools, frozen_anew}
 use Rattle.run_model.specs.Report.{paid_of, removed_of}
 use Rattle.run_model.specs.World.{World}
-use Rattle.epoch_pass.specs.Reported.{by_credential, paid_in}
+use Rattle.epoch_steps.specs.of_epoch_pass.Reported.{by_credential, paid_in}
 use Rattle.epoch_steps.specs.Decisions.{AreOfPass, decided_of}
 use Rattle.epoch_steps.specs.declared.pass.Decided.{Decided}
 use Rattle.epoch_steps.specs.Halves.{after_all, after_paying, removed_from}

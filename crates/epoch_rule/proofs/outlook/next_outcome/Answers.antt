@@ -1,7 +1,7 @@
 use Rattle.std.proofs.Common.{subst, sym}
 use Rattle.gov_model.specs.Ratified.{expired_of, tallies_of}
-use Rattle.ratify.specs.Outcomes.{state_by}
-use Rattle.ratify.specs.declared.outcome.Outcome.{Outcome}
+use Rattle.epoch_steps.specs.of_ratify.Outcomes.{state_by}
+use Rattle.epoch_steps.specs.of_ratify.declared.outcome.Outcome.{Outcome}
 use Rattle.snapshots.specs.declared.frozen.Frozen.{Frozen}
 use Rattle.tally.specs.Counted.{AreOf, CanBeCounted}
 use Rattle.epoch_rule.proofs.Ahead.{by_ratified, ratified_is}

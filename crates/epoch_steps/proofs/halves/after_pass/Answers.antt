@@ -1,7 +1,7 @@
 use Rattle.std.proofs.Common.{◌≡◌, ℕ, ◌≤◌, List, map, ap, sym, subst, ◌∙◌, arith}
 use Rattle.gov_ids.specs.declared.Credential.{Credential}
 use Rattle.gov_model.specs.Snapshot.{Snapshot}
-use Rattle.ledger_books.specs.Parts.{world_of_books}
+use Rattle.epoch_ends.specs.of_ledger_books.Parts.{world_of_books}
 use Rattle.run_model.specs.Boundary.{claimed, dormancy_noted, enacted}
 use Rattle.run_model.specs.World.{World, on_ledger}
 use Rattle.epoch_pass.specs.Reported.{by_credential, paid_in}

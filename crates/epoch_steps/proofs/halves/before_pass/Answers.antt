@@ -1,6 +1,6 @@
 use Rattle.std.proofs.Common.{◌≡◌, ap, ◌∙◌, arith}
 use Rattle.gov_model.specs.Snapshot.{Snapshot}
-use Rattle.ledger_books.specs.Parts.{ledger_of_books, world_of_books}
+use Rattle.epoch_ends.specs.of_ledger_books.Parts.{ledger_of_books, world_of_books}
 use Rattle.run_model.specs.Boundary.{after_snapshots, terms_turned}
 use Rattle.run_model.specs.Genesis.{no_snapshot}
 use Rattle.run_model.specs.World.{World}

@@ -1,6 +1,6 @@
 use Rattle.std.proofs.Common.{Ok, subst, sym}
 use Rattle.run_model.specs.World.{World}
-use Rattle.tx_rule.specs.Judged.{IsJudged}
+use Rattle.undo_before.specs.of_tx_rule.Judged.{IsJudged}
 use Rattle.following.proofs.transactions.after_judged.Goals as goal
 
 pub before_judged-requires-clause-judged : goal.before_judged-requires-clause-judged

@@ -2,7 +2,7 @@ use Rattle.std.proofs.Common.{Ok, ap, subst, sym, ◌∙◌}
 use Rattle.ledger_model.specs.Broken.{first_broken}
 use Rattle.run_model.specs.World.{World}
 use Rattle.tx_records.specs.declared.record.Record.TheVariants as records
-use Rattle.tx_rule.specs.Judged.{IsJudged}
+use Rattle.undo_before.specs.of_tx_rule.Judged.{IsJudged}
 use Rattle.following.proofs.Moving.{refused}
 use Rattle.following.proofs.transactions.after_tx.Goals as goal
 

@@ -1,7 +1,7 @@
 use Rattle.std.proofs.Common.{List, ap, arith, sum_by, ◌∙◌}
 use Rattle.book_records.specs.Outputs.{lovelace_in}
 use Rattle.stake_book.specs.Stakes.{Stakes, accounts_of, balances_in}
-use Rattle.utxo_set.specs.Utxos.{Utxos}
+use Rattle.stake_book.specs.of_utxo_set.Utxos.{Utxos}
 use Rattle.genesis_books.proofs.FirstBook.{Account5, first_room, listed_next, listed_rewards, listed_room, listed_room_after, with_listed}
 use Rattle.genesis_books.proofs.first.first_accounts.Goals as goal
 

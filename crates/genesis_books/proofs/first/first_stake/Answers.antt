@@ -1,5 +1,5 @@
 use Rattle.std.proofs.Common.{◌∙◌}
-use Rattle.run_model.specs.Genesis.{ledger_of_genesis}
+use Rattle.genesis_balance.specs.of_run_model.Genesis.{ledger_of_genesis}
 use Rattle.genesis_books.proofs.Frozen.{live_is}
 use Rattle.genesis_books.proofs.first.first_stake.Goals as goal
 

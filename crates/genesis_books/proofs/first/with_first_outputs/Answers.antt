@@ -3,7 +3,7 @@ use Rattle.gov_ids.specs.declared.Credential.{Credential}
 use Rattle.book_records.specs.Outputs.{lovelace_in}
 use Rattle.book_records.specs.declared.Registered.{Registered}
 use Rattle.stake_book.specs.Stakes.{Stakes, accounts_of, balances_in}
-use Rattle.utxo_set.specs.Utxos.{Utxos}
+use Rattle.stake_book.specs.of_utxo_set.Utxos.{Utxos}
 use Rattle.genesis_books.proofs.FirstBook.{first_absent, first_balances, first_fresh, first_new, first_rest, first_room, first_sum, listed_lovelace, listed_rewards, output_room, with_first}
 use Rattle.genesis_balance.proofs.Start.{unbroken_genesis}
 use Rattle.genesis_books.proofs.first.with_first_outputs.Goals as goal

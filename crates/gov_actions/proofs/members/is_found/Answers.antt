@@ -5,7 +5,7 @@ use Rattle.std.proofs.lemmas.List.Sorted.{answers_always}
 use Rattle.gov_ids.specs.declared.Credential.{Credential}
 use Rattle.gov_ids.specs.Derived.{credential_is}
 use Rattle.gov_ids.proofs.Totals.{credential_total}
-use Rattle.maps.proofs.Searched.{found_is}
+use Rattle.gov_ids.proofs.proofs_of_maps.Searched.{found_is}
 use Rattle.gov_actions.proofs.members.is_found.Goals as goal
 
 pub returns : goal.returns

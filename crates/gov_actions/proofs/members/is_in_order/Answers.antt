@@ -7,7 +7,7 @@ use Rattle.gov_ids.specs.declared.Credential.{Credential}
 use Rattle.gov_ids.specs.contracts.CredentialOrd.TheImpl as credential_ord
 use Rattle.gov_ids.specs.Derived.{credential_is}
 use Rattle.gov_ids.proofs.Totals.{credential_total}
-use Rattle.maps.proofs.Searched.{told}
+use Rattle.gov_ids.proofs.proofs_of_maps.Searched.{told}
 use Rattle.gov_actions.proofs.members.is_in_order.Goals as goal
 
 pub returns : goal.returns

@@ -1,5 +1,5 @@
 use Rattle.std.proofs.Common.{◌==◌, List, find, ap, ◌∙◌}
-use Rattle.tx_records.specs.RuleTexts.{RuleText}
+use Rattle.text_model.specs.of_tx_records.RuleTexts.{RuleText}
 use Rattle.report.proofs.RulesFound.{found_is}
 use Rattle.report.proofs.rule_texts.text_of.Goals as goal
 

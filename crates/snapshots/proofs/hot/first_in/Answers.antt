@@ -8,8 +8,8 @@ use Rattle.gov_ids.specs.Orders.{credential_cmp}
 use Rattle.gov_ids.specs.Same.{same_credential}
 use Rattle.gov_ids.proofs.Sames.{credential_same}
 use Rattle.gov_ids.proofs.Totals.{credential_total}
-use Rattle.gov_actions.specs.declared.state.HotState.{HotState}
-use Rattle.gov_actions.specs.declared.state.HotState.TheVariants.{Hot}
+use Rattle.gov_model.specs.of_gov_actions.declared.state.HotState.{HotState}
+use Rattle.gov_model.specs.of_gov_actions.declared.state.HotState.TheVariants.{Hot}
 use Rattle.maps.specs.Maps.{value_at}
 use Rattle.snapshots.proofs.hot.first_in.Goals as goal
 

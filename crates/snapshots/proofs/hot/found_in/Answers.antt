@@ -7,8 +7,8 @@ use Rattle.gov_ids.specs.declared.Credential.{Credential}
 use Rattle.gov_ids.specs.Orders.{credential_cmp}
 use Rattle.gov_ids.specs.Derived.{credential_is}
 use Rattle.gov_ids.proofs.Totals.{credential_total}
-use Rattle.gov_actions.specs.declared.state.HotState.{HotState}
-use Rattle.gov_actions.specs.declared.state.HotState.TheVariants.{Hot}
+use Rattle.gov_model.specs.of_gov_actions.declared.state.HotState.{HotState}
+use Rattle.gov_model.specs.of_gov_actions.declared.state.HotState.TheVariants.{Hot}
 use Rattle.snapshots.proofs.Searched.{found, missed}
 use Rattle.snapshots.proofs.hot.found_in.Goals as goal
 

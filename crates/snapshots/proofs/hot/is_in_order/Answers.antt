@@ -3,7 +3,7 @@ use Rattle.std.specs.declared.cmp.Ordering.{Ordering}
 use Rattle.std.specs.List.{IsAllAdjacentAnswer}
 use Rattle.std.specs.Ordering.{is_lt}
 use Rattle.std.proofs.lemmas.List.Sorted.{answers_always}
-use Rattle.gov_actions.specs.declared.state.HotState.{HotState}
+use Rattle.gov_model.specs.of_gov_actions.declared.state.HotState.{HotState}
 use Rattle.gov_ids.specs.declared.Credential.{Credential}
 use Rattle.gov_ids.specs.contracts.CredentialOrd.TheImpl as credential_ord
 use Rattle.gov_ids.specs.Derived.{credential_is}

@@ -1,4 +1,4 @@
-use Rattle.genesis_books.proofs.Frozen.{live_is}
+use Rattle.ledger_state.proofs.proofs_of_genesis_books.Frozen.{live_is}
 use Rattle.state_view.proofs.view.view_of.Goals as goal
 
 pub returns : goal.returns

@@ -1,6 +1,6 @@
 use Rattle.std.proofs.Common.{ℕ, List, length, ap, nat_le, ◌∙◌}
 use Rattle.std.specs.Map.{keys_of}
-use Rattle.maps.proofs.Ordered.{no_repeats}
+use Rattle.gov_ids.proofs.proofs_of_maps.Ordered.{no_repeats}
 use Rattle.gov_ids.specs.declared.assets.AssetId.{AssetId}
 use Rattle.gov_ids.specs.Orders.{asset_cmp}
 use Rattle.tx_records.proofs.Ordered.{within_by}

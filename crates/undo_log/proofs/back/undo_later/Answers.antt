@@ -2,9 +2,9 @@ use Rattle.std.proofs.Common.{◌≡◌, ap, drop, subst, sym, ◌∙◌}
 use Rattle.std.proofs.lemmas.Result.{IfOk-weaker}
 use Rattle.drep_pulser.specs.Pulsers.{done_by}
 use Rattle.ledger_books.specs.Parts.{frozen_entries}
-use Rattle.ledger_state.proofs.Worlds.{held_along}
-use Rattle.ledger_state.specs.Parts.{world_of_parts}
-use Rattle.ledger_state.specs.Worlds.{snapshot_with}
+use Rattle.undo_back.proofs.proofs_of_ledger_state.Worlds.{held_along}
+use Rattle.undo_back.specs.of_ledger_state.Parts.{world_of_parts}
+use Rattle.undo_back.specs.of_ledger_state.Worlds.{snapshot_with}
 use Rattle.run_model.specs.World.{World}
 use Rattle.undo_log.specs.Back.{AllUndoable, undone_all}
 use Rattle.undo_log.proofs.Parts.{all_held, parts_undone}

@@ -1,5 +1,5 @@
 use Rattle.std.proofs.Common.{◌≡◌, ◌+◌, None, ap, ◌∙◌, arith}
-use Rattle.assets.specs.Quantities.{quantity_of}
+use Rattle.book_records.specs.of_assets.Quantities.{quantity_of}
 use Rattle.book_records.specs.Outputs.{assets_in, lovelace_in}
 use Rattle.gov_ids.specs.declared.assets.AssetId.{AssetId}
 use Rattle.gov_ids.specs.Orders.{outref_cmp}

@@ -1,5 +1,5 @@
 use Rattle.std.proofs.Common.{sym, arith}
-use Rattle.assets.specs.Quantities.{quantity_of}
+use Rattle.book_records.specs.of_assets.Quantities.{quantity_of}
 use Rattle.gov_ids.specs.Orders.{outref_cmp}
 use Rattle.maps.proofs.Sums.{sum_values-without_key}
 use Rattle.utxo_set.proofs.UtxoSet.take.Goals as goal

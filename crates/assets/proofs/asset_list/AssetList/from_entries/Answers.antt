@@ -4,8 +4,8 @@ use Rattle.std.specs.List.Sorted.{IsStrictlySortedBy}
 use Rattle.gov_ids.specs.declared.assets.AssetId.{AssetId}
 use Rattle.gov_ids.specs.Orders.{asset_cmp}
 use Rattle.gov_ids.proofs.Totals.{asset_total}
-use Rattle.maps.proofs.Kept.{IsMap-with_values}
-use Rattle.maps.specs.Maps.{IsMap, with_values}
+use Rattle.gov_ids.proofs.proofs_of_maps.Kept.{IsMap-with_values}
+use Rattle.gov_ids.specs.of_maps.Maps.{IsMap, with_values}
 use Rattle.assets.proofs.Lists.{all-with_values}
 use Rattle.assets.proofs.asset_list.AssetList.from_entries.Goals as goal
 

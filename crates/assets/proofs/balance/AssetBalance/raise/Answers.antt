@@ -3,8 +3,8 @@ use Rattle.std.specs.List.{AllByRecursion}
 use Rattle.gov_ids.specs.declared.assets.AssetId.{AssetId}
 use Rattle.gov_ids.specs.Orders.{asset_cmp}
 use Rattle.gov_ids.proofs.Totals.{asset_total}
-use Rattle.maps.proofs.Kept.{IsMap-with_value}
-use Rattle.maps.specs.Maps.{IsMap, value_at, with_value}
+use Rattle.gov_ids.proofs.proofs_of_maps.Kept.{IsMap-with_value}
+use Rattle.gov_ids.specs.of_maps.Maps.{IsMap, value_at, with_value}
 use Rattle.assets.proofs.Balanced.{IsWithin, balance_raised, sums_within}
 use Rattle.assets.proofs.Values.{all-weaker, all-with_value, given_is}
 use Rattle.assets.proofs.balance.AssetBalance.raise.Goals as goal

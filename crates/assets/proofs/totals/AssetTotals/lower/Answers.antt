@@ -3,8 +3,8 @@ use Rattle.std.specs.List.{AllByRecursion}
 use Rattle.gov_ids.specs.declared.assets.AssetId.{AssetId}
 use Rattle.gov_ids.specs.Orders.{asset_cmp}
 use Rattle.gov_ids.proofs.Totals.{asset_total}
-use Rattle.maps.proofs.Placed.{set_value-with_value}
-use Rattle.maps.specs.Maps.{with_value}
+use Rattle.gov_ids.proofs.proofs_of_maps.Placed.{set_value-with_value}
+use Rattle.gov_ids.specs.of_maps.Maps.{with_value}
 use Rattle.assets.specs.Quantities.{quantity_of}
 use Rattle.assets.specs.Totals.{AreTotals, total_at}
 use Rattle.assets.proofs.Sums.{AreTotals-with_value, AreTotals-without_key, total_at-bounded, total_at-less, total_at-none}

@@ -2,8 +2,8 @@ use Rattle.std.proofs.Common.{List, ℕ, option_map, slice_get, ap, sym, ◌∙�
 use Rattle.std.specs.Bound.{bound_map}
 use Rattle.gov_ids.specs.declared.assets.AssetId.{AssetId}
 use Rattle.gov_ids.specs.Orders.{asset_cmp}
-use Rattle.maps.proofs.Next.{entry_after-range}
-use Rattle.maps.specs.Maps.{entry_after}
+use Rattle.gov_ids.proofs.proofs_of_maps.Next.{entry_after-range}
+use Rattle.gov_ids.specs.of_maps.Maps.{entry_after}
 use Rattle.assets.proofs.totals.AssetTotals.next.Goals as goal
 
 pub returns-in_err-asset : goal.returns-in_err-asset

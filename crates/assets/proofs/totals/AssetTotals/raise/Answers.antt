@@ -2,7 +2,7 @@ use Rattle.std.proofs.Common.{◌≡◌, ◌≤◌, ◌<◌, ◌+◌, ◌*◌, �
 use Rattle.std.specs.List.{AllByRecursion}
 use Rattle.gov_ids.specs.declared.assets.AssetId.{AssetId}
 use Rattle.gov_ids.specs.Orders.{asset_cmp}
-use Rattle.maps.specs.Maps.{with_value}
+use Rattle.gov_ids.specs.of_maps.Maps.{with_value}
 use Rattle.assets.specs.Quantities.{quantity_of}
 use Rattle.assets.specs.Totals.{AreTotals, total_at}
 use Rattle.assets.proofs.Sums.{AreTotals-with_value, total_at-bounded, total_at-more}

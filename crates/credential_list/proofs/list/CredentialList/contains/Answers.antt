@@ -1,8 +1,8 @@
 use Rattle.std.proofs.Common.{ap, ◌∙◌}
 use Rattle.gov_ids.specs.Derived.{credential_is}
 use Rattle.gov_ids.specs.Same.{same_credential}
-use Rattle.maps.specs.Maps.{has_member}
-use Rattle.maps.specs.Words.{among}
+use Rattle.gov_ids.specs.of_maps.Maps.{has_member}
+use Rattle.gov_ids.specs.of_maps.Words.{among}
 use Rattle.credential_list.proofs.list.CredentialList.contains.Goals as goal
 
 pub returns-in-Some : goal.returns-in-Some

@@ -3,8 +3,8 @@ use Rattle.gov_ids.specs.declared.Credential.{Credential}
 use Rattle.gov_ids.specs.Derived.{credential_is}
 use Rattle.gov_ids.specs.Orders.{credential_cmp}
 use Rattle.gov_ids.proofs.Totals.{credential_total}
-use Rattle.maps.specs.Maps.{has_member, in_order}
-use Rattle.maps.proofs.Sets.{has_member-in_order}
+use Rattle.gov_ids.specs.of_maps.Maps.{has_member, in_order}
+use Rattle.gov_ids.proofs.proofs_of_maps.Sets.{has_member-in_order}
 use Rattle.credential_list.proofs.list.CredentialList.from_vec.Goals as goal
 
 pub invariant_of-result-2 : goal.invariant_of-result-2

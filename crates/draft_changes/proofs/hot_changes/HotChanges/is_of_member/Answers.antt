@@ -3,7 +3,7 @@ use Rattle.std.proofs.lemmas.Iterator.{YieldsList-from_slice}
 use Rattle.std.proofs.lemmas.Iterator.Search.{any_from_yields_List}
 use Rattle.gov_ids.specs.declared.Credential.{Credential}
 use Rattle.gov_ids.specs.Orders.{credential_cmp}
-use Rattle.gov_model.specs.Hot.{is_hot_key}
+use Rattle.ledger_books.specs.of_gov_model.Hot.{is_hot_key}
 use Rattle.maps.specs.Maps.{value_at, with_values}
 use Rattle.maps.specs.Words.{some_and}
 use Rattle.draft_changes.proofs.hot_changes.HotChanges.is_of_member.Goals as goal

@@ -2,8 +2,8 @@ use Rattle.std.proofs.Common.{◌≡◌, List, ◌||◌, nat_lt, ap, subst, sym,
 use Rattle.gov_ids.specs.declared.Credential.{Credential}
 use Rattle.gov_ids.specs.Orders.{credential_cmp}
 use Rattle.gov_actions.specs.declared.state.HotState.{HotState}
-use Rattle.gov_model.specs.Hot.{is_named}
-use Rattle.committee_book.specs.Counts.{count_of}
+use Rattle.ledger_books.specs.of_gov_model.Hot.{is_named}
+use Rattle.ledger_books.specs.of_committee_book.Counts.{count_of}
 use Rattle.maps.specs.Maps.{with_values}
 use Rattle.draft_changes.specs.ChangedHot.{ChangedHot, IsOver, covered_by}
 use Rattle.draft_changes.proofs.HotChanging.{named_after}

@@ -4,11 +4,11 @@ use Rattle.gov_ids.specs.declared.Credential.{Credential}
 use Rattle.gov_ids.specs.Orders.{credential_cmp}
 use Rattle.gov_ids.proofs.Totals.{credential_total}
 use Rattle.gov_actions.specs.declared.state.Committee.{Committee}
-use Rattle.gov_model.specs.Hot.{is_hot_key, is_named, of_members}
+use Rattle.ledger_books.specs.of_gov_model.Hot.{is_hot_key, is_named, of_members}
 use Rattle.maps.proofs.Kept.{IsMap-with_values}
 use Rattle.maps.specs.Maps.{value_at, with_values}
 use Rattle.maps.specs.Words.{some_and}
-use Rattle.committee_book.specs.Holders.{entries_beside}
+use Rattle.ledger_books.specs.of_committee_book.Holders.{entries_beside}
 use Rattle.draft_changes.specs.ChangedHot.{ChangedHot}
 use Rattle.draft_changes.proofs.HotChanging.{seated_after}
 use Rattle.draft_changes.proofs.Seating.{any_among, any_of_none}

@@ -3,7 +3,7 @@ use Rattle.std.proofs.lemmas.Option.{slice_get_within}
 use Rattle.gov_ids.specs.declared.Credential.{Credential}
 use Rattle.gov_ids.specs.Orders.{credential_cmp}
 use Rattle.book_records.specs.declared.Entry.{Entry}
-use Rattle.gov_model.specs.Snapshot.{Snapshot}
+use Rattle.snapshots.specs.of_gov_model.Snapshot.{Snapshot}
 use Rattle.view_map.specs.View.{frozen_of}
 use Rattle.drep_pulser.specs.Count.{Count}
 use Rattle.drep_pulser.specs.Facts.{IsCountIn, IsCountOf, weight_by}

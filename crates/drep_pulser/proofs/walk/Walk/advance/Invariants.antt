@@ -1,6 +1,6 @@
 use Rattle.std.proofs.Common.{◌≡◌, ◌+◌, drop}
 use Rattle.gov_ids.specs.Orders.{credential_cmp}
-use Rattle.gov_model.specs.Snapshot.{Snapshot}
+use Rattle.snapshots.specs.of_gov_model.Snapshot.{Snapshot}
 use Rattle.view_map.specs.View.{frozen_of}
 use Rattle.drep_pulser.specs.Facts.{IsCountIn, IsCountOf}
 use Rattle.drep_pulser.specs.Parts.{no_part}

@@ -1,6 +1,6 @@
 use Rattle.std.proofs.lemmas.Result.{on_ok_weaker, on_err_weaker}
 use Rattle.follow_loop.specs.Outcomes.{follow_outcome_lines}
-use Rattle.gathered_lines.proofs.Gathering.{names_stay, told_all, told_part}
+use Rattle.replay_loop.proofs.proofs_of_gathered_lines.Gathering.{names_stay, told_all, told_part}
 use Rattle.follow_loop.proofs.outcome.FollowOutcome.put_through.Goals as goal
 
 pub returns-clause-ok : goal.returns-clause-ok

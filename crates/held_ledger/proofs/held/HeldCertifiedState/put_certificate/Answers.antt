@@ -1,5 +1,5 @@
 use Rattle.std.proofs.Common.{ap}
-use Rattle.certificate_model.specs.Certificate.{certificate_lines}
+use Rattle.replay_loop.specs.of_certificate_model.Certificate.{certificate_lines}
 use Rattle.report.proofs.Handed.{put_as}
 use Rattle.run_model.specs.World.{World}
 use Rattle.held_ledger.proofs.held.HeldCertifiedState.put_certificate.Goals as goal

@@ -1,6 +1,6 @@
 use Rattle.std.proofs.Common.{ap, sym, ◌∙◌}
 use Rattle.drep_pulser.specs.declared.Pulser.TheVariants.{Counting}
-use Rattle.stake_book.specs.Stakes.{Stakes}
+use Rattle.live_ledger.specs.of_stake_book.Stakes.{Stakes}
 use Rattle.ledger_state.proofs.Worlds.{begun_again, begun_entries, begun_same, begun_sound, held_along}
 use Rattle.ledger_state.proofs.state.LedgerState.begin_epoch.Goals as goal
 

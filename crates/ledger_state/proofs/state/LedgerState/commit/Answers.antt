@@ -2,7 +2,7 @@ use Rattle.std.proofs.Common.{ap, sym, ◌∙◌}
 use Rattle.ledger_model.specs.Broken.{is_allowed}
 use Rattle.ledger_model.specs.Ledger.{Ledger}
 use Rattle.ledger_model.specs.Transaction.{ledger_after_tx}
-use Rattle.draft_changes.specs.Changed.{laid_over}
+use Rattle.live_ledger.specs.of_draft_changes.Changed.{laid_over}
 use Rattle.live_ledger.specs.Drafts.{draft_of}
 use Rattle.run_model.specs.World.{World, on_ledger}
 use Rattle.ledger_state.specs.contracts.state.LedgerState.{the_view}

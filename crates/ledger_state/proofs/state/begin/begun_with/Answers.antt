@@ -1,5 +1,5 @@
 use Rattle.std.proofs.Common.{ap, subst, sym, ◌∙◌}
-use Rattle.ledger_books.specs.declared.Books.{Books}
+use Rattle.epoch_start.specs.of_ledger_books.declared.Books.{Books}
 use Rattle.ledger_state.specs.Parts.{world_of_parts}
 use Rattle.ledger_state.specs.Worlds.{IsHeldBy}
 use Rattle.ledger_state.proofs.state.begin.begun_with.Goals as goal

@@ -4,7 +4,7 @@ use Rattle.std.proofs.lemmas.Bool.{eqb-true}
 use Rattle.gov_ids.specs.Orders.{credential_cmp, pool_cmp}
 use Rattle.maps.specs.Maps.{IsMap}
 use Rattle.ledger_model.specs.Ledger.{Ledger}
-use Rattle.run_model.specs.Laws.{IsWithinDormantBound}
+use Rattle.dormant_laws.specs.of_run_model.Laws.{IsWithinDormantBound}
 use Rattle.draft_changes.specs.ChangedAccounts.{ChangedAccounts}
 use Rattle.draft_changes.specs.ChangedDreps.{ChangedDreps}
 use Rattle.draft_changes.specs.ChangedHot as changed_hot

@@ -2,7 +2,7 @@ use Rattle.std.proofs.Common.{ℕ, ◌+◌, ap, arith, subst, sym, ◌∙◌}
 use Rattle.gov_ids.specs.Orders.{credential_cmp}
 use Rattle.maps.specs.Maps.{IsMap}
 use Rattle.ledger_model.specs.Ledger.{Ledger}
-use Rattle.run_model.specs.Laws.{IsWithinDormantBound}
+use Rattle.dormant_laws.specs.of_run_model.Laws.{IsWithinDormantBound}
 use Rattle.draft_changes.specs.ChangedDreps as changed_dreps
 use Rattle.draft_changes.specs.ChangedDreps.{AllAddable, ChangedDreps}
 use Rattle.draft_changes.specs.ChangedParts.{changed_of}

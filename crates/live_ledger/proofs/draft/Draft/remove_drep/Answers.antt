@@ -5,7 +5,7 @@ use Rattle.book_records.specs.declared.DrepState.{DrepState}
 use Rattle.maps.proofs.Kept.{IsMap-with_value}
 use Rattle.maps.specs.Maps.{IsMap, value_at}
 use Rattle.ledger_model.specs.Ledger.{Ledger}
-use Rattle.run_model.specs.Laws.{IsWithinDormantBound}
+use Rattle.dormant_laws.specs.of_run_model.Laws.{IsWithinDormantBound}
 use Rattle.draft_changes.specs.ChangedAccounts.{ChangedAccounts}
 use Rattle.draft_changes.specs.ChangedDreps.{ChangedDreps}
 use Rattle.draft_changes.specs.ChangedParts.{changed_of}

@@ -1,6 +1,6 @@
 use Rattle.std.proofs.Common.{ap, subst, sym}
-use Rattle.ledger_books.specs.declared.Books.{Books}
-use Rattle.ledger_books.specs.Parts.{ledger_of_books}
+use Rattle.draft_changes.specs.of_ledger_books.declared.Books.{Books}
+use Rattle.draft_changes.specs.of_ledger_books.Parts.{ledger_of_books}
 use Rattle.ledger_model.specs.Ledger.{Ledger}
 use Rattle.live_ledger.specs.Kept.{IsLiveLedger}
 use Rattle.live_ledger.proofs.Slots.{kept_at}

@@ -1,6 +1,6 @@
 use Rattle.std.proofs.Common.{ap, subst, sym, ◌∙◌}
-use Rattle.ledger_books.specs.declared.Books.{Books}
-use Rattle.ledger_books.specs.Parts.{frozen_entries, ledger_of_books}
+use Rattle.draft_changes.specs.of_ledger_books.declared.Books.{Books}
+use Rattle.draft_changes.specs.of_ledger_books.Parts.{frozen_entries, ledger_of_books}
 use Rattle.ledger_model.specs.Broken.{is_allowed}
 use Rattle.ledger_model.specs.Ledger.{Ledger}
 use Rattle.ledger_model.specs.Transaction.{ledger_after_tx}

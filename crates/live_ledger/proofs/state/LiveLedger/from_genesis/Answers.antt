@@ -1,6 +1,6 @@
 use Rattle.std.proofs.Common.{ap, sym, subst, ◌∙◌}
-use Rattle.ledger_books.specs.declared.Books.{Books}
-use Rattle.ledger_books.specs.Parts.{frozen_entries, ledger_of_books}
+use Rattle.draft_changes.specs.of_ledger_books.declared.Books.{Books}
+use Rattle.draft_changes.specs.of_ledger_books.Parts.{frozen_entries, ledger_of_books}
 use Rattle.ledger_model.specs.Ledger.{Ledger}
 use Rattle.live_ledger.specs.Kept.{IsLiveLedger}
 use Rattle.live_ledger.proofs.Starting.{genesis_kept, made_ledger}

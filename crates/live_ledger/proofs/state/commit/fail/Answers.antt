@@ -1,6 +1,6 @@
 use Rattle.std.proofs.Common.{◌≡◌, ◌-◌, arith, sym, subst, ◌∙◌}
 use Rattle.tx_records.proofs.Parts.{tx_parts}
-use Rattle.ledger_books.specs.Parts.{ledger_of_books}
+use Rattle.draft_changes.specs.of_ledger_books.Parts.{ledger_of_books}
 use Rattle.ledger_model.specs.Ledger.{Ledger}
 use Rattle.ledger_model.specs.UtxoRules.{collateral_left}
 use Rattle.live_ledger.specs.Kept.{IsLiveLedger}

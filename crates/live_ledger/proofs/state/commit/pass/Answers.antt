@@ -9,8 +9,8 @@ use Rattle.gov_actions.specs.declared.state.EnactState.{EnactState}
 use Rattle.gov_ids.specs.declared.Credential.{Credential}
 use Rattle.gov_ids.specs.Orders.{outref_cmp}
 use Rattle.gov_model.specs.Proposals.{deposits_of}
-use Rattle.ledger_books.specs.declared.Books.{Books}
-use Rattle.ledger_books.specs.Parts.{ledger_of_books}
+use Rattle.draft_changes.specs.of_ledger_books.declared.Books.{Books}
+use Rattle.draft_changes.specs.of_ledger_books.Parts.{ledger_of_books}
 use Rattle.ledger_model.specs.Ledger.{Ledger}
 use Rattle.ledger_model.specs.Transaction.{last_voting_epoch, made_outputs, made_proposals, with_votes}
 use Rattle.maps.specs.Maps.{value_at, without_keys}
