@@ -1,35 +1,32 @@
 -- A run that is cut in two and resumed.
-use Rattle.std.proofs.Common.{◌≡◌, ◌⊎◌, ℕ, ◌+◌, ◌<◌, ◌≤◌, ◌==◌, ◌^◌, ◌||◌, Bool, true, false, List, [], ◌∷◌, ◌++◌, Option, Some, None, Result, Ok, Err, ap, append_assoc, arith, cond, drop, inl, inr, length, refl, subst, sym, ◌∙◌}
-use Rattle.std.specs.Prelude.{IsOk, option_map}
+use Rattle.std.proofs.Common.{◌≡◌, ◌⊎◌, ℕ, ◌+◌, ◌<◌, ◌≤◌, ◌==◌, ◌^◌, Bool, true, false, List, [], ◌∷◌, ◌++◌, Option, Some, Ok, Err, ap, append_assoc, arith, cond, drop, inl, inr, length, refl, subst, sym, ◌∙◌}
 use Rattle.std.specs.Io.KnownBytes.{append_known}
 use Rattle.std.proofs.lemmas.Bool.{false≢true}
 use Rattle.std.proofs.lemmas.List.{append-nil, length-append, length-map}
 use Rattle.byte_lines.specs.Laws.{CutsInTwo, LinesAddUp}
-use Rattle.byte_lines.specs.Pieces.{kept, line_feed, lines_of, open_of, pieces_of, whole_of, with_first}
-use Rattle.checkpoint_model.specs.Checkpoint.{checkpoint_lines}
+use Rattle.byte_lines.specs.Pieces.{kept, line_feed, open_of, pieces_of, whole_of, with_first}
+use Rattle.checkpoint_model.specs.Checkpoint.{checkpoint_lines, checkpoint_text}
 use Rattle.checkpoint_model.specs.Laws.{ReplayIsResumed}
 use Rattle.checkpoint_model.specs.Resumable.{IsResumable}
 use Rattle.checkpoint_model.specs.Resumed.{text_of_resume}
-use Rattle.ended_lines.specs.Ended.{has_end, is_end_line, up_to_end}
+use Rattle.ended_lines.specs.Ended.{has_end, up_to_end}
 use Rattle.ended_lines.proofs.Passing.{front_of_text}
-use Rattle.line_giver.specs.OfList.{whole_lines}
 use Rattle.line_runs.specs.Plays.{Played}
 use Rattle.line_runs.specs.Runs.{IsStopped}
 use Rattle.line_runs.specs.declared.fault.RunFault.TheVariants as faults
 use Rattle.line_runs.proofs.Fronts.{records_both}
 use Rattle.record_stream.specs.Records.{reading_of_line, records_from, records_of}
-use Rattle.replay_loop.specs.Runs.{text_of_run}
 use Rattle.run_model.specs.World.{World}
-use Rattle.stream_laws.specs.Laws.{BytesAreResumable, world_of_bytes}
+use Rattle.stream_laws.specs.Laws.{BytesAreResumable}
 use Rattle.text_forms.specs.Lines.{joined_lines}
 use Rattle.text_model.specs.Runs.{text_of_readings}
 use Rattle.text_model.specs.Words.{Text}
 use Rattle.tx_records.specs.declared.limits.TheConstants.{LINE_LIMIT, STREAM_LIMIT}
 use Rattle.tx_records.specs.declared.record.Reading.{Reading}
 use Rattle.resume_loop.specs.Heads.{IsCheckpointOf}
-use Rattle.resume_laws.specs.Laws.{DoneResumeIsWhole, HasWritten, ResumeIsComplete, Resumes, RunIsResumed, RunLeavesCheckpoint, line_count, records_after}
+use Rattle.resume_laws.specs.Laws.{CheckpointIsCut, CutRunIsWhole, HasWritten, Resumes, RunIsResumed, RunLeavesCheckpoint, line_count, records_after}
 use Rattle.resume_loop.specs.Plays.{ResumeResult, Resumed, resumed_run}
-use Rattle.resume_loop.specs.Resumed.{GoesOn, HasNotBegun, IsRefused, IsResumed, lines_in}
+use Rattle.resume_loop.specs.Resumed.{GoesOn, IsRefused, IsResumed, lines_in}
 use Rattle.resume_loop.specs.declared.fault.NoCheckpoint.{NoCheckpoint}
 use Rattle.resume_loop.proofs.Ends.{ends_once, has_first, lines_of_checkpoint}
 use Rattle.resume_loop.proofs.Played.{resumed_in, resumed_to_end}
@@ -191,3 +188,14 @@ module _ (bytes : List ℕ) (w : World) (line : ℕ) (more : List ℕ) (sound : 
     complete adds short (Err (faults.Stop cause)) (inr h) no_read no_write = absurd (not_refused adds h.came h.rest h.cut h.ending)
     complete adds short (Err faults.TooMuch) (inl h) no_read no_write = absurd (not_over bytes h.run.came h.run.rest h.run.cut short (h.run.too_much.0 refl))
     complete adds short (Err faults.TooMuch) (inr h) no_read no_write = absurd (not_over bytes h.came h.rest h.cut short (h.too_much.0 refl))
+
+-- ---- a run that is cut, from its bytes to what a resume writes
+
+pub cut_run_is_whole : RunIsResumed → RunLeavesCheckpoint → CheckpointIsCut → CutRunIsWhole
+cut_run_is_whole resumed leaves cut a b w left had has ends short e run =
+    let c = leaves a w short e in
+    record {
+      text = text_of_resume w (records_after (line_count a) b);
+      written = done_is_whole (checkpoint_text w (line_count a) ++ b) w (line_count a) b c.is.sound c.is.within (cut w (line_count a) b c.is.sound c.is.within) left had has run;
+      rest = resumed a b w ends e;
+    }

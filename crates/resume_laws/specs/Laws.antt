@@ -8,7 +8,7 @@ use Rattle.checkpoint_model.specs.Resumed.{text_of_resume}
 use Rattle.line_giver.specs.OfList.{whole_lines}
 use Rattle.line_runs.specs.declared.fault.RunFault.TheVariants as faults
 use Rattle.record_stream.specs.Records.{records_from}
-use Rattle.replay_loop.specs.Runs.{text_of_run}
+use Rattle.resume_loop.specs.of_replay_loop.Runs.{text_of_run}
 use Rattle.run_model.specs.World.{World}
 use Rattle.stream_laws.specs.Laws.{world_of_bytes}
 use Rattle.text_forms.specs.Lines.{joined_lines}
@@ -47,10 +47,27 @@ pub record HasWritten (text : Text) (left had has : Option (List ℕ)) : Type 0 
 abbrev pub Resumes : List ℕ → World → ℕ → List ℕ → Type 0
 Resumes bytes w line more = lines_in bytes ≡ whole_lines (joined_lines (checkpoint_lines w line)) ++ lines_in more
 
+-- the text of a checkpoint, and more bytes behind it, are such bytes
+abbrev pub CheckpointIsCut : Type 0
+CheckpointIsCut = (w : World) (line : ℕ) (more : List ℕ) → IsResumable w → line ≤ 2 ^ 48 → Resumes (checkpoint_text w line ++ more) w line more
+
 -- a resume of them that is done wrote what a resume of that World writes of the others
 abbrev pub DoneResumeIsWhole : Type 0
 DoneResumeIsWhole = (bytes : List ℕ) (w : World) (line : ℕ) (more : List ℕ) (left had has : Option (List ℕ)) → IsResumable w → line ≤ 2 ^ 48
     → Resumes bytes w line more → IsResumed bytes left had has (Ok tt) → HasWritten (text_of_resume w (records_after line more)) left had has
+
+-- no byte is left, and a text was written that the run over all bytes, first ones and more, writes
+-- after the text of the first ones
+pub record HasWrittenRest (a b : List ℕ) (left had has : Option (List ℕ)) : Type 0 where
+  pub text : Text
+  pub written : HasWritten text left had has
+  pub rest : text_of_run (a ++ b) ≡ option_map (λ t. t ++ text) (text_of_run a)
+
+-- bytes that end with a line feed leave a World; a resume of its checkpoint and of more bytes that
+-- is done wrote the rest of the text of all
+abbrev pub CutRunIsWhole : Type 0
+CutRunIsWhole = (a b : List ℕ) (w : World) (left had has : Option (List ℕ)) → open_of a ≡ [] → length a ≤ STREAM_LIMIT → world_of_bytes a ≡ Some w
+    → IsResumed (checkpoint_text w (line_count a) ++ b) left had has (Ok tt) → HasWrittenRest a b left had has
 
 -- over a checkpoint and more, within the limit of a stream, only a fault or too little memory
 -- stops a resume

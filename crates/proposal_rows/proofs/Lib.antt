@@ -1,0 +1,3 @@
+mod VoteTells
+mod LiveTells
+mod FrozenTells
