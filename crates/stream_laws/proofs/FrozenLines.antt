@@ -31,7 +31,7 @@ use Rattle.text_model.specs.ParamLines.{param_lines}
 use Rattle.text_model.specs.StateLines.{account_words, committee_lines, hot_outside, hot_words, member_among, proposal_lines, vote_words, words_of_constitution, words_of_enacted}
 use Rattle.text_model.specs.Words.{Text, or_none, version_text}
 use Rattle.certificate_model.specs.Certificate.{certificate_words, mark_words, snapshot_lines, whole_proposal_lines}
-use Rattle.further_laws.proofs.Widths.{AreLines, IsLine, IsWord, account, account_line, committee_line, constitution_line, cred, dec, enacted_line, hot_line, lines_map, member_line, now_line, param_lines_are, pool, proposal_line, short_lines, u64, vote_line}
+use Rattle.claim_lengths.proofs.proofs_of_further_laws.Widths.{AreLines, IsLine, IsWord, account, account_line, committee_line, constitution_line, cred, dec, enacted_line, hot_line, lines_map, member_line, now_line, param_lines_are, pool, proposal_line, short_lines, u64, vote_line}
 use Rattle.action_lengths.specs.Laws.{is_within}
 
 -- ---- single lines

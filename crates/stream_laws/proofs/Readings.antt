@@ -21,8 +21,8 @@ use Rattle.record_read.specs.LineFaults as faults
 use Rattle.record_read.specs.Lines.{record_of_line}
 use Rattle.record_read.proofs.RecordsGive.{record_of_line-within}
 use Rattle.record_stream.specs.Records.{is_blank, reading_by, records_from}
-use Rattle.formed_laws.specs.Counts.{registrations_of}
-use Rattle.formed_laws.specs.Records.{is_formed}
+use Rattle.formed_lines.specs.of_formed_laws.Counts.{registrations_of}
+use Rattle.formed_lines.specs.of_formed_laws.Records.{is_formed}
 use Rattle.formed_lines.proofs.Lines.{lines_give_formed}
 use Rattle.action_lengths.specs.Laws.{are_within, is_within}
 use Rattle.action_lengths.proofs.Lines.{lines_hold_their_actions}

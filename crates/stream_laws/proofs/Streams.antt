@@ -1,11 +1,13 @@
 -- What holds of every World that a stream of bytes leaves.
-use Rattle.std.proofs.Common.{List, None, Option, Some, [], arith, codes, decimal, length, map, nat_le, refl, subst, sym, true, ℕ, ◌++◌, ◌+◌, ◌<◌, ◌^◌, ◌∙◌, ◌∷◌, ◌≡◌, ◌≤◌}
+use Rattle.std.proofs.Common.{List, None, Option, Some, [], ap, arith, codes, decimal, length, map, nat_le, refl, subst, sym, true, ℕ, ◌++◌, ◌+◌, ◌/◌, ◌<◌, ◌^◌, ◌∙◌, ◌∷◌, ◌≡◌, ◌≤◌}
+use Rattle.std.proofs.Math.Nat.{div-le_self}
 use Rattle.std.proofs.lemmas.Option.{none-some, same_Some}
 use Rattle.std.specs.List.{enumerate_from, list_all}
-use Rattle.std.proofs.lemmas.Bool.{and_from, le-leb, leb-true, lt-ltb, ltb-true}
+use Rattle.std.proofs.lemmas.Bool.{and_from, eqb-true, le-leb, leb-true, lt-ltb, ltb-true}
 use Rattle.std.proofs.lemmas.Fmt.{length-decimal-le}
 use Rattle.std.proofs.lemmas.List.{length-append}
 use Rattle.gov_ids.specs.declared.ActionId.{ActionId}
+use Rattle.gov_ids.specs.declared.PoolId.{PoolId}
 use Rattle.gov_ids.specs.declared.TxId.{TxId}
 use Rattle.gov_ids.specs.Spelling.{action_id_text, hash_text}
 use Rattle.gov_actions.specs.declared.action.Proposal.{Proposal}
@@ -18,8 +20,8 @@ use Rattle.text_forms.specs.Snapshots.{action_words, is_snapshot}
 use Rattle.checkpoint_model.specs.Laws.{all_proposed}
 use Rattle.checkpoint_model.specs.Resumable.{has_book_form, has_form}
 use Rattle.action_lengths.specs.Laws.{are_within, is_within}
-use Rattle.further_laws.proofs.Proposed.{reached_were_proposed}
-use Rattle.further_laws.proofs.Widths.{hash_few}
+use Rattle.claim_lengths.proofs.proofs_of_further_laws.Proposed.{reached_were_proposed}
+use Rattle.claim_lengths.proofs.proofs_of_further_laws.Widths.{hash_few}
 use Rattle.dormant_laws.proofs.Lists.{left_of, right_of}
 use Rattle.coin_frac.specs.declared.TheConstants.{SUPPLY_LIMIT}
 use Rattle.tx_records.specs.declared.genesis.Genesis.{Genesis}
@@ -31,22 +33,26 @@ use Rattle.tx_records.specs.declared.record.Record.{Record}
 use Rattle.tx_records.specs.declared.record.Record.TheVariants as records
 use Rattle.tx_records.specs.GenesisLimits as genesis_limits
 use Rattle.tx_records.specs.RecordLimits.{is_within_limits}
+use Rattle.gov_model.specs.Proposals.{deposits_of}
 use Rattle.gov_model.specs.Snapshot.{entry_count}
+use Rattle.maps.specs.Maps.{sum_values}
 use Rattle.run_model.specs.Genesis.{genesis_fault, world_of_genesis}
 use Rattle.run_model.specs.Runs.{IsReached, world_after_all}
-use Rattle.run_model.specs.SoundWorld.{IsSoundWorld}
+use Rattle.run_model.specs.SoundWorld.{IsSoundWorld, held_by}
 use Rattle.run_model.specs.World.{World}
-use Rattle.run_laws.proofs.Sound.{genesis_begins_sound, records_keep_sound}
+use Rattle.claim_lengths.proofs.proofs_of_run_laws.Sound.{genesis_begins_sound, records_keep_sound}
 use Rattle.text_forms.specs.Worlds.{world_after_readings, world_by, world_of_readings}
 use Rattle.byte_lines.specs.Pieces.{pieces_of}
 use Rattle.record_stream.specs.Records.{records_of}
-use Rattle.formed_laws.specs.Records.{is_formed, is_formed_genesis}
-use Rattle.formed_laws.proofs.Counts.{entries_are_few}
-use Rattle.formed_laws.proofs.Reached.{reached_has_form}
-use Rattle.further_laws.proofs.Kept.{reached_is_certified, reached_is_resumable}
+use Rattle.formed_lines.specs.of_formed_laws.Records.{is_formed, is_formed_genesis}
+use Rattle.formed_lines.proofs.proofs_of_formed_laws.Counts.{entries_are_few}
+use Rattle.formed_lines.proofs.proofs_of_formed_laws.Reached.{reached_has_form}
+use Rattle.claim_lengths.proofs.proofs_of_further_laws.Kept.{reached_is_resumable}
+use Rattle.claim_lengths.proofs.proofs_of_further_laws.Reached.{reached_is_timed}
 use Rattle.claim_lengths.proofs.Claims.{claims_short}
 use Rattle.stream_laws.specs.Laws.{BytesAreCertified, BytesAreResumable, BytesCountFits, BytesGiveForm}
 use Rattle.certificate_model.specs.Certificate.{claim_lines, snapshot_lines}
+use Rattle.certificate_model.specs.Fits.{Fits}
 use Rattle.stream_laws.proofs.FrozenLines.{frozen_within, join, snapshot_short}
 use Rattle.stream_laws.proofs.Pieces.{filled, filled_within}
 use Rattle.stream_laws.proofs.Readings.{AreGood, few_lines, formed_good, good_lines, held_good, read_records, registrations_few, runs, within_good}
@@ -210,13 +216,34 @@ bytes_are_resumable bytes w short e =
     let form : has_form w ≡ true = bytes_give_form bytes w e in
     reached_is_resumable w o.reached form (bytes_count_fits bytes w short e) (live_lines w (filled (pieces_of bytes)) o form)
 
-pub bytes_are_certified : BytesAreCertified
-bytes_are_certified bytes w e =
-    let n : ℕ = filled (pieces_of bytes) in
-    let o : IsOf n w = of_bytes bytes w e in
+-- ---- certificates
+
+-- what is frozen of such a World fits
+frozen_fits : (w : World) (n : ℕ) → IsOf n w → Fits w.frozen
+frozen_fits w n o =
     let s : IsSoundWorld w = sound w o.reached in
-    let frozen : is_snapshot w.frozen ≡ true = right_of _ _ (bytes_give_form bytes w e) in
-    let proposals : list_all is_proposal w.frozen.proposals ≡ true = left_of _ _ (right_of _ _ (left_of _ _ frozen)) in
+    let form : is_snapshot w.frozen ≡ true = right_of _ _ (reached_has_form w o.reached o.genesis o.records) in
+    let proposals : list_all is_proposal w.frozen.proposals ≡ true = left_of _ _ (right_of _ _ (left_of _ _ form)) in
     let actions : are_short_lines (map action_words w.frozen.proposals) ≡ true = action_lines w.frozen.proposals proposals (frozen_within w s (live_within w n o)) in
-    let early : w.frozen.epoch < 2 ^ 64 = omega (arith, s.stands.epoch, s.ledger.epoch) in
-    reached_is_certified w o.reached frozen (join (snapshot_lines w.frozen) (claim_lines w.frozen) (snapshot_short w.frozen frozen early actions) (claims_short w.frozen frozen))
+    let clock : w.ledger.epoch ≡ w.ledger.slot / w.ledger.epoch_length = eqb-true w.ledger.epoch (w.ledger.slot / w.ledger.epoch_length) (reached_is_timed w o.reached) in
+    let early : w.frozen.epoch < 2 ^ 62 = omega (arith, s.stands.epoch, clock, div-le_self w.ledger.slot w.ledger.epoch_length, s.ledger.slot) in
+    let soon : w.frozen.epoch < 2 ^ 64 = omega (arith, early) in
+    let held : sum_values held_by w.frozen.entries + deposits_of w.frozen.proposals ≤ SUPPLY_LIMIT = omega (arith, s.frozen.held, s.ledger.within) in
+    let mark : sum_values (λ n. n) w.mark ≤ SUPPLY_LIMIT = omega (arith, s.mark.sum, s.ledger.within) in
+    record {
+      form = form;
+      epoch = lt-ltb w.frozen.epoch (2 ^ 62) early;
+      held = le-leb (sum_values held_by w.frozen.entries + deposits_of w.frozen.proposals) SUPPLY_LIMIT held;
+      mark = ap (λ (m : List (PoolId × ℕ)). nat_le (sum_values (λ n. n) m) SUPPLY_LIMIT) s.marked ∙ le-leb (sum_values (λ n. n) w.mark) SUPPLY_LIMIT mark;
+      short = join (snapshot_lines w.frozen) (claim_lines w.frozen) (snapshot_short w.frozen form soon actions) (claims_short w.frozen form);
+    }
+
+-- what is frozen of the World that good readings leave fits
+pub readings_fit : (rs : List (ℕ × Reading)) (w : World) → AreGood (read_records rs) → world_of_readings rs ≡ Some w → Fits w.frozen
+readings_fit rs w k e =
+    let n : ℕ = length (read_records rs) in
+    frozen_fits w n (of_readings rs w n k (omega arith) e)
+
+pub bytes_are_certified : BytesAreCertified
+bytes_are_certified bytes w e answer says =
+    says.1 (record { snapshot = w.frozen; fits = readings_fit (records_of bytes) w (good_lines 1 (pieces_of bytes)) e; text = refl })

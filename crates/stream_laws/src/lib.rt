@@ -3,4 +3,5 @@
 
 mod laws;
 
+pub use claim_lengths::of_further_laws;
 pub use laws::{bytes_are_certified, bytes_are_resumable, bytes_count_fits, bytes_give_form};

@@ -1,0 +1,6 @@
+//! Whether lines are a certificate.
+#![tactic(auto)]
+
+mod check;
+
+pub use check::Certificates;

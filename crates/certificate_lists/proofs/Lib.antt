@@ -1,0 +1,6 @@
+mod HeadLaws
+mod StakeLaws
+mod Begun
+mod RowLaws
+mod ShownRows
+mod Snapshots

@@ -1,0 +1,4 @@
+pub mod Items
+pub mod Kinds
+pub mod Rows
+pub mod Shapes

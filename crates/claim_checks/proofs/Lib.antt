@@ -1,0 +1,4 @@
+mod Lines
+mod Since
+mod HaveWords
+mod Taken
