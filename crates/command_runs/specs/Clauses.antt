@@ -12,9 +12,11 @@ use Rattle.replay_loop.specs.Lasts.{IsToldRun}
 use Rattle.replay_loop.specs.Plays.{Telling}
 use Rattle.replay_loop.specs.Ports.{Ports}
 use Rattle.command_runs.specs.Followed.{IsFollowRun}
+use Rattle.replay_loop.specs.Certificates.{certificates_told}
+use Rattle.command_runs.specs.Endings.{HasCertified, IsCheckRun, IsResumeRun}
 use Rattle.command_runs.specs.Inputs.{HasGoodInput}
 use Rattle.command_runs.specs.RunsAs.{RunsAs}
-use Rattle.command_runs.specs.Tasks.{IsFollowCommand, IsReplayCommand, Reads, is_command, task_of_words}
+use Rattle.command_runs.specs.Tasks.{IsCheckCommand, IsFollowCommand, IsReplayCommand, IsResumeCommand, Reads, is_command, task_of_words}
 
 module _ {Source Sink : Type 0} (ports : Ports Source Sink) where
   -- so of each run
@@ -50,6 +52,21 @@ module _ {Source Sink : Type 0} (ports : Ports Source Sink) where
   abbrev pub FollowsFollow : Type 0
   FollowsFollow = Follows (λ status words before after. (bytes : List ℕ) → IsFollowCommand words → ports.left before.0 ≡ Some bytes
       → IsFollowRun status bytes (ports.left after.0) (ports.taken before.1) (ports.taken after.1))
+
+  -- the certificates that a run that is done has written are right, one after the other
+  abbrev pub CertifiesFollow : Type 0
+  CertifiesFollow = Follows (λ status words before after. (bytes : List ℕ) → task_of_words words ≡ Reads certificates_told → ports.left before.0 ≡ Some bytes
+      → status ≡ statuses.Done → HasCertified bytes (ports.left after.0) (ports.taken before.1) (ports.taken after.1))
+
+  -- each ending of a run that goes on from a checkpoint
+  abbrev pub ResumesFollow : Type 0
+  ResumesFollow = Follows (λ status words before after. (bytes : List ℕ) → IsResumeCommand words → ports.left before.0 ≡ Some bytes
+      → IsResumeRun status bytes (ports.left after.0) (ports.taken before.1) (ports.taken after.1))
+
+  -- each ending of a run that answers whether texts are certificates
+  abbrev pub ChecksFollow : Type 0
+  ChecksFollow = Follows (λ status words before after. (bytes : List ℕ) → IsCheckCommand words → ports.left before.0 ≡ Some bytes
+      → IsCheckRun status bytes (ports.left after.0) (ports.taken before.1) (ports.taken after.1))
 
   -- a read fault is answered if and only if a read failed, a write fault if and only if a write did
   abbrev pub FaultsFollow : Type 0

@@ -4,17 +4,19 @@ use Rattle.std.specs.declared.alloc.Global.{Global}
 use Rattle.load_options.specs.Table.{command_of, load_command_of, replay_workers_of}
 use Rattle.load_options.specs.declared.command.LoadCommand.{LoadCommand}
 use Rattle.load_options.specs.declared.table.Command.{Command}
-use Rattle.load_options.specs.declared.table.Command.TheVariants.{Certify, Checkpoint, Follow, Load, Outlook, Replay, Shortfall}
+use Rattle.load_options.specs.declared.table.Command.TheVariants.{Certify, Check, Checkpoint, Follow, Load, Outlook, Replay, Resume, Shortfall}
 use Rattle.replay_loop.specs.Certificates.{certificates_told}
 use Rattle.replay_loop.specs.Lasts.{checkpoint_told, outlook_told, short_told}
 use Rattle.replay_loop.specs.Plays.{Telling}
 use Rattle.replay_loop.specs.Texts.{texts_told}
 
--- it reads records and tells so of them, follows a stream with rollbacks, replays a generated
--- stream, or does nothing
+-- it reads records and tells so of them, follows a stream with rollbacks, goes on from a
+-- checkpoint, answers whether texts are certificates, replays a generated stream, or does nothing
 pub data Task : Type 0 where
   Reads : Telling (Unit {0}) → Task
   Follows : Task
+  Resumes : Task
+  Checks : Task
   Loads : LoadCommand → Task
   Nothing : Task
 
@@ -26,8 +28,10 @@ task_of (Some (Outlook workers)) = Reads outlook_told
 task_of (Some (Checkpoint workers)) = Reads checkpoint_told
 task_of (Some (Certify workers)) = Reads certificates_told
 task_of (Some (Follow workers)) = Follows
+task_of (Some (Resume workers)) = Resumes
+task_of (Some Check) = Checks
 task_of (Some (Load command)) = Loads command
-task_of _ = Nothing
+task_of None = Nothing
 
 -- for words
 abbrev pub task_of_words : List (String Global) → Task
@@ -48,6 +52,16 @@ abbrev pub follows : Task → Bool
 follows Follows = true
 follows _ = false
 
+-- whether it goes on from a checkpoint
+abbrev pub resumes : Task → Bool
+resumes Resumes = true
+resumes _ = false
+
+-- whether it answers whether texts are certificates
+abbrev pub checks : Task → Bool
+checks Checks = true
+checks _ = false
+
 -- whether words are those of any command of the program
 abbrev pub is_command : List (String Global) → Bool
 is_command words = is_done (task_of_words words)
@@ -67,3 +81,11 @@ ReadsRecords words = IsTrue (reads (task_of_words words))
 -- words are those of `follow`
 abbrev pub IsFollowCommand : List (String Global) → Type 0
 IsFollowCommand words = IsTrue (follows (task_of_words words))
+
+-- words are those of `resume`
+abbrev pub IsResumeCommand : List (String Global) → Type 0
+IsResumeCommand words = IsTrue (resumes (task_of_words words))
+
+-- words are those of `check`
+abbrev pub IsCheckCommand : List (String Global) → Type 0
+IsCheckCommand words = IsTrue (checks (task_of_words words))

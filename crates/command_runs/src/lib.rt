@@ -2,5 +2,8 @@
 #![tactic(auto)]
 
 mod clauses;
+mod statuses;
 
 pub use clauses::run_clauses;
+pub use replay_loop as of_replay_loop;
+pub use statuses::{status_of_check, status_of_resume};

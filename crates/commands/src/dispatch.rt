@@ -1,19 +1,20 @@
 ghost use Rattle.std.specs.Prelude.{◌≡◌};
 ghost use Rattle.command_runs.specs.RunsAs.{RunsAs};
 
-use crate::runs::{follows, loads, tells};
+use crate::runs::{checks, follows, loads, resumes, tells};
 use byte_lines::{Sink, Source};
-use held_ledger::Crew;
+use command_runs::of_replay_loop::{Status, Told};
+use following::of_held_ledger::Crew;
 use load_options::{Command, command_of};
 use par_count::Gate;
-use replay_loop::{Status, Told};
 use std::alloc::Global;
 use std::thread::Threads;
 
 /// Runs the command of the words after the program's name. (Own) `replay` writes a record's text,
-/// then reads on, and `follow` takes records back besides; `certify` writes a certificate ahead of
-/// each boundary; `shortfall`, `outlook` and `checkpoint` write at the end; `load` writes its
-/// stream's summary. Workers (default 1), in `rt`'s threads, enter the gate and share the counts.
+/// then reads on, `resume` does so behind a checkpoint, and `follow` takes records back besides;
+/// `certify` writes a certificate ahead of each boundary, and `check` answers whether texts are
+/// such; `shortfall`, `outlook` and `checkpoint` write at the end; `load` writes its stream's
+/// summary. Workers (default 1), in `rt`'s threads, enter the gate and share the counts.
 pub fn run<R: Threads + Sync, S: Source, K: Sink, G: Gate + Sync>(
     alloc: Global,
     rt: &R,
@@ -39,7 +40,9 @@ pub fn run<R: Threads + Sync, S: Source, K: Sink, G: Gate + Sync>(
             tells(&crew, workers, Told::Certificates, source, sink)
         }
         Some(Command::Follow { workers }) => follows(&crew, workers, source, sink),
+        Some(Command::Resume { workers }) => resumes(&crew, workers, source, sink),
+        Some(Command::Check) => checks(alloc, source, sink),
         Some(Command::Load(command)) => loads(&crew, command, sink),
-        Some(Command::Resume { .. } | Command::Check) | None => Status::Usage,
+        None => Status::Usage,
     }
 }

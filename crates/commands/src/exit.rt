@@ -1,8 +1,8 @@
 ghost use Rattle.std.specs.Prelude.{◌≡◌, drop};
 ghost use Rattle.std.specs.Process.{exit_status};
 ghost use Rattle.command_runs.specs.RunsAs.{RunsAs};
-ghost use Rattle.replay_loop.specs.Statuses.{status_number};
-ghost use Rattle.replay_loop.specs.declared.status.Status.{Status};
+ghost use Rattle.command_runs.specs.of_replay_loop.Statuses.{status_number};
+ghost use Rattle.command_runs.specs.of_replay_loop.declared.status.Status.{Status};
 
 use crate::command::after_name;
 use crate::dispatch::run;

@@ -2,14 +2,14 @@ ghost use Rattle.std.specs.Prelude.{◌≡◌, ◌≤◌, ℕ, List, Err, Some, 
 ghost use Rattle.byte_lines.specs.Faults.{CountsFaults};
 ghost use Rattle.line_runs.specs.Runs.{IsRunOf};
 ghost use Rattle.record_stream.specs.Records.{is_within};
-ghost use Rattle.replay_loop.specs.Answers.{AnswersAs};
-ghost use Rattle.replay_loop.specs.Plays.{run_of};
+ghost use Rattle.command_runs.specs.of_replay_loop.Answers.{AnswersAs};
+ghost use Rattle.command_runs.specs.of_replay_loop.Plays.{run_of};
 
 use byte_lines::{Sink, Source};
-use held_ledger::{Crew, Held, answer};
+use command_runs::of_replay_loop::{Answered, GenesisCause, Teller, tell_records};
+use following::of_held_ledger::{Crew, Held, answer};
 use line_runs::RunFault;
 use par_count::Gate;
-use replay_loop::{Answered, GenesisCause, Teller, tell_records};
 use std::alloc::Global;
 use std::thread::Threads;
 use tx_records::Reading;

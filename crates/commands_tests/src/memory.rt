@@ -71,8 +71,9 @@ pub fn replayed_in_memory<R: Threads + Sync>(
 {
     // (laws: how bytes are cut into lines)
     whole_lines();
-    // (laws: how a followed stream ends)
+    // (laws: how a followed stream ends, and a resumed one)
     follow_loop::laws();
+    resume_laws::laws();
     let words = replay_words(alloc)?;
     let mut source = MemorySource::new(bytes, part);
     let mut sink = MemorySink::new(alloc);

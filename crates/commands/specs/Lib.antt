@@ -1,0 +1,1 @@
+pub use Rattle.command_runs.specs.of_replay_loop
