@@ -15,8 +15,6 @@ from cases import Case
 TOP = Path(__file__).resolve().parent.parent
 # where `rt ci` and `rt run` leave the program
 PROGRAM = TOP / "crates/conway/out/conway"
-# commands whose streams are stored and that the program does not have yet: no stream of them runs
-TO_COME = ("resume", "check")
 # the commands that read a stream of records from its genesis on, without rollbacks
 REPLAYING = ("replay", "shortfall", "outlook", "checkpoint", "certify")
 # the commands that need no further word, and take the option of workers
@@ -67,11 +65,11 @@ def of_further_commands():
 
 def stored():
     """Each of them."""
-    yield from (it for it in files_in("examples") if it.words[0] not in TO_COME)
+    yield from files_in("examples")
     yield from files_in("tests/streams")
     yield from files_in("tests/streams/worked")
     yield from files_in("tests/streams/whole")
-    yield from (it for it in of_further_commands() if it.words[0] not in TO_COME)
+    yield from of_further_commands()
     own = TOP / "crates/conway"
     yield Case("the stored run", (own / "stdin").read_bytes(), wanted=(own / "stdout").read_text(), words=tuple((own / "args").read_text().split()))
 

@@ -16,6 +16,8 @@ NEXT = re.compile(r" *(?:abbrev|unfoldable|module|record|data|use|infix[lr]?|pub
 OPERATOR = re.compile(r"\s*infix")
 IMPORT = re.compile(r"\bRattle\.(\w+)\.specs\.(\w+)\.\{([^}]*)\}")
 ALIAS = re.compile(r"\bRattle\.(\w+)\.specs\.(?!declared\b)(\w+) as (\w+)")
+# what a crate passes on of a lower one
+PASSED = re.compile(r"\bRattle\.\w+\.specs\.of_(\w+)\.")
 # a name behind a dot is a field
 NAME = re.compile(r"(?<![\w'.])[A-Za-z_][\w']*")
 
@@ -93,9 +95,14 @@ def definitions_of(file, lines):
             comment = []
 
 
+def direct(text):
+    """A text that names each definition by its own crate, and not by one that passes it on."""
+    return PASSED.sub(r"Rattle.\1.specs.", text)
+
+
 def imports_of(text):
     """The definitions that a text imports: the name of each, with its crate and file."""
-    for crate, module, names in IMPORT.findall(text):
+    for crate, module, names in IMPORT.findall(direct(text)):
         yield from ((name.split(" as ")[0].strip(), (crate, module)) for name in names.split(","))
 
 
@@ -132,7 +139,7 @@ class Specs:
             for file in CRATES.glob(f"*/{folder}"):
                 text = file.read_text(encoding="utf-8")
                 found.update((*place, name) for name, place in imports_of(text))
-                for crate, module, alias in ALIAS.findall(text):
+                for crate, module, alias in ALIAS.findall(direct(text)):
                     names = re.findall(rf"\b{alias}\.(\w+)", text)
                     found.update((crate, module, name) for name in names)
         return found
