@@ -1,3 +1,4 @@
 pub mod Views
+mod Digits
 mod Reading
 mod Texts
