@@ -4,7 +4,7 @@ use Rattle.std.proofs.lemmas.Bool.{and_from, and_parts, false≢true}
 use Rattle.std.proofs.lemmas.List.{map-append}
 use Rattle.std.proofs.lemmas.List.Folds.{list_all-append}
 use Rattle.std.proofs.lemmas.Option.{none-some, same_Some}
-use Rattle.certificate_lists.specs.Rows.{snapshot_stops}
+use Rattle.snapshot_reader.specs.of_certificate_lists.Rows.{snapshot_stops}
 use Rattle.certificate_model.specs.Certificate.{certificate_lines, claim_lines, snapshot_lines}
 use Rattle.certificate_model.specs.Fits.{Fits}
 use Rattle.claim_lengths.specs.Laws.{ClaimsAreShort}

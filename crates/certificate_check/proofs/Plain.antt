@@ -1,6 +1,6 @@
 -- No line of the results of a certificate begins like a line of its snapshot.
 use Rattle.std.proofs.Common.{◌≡◌, false, List, [], ◌∷◌, ◌++◌, codes, flat_map, map, refl, zip}
-use Rattle.certificate_lists.specs.Rows.{snapshot_stops}
+use Rattle.snapshot_reader.specs.of_certificate_lists.Rows.{snapshot_stops}
 use Rattle.certificate_model.specs.Certificate.{claim_lines, claim_of_proposal, verdict_words}
 use Rattle.certificate_model.specs.Parts.{part_words, parts_of}
 use Rattle.gov_model.specs.Ratified.{order_of, ratified_of, tallies_of}

@@ -4,9 +4,9 @@
 #![tactic(auto)]
 
 use byte_lines::{ReaderSource, WriterSink};
-use commands::Crew;
 use par_count::OpenGate;
 use std::process::ExitCode;
+use voting_lines::of_commands::Crew;
 use voting_lines::report_votes;
 
 fn main(rt: HostRuntime) -> ExitCode {

@@ -7,5 +7,6 @@ mod told;
 mod votes;
 
 pub use asked::tally_of;
+pub use commands as of_commands;
 pub use told::put_ledger;
 pub use votes::{Votes, report_votes};
