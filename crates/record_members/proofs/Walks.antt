@@ -1,6 +1,6 @@
 -- The names of a transaction's fields have places of their own, and one walk finds the last member of each.
-use Rattle.std.proofs.Common.{◌≡◌, ◌≢◌, ℕ, zero, suc, ◌<◌, ◌≤◌, ◌+◌, ◌==◌, List, [], ◌∷◌, ◌++◌, length, Option, Some, None, Bool, true, false, bytes_eq, refl, sym, ap, subst, ◌∙◌, arith, true≢false}
-use Rattle.std.specs.Prelude.{option_map, slice_get, slice_index_or, slice_set, if◌then◌else◌}
+use Rattle.std.proofs.Common.{◌≡◌, ◌≢◌, ℕ, zero, suc, ◌<◌, ◌≤◌, ◌+◌, ◌-◌, ◌==◌, List, [], ◌∷◌, ◌++◌, length, Option, Some, None, Bool, true, false, bytes_eq, refl, sym, ap, subst, ◌∙◌, arith, ne_eqb, replicate, true≢false}
+use Rattle.std.specs.Prelude.{option_map, slice_get, slice_index, slice_set, if◌then◌else◌}
 use Rattle.std.specs.Cmp.{unsigned_Decides}
 use Rattle.std.proofs.lemmas.List.{get_or-set_same, get_or-set_other}
 use Rattle.std.proofs.lemmas.Option.{same_Some}
@@ -9,7 +9,7 @@ use Rattle.serde_json.specs.Data.{Data, null, boolean, number, string, array, ob
 use Rattle.serde_json.specs.Find.{as_object, get, get_member}
 use Rattle.json_tree.specs.View.{view, members_view}
 use Rattle.json_tree.proofs.Views.{Entry, get_member-last, get_member-other}
-use Rattle.record_members.specs.Members.{at, names, place_in, place_of, value_at, FindsAmong}
+use Rattle.record_members.specs.Members.{at, kept_value, names, place_in, place_of, value_at, FindsAmong}
 
 within_by : (b : Bool) (k p n : ℕ) (rest : Option ℕ) → (rest ≡ Some p → (suc k ≤ p) × (p < suc k + n)) → (if b then Some k else rest) ≡ Some p → (k ≤ p) × (p < k + suc n)
 within_by true k p n rest h e = let same : k ≡ p = same_Some k p e in (omega (arith, same), omega (arith, same))
@@ -38,42 +38,49 @@ not_none : (p : ℕ) → Some p ≡ None → ⊥
 not_none p e = cc
 
 -- a member whose name has no place
-passed : (es : List Entry) (found : List (Option ℕ)) (done : List Entry) (e : Entry) → place_of e.0.now ≡ None → FindsAmong es done found → FindsAmong es (done ++ e ∷ []) found
+passed : (es : List Entry) (found : List ℕ) (done : List Entry) (e : Entry) → place_of e.0.now ≡ None → FindsAmong es done found → FindsAmong es (done ++ e ∷ []) found
 passed es found done e none h = λ name place is. h name place is ∙ sym (get_member-other name done e (λ same. not_none place (sym is ∙ ap place_of same ∙ none)))
 
 other_name : (name key : List ℕ) (place q : ℕ) → place_of name ≡ Some place → place_of key ≡ Some q → (place == q) ≡ false → name ≡ key → ⊥
 other_name name key place q is there differs same = true≢false (sym ((unsigned_Decides place q).1 (same_Some place q (sym is ∙ ap place_of same ∙ there))) ∙ differs)
 
-placed_by : (b : Bool) (es : List Entry) (found : List (Option ℕ)) (done : List Entry) (e : Entry) (q i : ℕ) (name : List ℕ) (place : ℕ)
+-- one more than an index keeps the member there
+kept_next : (es : List Entry) (i : ℕ) → kept_value es (i + 1) ≡ value_at es i
+kept_next es i =
+    let some : (i + 1 == 0) ≡ false = ne_eqb (i + 1) 0 (λ (e : i + 1 ≡ 0). omega (arith, e)) in
+    let back : i + 1 - 1 ≡ i = omega arith in
+    rw (some, back) refl
+
+placed_by : (b : Bool) (es : List Entry) (found : List ℕ) (done : List Entry) (e : Entry) (q i : ℕ) (name : List ℕ) (place : ℕ)
     → (place == q) ≡ b → place_of name ≡ Some place → place_of e.0.now ≡ Some q → q < length found → slice_get es i ≡ Some e → at es found place ≡ get_member name (members_view done)
-    → at es (slice_set found q (Some i)) place ≡ get_member name (members_view (done ++ e ∷ []))
+    → at es (slice_set found q (i + 1)) place ≡ get_member name (members_view (done ++ e ∷ []))
 placed_by true es found done e q i name place same is there within stands h =
     let at_q : place ≡ q = (unsigned_Decides place q).0 same in
     let named : name ≡ e.0.now = one_name names 0 place name e.0.now is (there ∙ ap (λ (p : ℕ). Some p) (sym at_q)) in
-    ap (at es (slice_set found q (Some i))) at_q
-    ∙ ap (value_at es) (get_or-set_same found q (Some i) None within)
+    ap (at es (slice_set found q (i + 1))) at_q
+    ∙ ap (kept_value es) (get_or-set_same found q (i + 1) 0 within) ∙ kept_next es i
     ∙ ap (option_map (λ (m : Entry). view m.1)) stands ∙ sym (get_member-last name done e named)
 placed_by false es found done e q i name place differs is there within stands h =
     let apart : place ≢ q = λ same. true≢false (sym ((unsigned_Decides place q).1 same) ∙ differs) in
-    ap (value_at es) (get_or-set_other found q place (Some i) None apart)
+    ap (kept_value es) (get_or-set_other found q place (i + 1) 0 apart)
     ∙ h ∙ sym (get_member-other name done e (other_name name e.0.now place q is there differs))
 
-placed : (es : List Entry) (found : List (Option ℕ)) (done : List Entry) (e : Entry) (q i : ℕ) → place_of e.0.now ≡ Some q → q < length found → slice_get es i ≡ Some e
-    → FindsAmong es done found → FindsAmong es (done ++ e ∷ []) (slice_set found q (Some i))
+placed : (es : List Entry) (found : List ℕ) (done : List Entry) (e : Entry) (q i : ℕ) → place_of e.0.now ≡ Some q → q < length found → slice_get es i ≡ Some e
+    → FindsAmong es done found → FindsAmong es (done ++ e ∷ []) (slice_set found q (i + 1))
 placed es found done e q i there within stands h = λ name place is. placed_by (place == q) es found done e q i name place refl is there within stands (h name place is)
 
 -- one whose name has a place stands there from now on
-pub placed_all : (es : List Entry) (found after : List (Option ℕ)) (done all : List Entry) (e : Entry) (q i : ℕ) → after ≡ slice_set found q (Some i) → all ≡ done ++ e ∷ [] → place_of e.0.now ≡ Some q
+pub placed_all : (es : List Entry) (found after : List ℕ) (done all : List Entry) (e : Entry) (q i : ℕ) → after ≡ slice_set found q (i + 1) → all ≡ done ++ e ∷ [] → place_of e.0.now ≡ Some q
     → q < length found → slice_get es i ≡ Some e → FindsAmong es done found → FindsAmong es all after
 placed_all es found after done all e q i is front there within stands h =
-    subst (λ (a : List (Option ℕ)). FindsAmong es all a) (sym is)
-    (subst (λ (ms : List Entry). FindsAmong es ms (slice_set found q (Some i))) (sym front) (placed es found done e q i there within stands h))
+    subst (λ (a : List ℕ). FindsAmong es all a) (sym is)
+    (subst (λ (ms : List Entry). FindsAmong es ms (slice_set found q (i + 1))) (sym front) (placed es found done e q i there within stands h))
 
 -- any other changes nothing
-pub passed_all : (es : List Entry) (found after : List (Option ℕ)) (done all : List Entry) (e : Entry) → after ≡ found → all ≡ done ++ e ∷ [] → place_of e.0.now ≡ None
+pub passed_all : (es : List Entry) (found after : List ℕ) (done all : List Entry) (e : Entry) → after ≡ found → all ≡ done ++ e ∷ [] → place_of e.0.now ≡ None
     → FindsAmong es done found → FindsAmong es all after
 passed_all es found after done all e is front none h =
-    subst (λ (a : List (Option ℕ)). FindsAmong es all a) (sym is)
+    subst (λ (a : List ℕ). FindsAmong es all a) (sym is)
     (subst (λ (ms : List Entry). FindsAmong es ms found) (sym front) (passed es found done e none h))
 
 -- the members of an object are its own
@@ -85,8 +92,11 @@ of_object (string s) ms name e = cc
 of_object (array ds) ms name e = cc
 of_object (object os) ms name e = ap (get_member name) (sym (same_Some os ms e))
 
--- within a list it does not matter what stands past it
-pub any_default : {A : Type 0} (xs : List A) (i : ℕ) (c d : A) → i < length xs → slice_index_or xs i c ≡ slice_index_or xs i d
-any_default [] i c d h = absurd (omega (arith, h))
-any_default (x ∷ xs) zero c d h = refl
-any_default (x ∷ xs) (suc i) c d h = any_default xs i c d (omega (arith, h))
+-- at first no place keeps a member
+pub none_kept : (es : List Entry) (n : ℕ) (found : List ℕ) → found ≡ replicate n 0 → FindsAmong es [] found
+none_kept es n found is = λ name place there. ap (kept_value es) (ap (λ (f : List ℕ). slice_index f place) is ∙ zero_at n place)
+  where
+    zero_at : (n place : ℕ) → slice_index (replicate n 0) place ≡ 0
+    zero_at zero place = refl
+    zero_at (suc n) zero = refl
+    zero_at (suc n) (suc place) = zero_at n place

@@ -1,13 +1,15 @@
 //! The members of an object that a transaction's fields have names for, found in one scan.
 #![tactic(auto)]
 
-ghost use Rattle.std.specs.Prelude.{◌≡◌, None, MatchOption, option_map};
+ghost use Rattle.std.specs.Prelude.{◌≡◌, None, MatchOption, false, is_none, option_map};
 ghost use Rattle.std.specs.Result.{result_map_both};
 ghost use Rattle.serde_json.specs.Find.{as_object, get};
 ghost use Rattle.json_tree.specs.View.{view};
+ghost use Rattle.json_fields.specs.declared.fault.FieldFault.TheVariants.{Missing};
 ghost use Rattle.json_fields.specs.Kinds.{field_in, optional_in};
+ghost use Rattle.json_fields.specs.Steps.{or_fault};
 ghost use Rattle.tx_records.specs.FieldTexts.{text_of_field};
-ghost use Rattle.record_members.specs.Members.{place_of, place_of_name, value_at, FindsAmong};
+ghost use Rattle.record_members.specs.Members.{kept_value, place_of, place_of_name, FindsAmong};
 
 use json_fields::FieldFault;
 use json_tree::Value;
@@ -22,7 +24,8 @@ const PLACES: usize = 20;
 pub struct Members<'v, 'a> {
     object: &'v Value<'a>,
     members: &'v [(&'a str, Value<'a>)],
-    found: [Option<usize>; PLACES],
+    // For each place one more than the index of its member; 0 if there is none.
+    found: [usize; PLACES],
 }
 
 impl<'v, 'a> Model for Members<'v, 'a> {
@@ -100,25 +103,28 @@ fn place_of_name(name: FieldName) -> Option<usize>
     }
 }
 
-/// For each name that has a place: the index of the last member with that name.
-fn found_among(members: &[(&str, Value<'_>)]) -> [Option<usize>; PLACES]
+/// For each name that has a place: one more than the index of the last member with that name.
+fn found_among(members: &[(&str, Value<'_>)]) -> [usize; PLACES]
     ensures { FindsAmong members.now members.now result }
 {
-    let mut found = [None; PLACES];
+    let mut found = [0; PLACES];
     for at in 0..members.len() {
         let member = &members[at];
         if let Some(place) = place_of(member.0) {
-            found[place] = Some(at);
+            found[place] = at + 1;
         }
     }
     found
 }
 
-/// The value of the member at this index.
-fn value_at<'v, 'a>(members: &'v [(&'a str, Value<'a>)], at: Option<usize>) -> Option<&'v Value<'a>>
-    ensures { option_map (λ v. view v.now) result ≡ value_at members.now at }
+/// The value of the member that a place keeps.
+fn kept_value<'v, 'a>(members: &'v [(&'a str, Value<'a>)], kept: usize) -> Option<&'v Value<'a>>
+    ensures { option_map (λ v. view v.now) result ≡ kept_value members.now kept }
 {
-    match members.get(at?) {
+    if kept == 0 {
+        return None;
+    }
+    match members.get(kept - 1) {
         Some(member) => Some(&member.1),
         None => None,
     }
@@ -140,14 +146,26 @@ impl<'v, 'a> Members<'v, 'a> {
 
     /// The value of the name, if the object has it.
     fn get(&self, name: FieldName) -> Option<&'v Value<'a>>
-        ensures { option_map (λ v. view v.now) result ≡ get (text_of_field name) (view self.now) }
+        ensures object { is_none (as_object (view self.now)) ≡ false }
+        ensures value { option_map (λ v. view v.now) result ≡ get (text_of_field name) (view self.now) }
     {
         match place_of_name(name) {
             Some(place) => {
                 let found = &self.found[..];
-                value_at(self.members, found[place])
+                kept_value(self.members, found[place])
             }
             None => self.object.get(name.text()),
+        }
+    }
+
+    /// The value of the name, if the object has it and it is not null.
+    fn present(&self, name: FieldName) -> Option<&'v Value<'a>>
+        ensures { field_in (text_of_field name) (view self.now)
+            ≡ or_fault Missing (option_map (λ v. view v.now) result) }
+    {
+        match self.get(name) {
+            Some(value) if !value.is_null() => Some(value),
+            _ => None,
         }
     }
 
@@ -155,12 +173,9 @@ impl<'v, 'a> Members<'v, 'a> {
     pub fn field(&self, name: FieldName) -> Result<&'v Value<'a>, FieldFault>
         ensures { result_map_both (λ v. view v.now) (λ e. e) result ≡ field_in (text_of_field name) (view self.now) }
     {
-        if !self.object.is_object() {
-            return Err(FieldFault::WrongKind);
-        }
-        match self.get(name) {
-            Some(value) if !value.is_null() => Ok(value),
-            _ => Err(FieldFault::Missing),
+        match self.present(name) {
+            Some(value) => Ok(value),
+            None => Err(FieldFault::Missing),
         }
     }
 
@@ -169,10 +184,6 @@ impl<'v, 'a> Members<'v, 'a> {
         ensures { result_map_both (option_map (λ v. view v.now)) (λ e. e) result ≡
             optional_in (text_of_field name) (view self.now) }
     {
-        match self.field(name) {
-            Ok(value) => Ok(Some(value)),
-            Err(FieldFault::Missing) => Ok(None),
-            Err(fault) => Err(fault),
-        }
+        Ok(self.present(name))
     }
 }
