@@ -12,7 +12,7 @@ use std::test::Fail;
 use tx_records::{EpochReport, Pots, Rule};
 
 /// The text of a boundary, as if the first line of a stream came to it.
-fn text_of(alloc: Global, report: &EpochReport, pots: &Pots) -> Result<Vec<u8>, NoMemory> {
+pub fn text_of(alloc: Global, report: &EpochReport, pots: &Pots) -> Result<Vec<u8>, NoMemory> {
     let mut text = Vec::new(alloc);
     for line in &epoch_text(alloc, 1, report, pots)? {
         text.extend_from_slice(line.as_slice())?;

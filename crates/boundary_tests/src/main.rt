@@ -16,6 +16,8 @@ mod lines;
 #[cfg(test)]
 mod proposals;
 #[cfg(test)]
+mod records;
+#[cfg(test)]
 mod state;
 #[cfg(test)]
 mod steps;

@@ -44,7 +44,7 @@ impl From<RecordFault> for Stop {
 }
 
 /// How many workers share a count.
-const WORKERS: u32 = 3;
+pub const WORKERS: u32 = 3;
 
 /// A state that records change and a boundary ends. Loops are over any, so that their proofs do not
 /// open the ledger.
@@ -130,7 +130,7 @@ impl Changed for LedgerState {
 }
 
 /// Adds lines to a text.
-fn add_lines(text: &mut Vec<u8>, lines: &[Vec<u8>]) -> Result<(), NoMemory> {
+pub fn add_lines(text: &mut Vec<u8>, lines: &[Vec<u8>]) -> Result<(), NoMemory> {
     for line in lines {
         text.extend_from_slice(line.as_slice())?;
     }

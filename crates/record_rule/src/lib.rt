@@ -7,4 +7,4 @@ mod records;
 
 pub use applied::Applied;
 pub use epoch_rule::of_par_count;
-pub use records::apply_record;
+pub use records::{apply_record, apply_record_alone};
