@@ -1,9 +1,11 @@
 ghost use Rattle.std.specs.Prelude.{◌≡◌, ◌≤◌, IfOk, false, option_map, true};
-ghost use Rattle.held_ledger.specs.Applied.{applied_block_outcome, applied_outcome, is_print};
+ghost use Rattle.held_ledger.specs.Applied.{AppliesEach, applied_block_outcome, applied_outcome, is_print};
 ghost use Rattle.held_ledger.specs.Faults.{fault_of_genesis};
 ghost use Rattle.replay_loop.specs.Answers.{AnswersAs, Begins, BeginsWith, Judges};
 ghost use Rattle.ledger_model.specs.Supply.{pots_of};
+ghost use Rattle.record_rule.specs.Reports.{report_of_record};
 ghost use Rattle.record_stream.specs.Records.{is_within};
+ghost use Rattle.run_model.specs.Step.{step};
 ghost use Rattle.tx_records.specs.GenesisLimits as genesis_limits;
 ghost use Rattle.tx_records.specs.RecordLimits.{is_within_limits};
 ghost use Rattle.text_model.specs.Runs.{line_rule};
@@ -14,8 +16,8 @@ use crate::crew::Crew;
 use crate::held::Held;
 use listed::Boxed;
 use no_memory::NoMemory;
-use record_rule::apply_record;
 use record_rule::of_par_count::Gate;
+use record_rule::{Applied, apply_record, apply_record_alone};
 use replay_loop::{AnswerFault, Answered, GenesisCause, Outcome};
 use report::PotsWord;
 use shortfall::of_ledger_state::LedgerState;
@@ -114,28 +116,20 @@ fn judge_print(ledger: Boxed<LedgerState>, what: What) -> (Boxed<LedgerState>, O
     }
 }
 
-/// The ledger after a record that is no print, and its outcome.
-fn judge_applied<T: Threads + Sync, G: Gate + Sync>(
-    crew: &Crew<T, G>,
-    workers: u32,
+/// The ledger after a record that is no print, which `apply` applies, and its outcome.
+fn judge_applied<F: Fn(LedgerState, &Record) -> Result<Applied, NoMemory>>(
+    alloc: Global,
+    apply: &F,
     ledger: Boxed<LedgerState>,
     found: &Record,
 ) -> Judged
+    requires applies { AppliesEach (λ r. r.now) (F.pre apply.now) (F.post apply.now) }
     requires within { is_within_limits found.now ≡ true }
     requires no_print { is_print found.now ≡ false }
-    requires some { 1 ≤ workers }
-    requires few { workers ≤ 64 }
     ensures { Judges ledger (Read found.now) result }
 {
-    let applied = apply_record(
-        crew.alloc,
-        crew.rt,
-        ledger.into_value(),
-        found,
-        workers,
-        crew.gate,
-    )?;
-    let held = Boxed::new(crew.alloc, applied.ledger)?;
+    let applied = apply(ledger.into_value(), found)?;
+    let held = Boxed::new(alloc, applied.ledger)?;
     let outcome = outcome_over(held.get(), found, applied.reply, applied.report);
     Ok((held, outcome))
 }
@@ -171,42 +165,61 @@ fn block_outcome(after: &LedgerState, reply: Reply, report: Option<EpochReport>)
 }
 
 /// The ledger after a record, and its outcome.
-fn judge_record<T: Threads + Sync, G: Gate + Sync>(
-    crew: &Crew<T, G>,
-    workers: u32,
+fn judge_record<F: Fn(LedgerState, &Record) -> Result<Applied, NoMemory>>(
+    alloc: Global,
+    apply: &F,
     ledger: Boxed<LedgerState>,
     found: &Record,
 ) -> Judged
+    requires applies { AppliesEach (λ r. r.now) (F.pre apply.now) (F.post apply.now) }
     requires within { is_within_limits found.now ≡ true }
-    requires some { 1 ≤ workers }
-    requires few { workers ≤ 64 }
     ensures { Judges ledger (Read found.now) result }
 {
     match found {
         Record::Print(what) => Ok(judge_print(ledger, *what)),
         Record::Genesis(_) | Record::Block { .. } | Record::Rewards(_) | Record::Tx(_) => {
-            judge_applied(crew, workers, ledger, found)
+            judge_applied(alloc, apply, ledger, found)
         }
     }
 }
 
 /// The ledger after what was read of a line, and its outcome.
-fn judge_reading<T: Threads + Sync, G: Gate + Sync>(
-    crew: &Crew<T, G>,
-    workers: u32,
+fn judge_reading<F: Fn(LedgerState, &Record) -> Result<Applied, NoMemory>>(
+    alloc: Global,
+    apply: &F,
     ledger: Boxed<LedgerState>,
     reading: &Reading,
 ) -> Judged
+    requires applies { AppliesEach (λ r. r.now) (F.pre apply.now) (F.post apply.now) }
     requires within { is_within reading.now ≡ true }
-    requires some { 1 ≤ workers }
-    requires few { workers ≤ 64 }
     ensures { Judges ledger reading.now result }
 {
     match reading {
-        Reading::Read(record) => judge_record(crew, workers, ledger, record),
+        Reading::Read(record) => judge_record(alloc, apply, ledger, record),
         Reading::Malformed { what, place } => Ok((ledger, malformed(*what, *place))),
         Reading::TooLong => Ok((ledger, refused(TOO_LONG))),
     }
+}
+
+/// The ledger after what was read, and its outcome. `apply` applies records.
+fn answer_by<F: Fn(LedgerState, &Record) -> Result<Applied, NoMemory>>(
+    alloc: Global,
+    apply: &F,
+    workers: u32,
+    before: Option<Held>,
+    reading: &Reading,
+) -> Answered<Held>
+    requires applies { AppliesEach (λ r. r.now) (F.pre apply.now) (F.post apply.now) }
+    requires within { is_within reading.now ≡ true }
+    requires some { 1 ≤ workers }
+    requires few { workers ≤ 64 }
+    ensures { AnswersAs (λ held. held.ledger) (option_map (λ held. held.ledger) before) reading.now result }
+{
+    let (ledger, outcome) = match before {
+        Some(held) => judge_reading(alloc, apply, held.ledger, reading)?,
+        None => begin_with(alloc, reading, workers)?,
+    };
+    Ok((Held { ledger }, outcome))
 }
 
 /// The ledger after what was read, and its outcome; there is no ledger before the genesis.
@@ -221,9 +234,25 @@ pub fn answer<T: Threads + Sync, G: Gate + Sync>(
     requires few { workers ≤ 64 }
     ensures { AnswersAs (λ held. held.ledger) (option_map (λ held. held.ledger) before) reading.now result }
 {
-    let (ledger, outcome) = match before {
-        Some(held) => judge_reading(crew, workers, held.ledger, reading)?,
-        None => begin_with(crew.alloc, reading, workers)?,
-    };
-    Ok((Held { ledger }, outcome))
+    let applies = |ledger: LedgerState, found: &Record| -> Result<Applied, NoMemory>
+        requires within { is_within_limits found.now ≡ true }
+        requires some { 1 ≤ workers }
+        requires few { workers ≤ 64 }
+        ensures stepped { IfOk result (λ a. (a.ledger, a.reply) ≡ step ledger found.now) }
+        ensures report { IfOk result (λ a. a.report ≡ report_of_record ledger found.now) }
+    { apply_record(crew.alloc, crew.rt, ledger, found, workers, crew.gate) };
+    answer_by(crew.alloc, &applies, workers, before, reading)
+}
+
+/// The ledger after what was read, and its outcome, as `answer` gives them, in this thread.
+pub fn answer_alone(alloc: Global, before: Option<Held>, reading: &Reading) -> Answered<Held>
+    requires within { is_within reading.now ≡ true }
+    ensures { AnswersAs (λ held. held.ledger) (option_map (λ held. held.ledger) before) reading.now result }
+{
+    let applies = |ledger: LedgerState, found: &Record| -> Result<Applied, NoMemory>
+        requires within { is_within_limits found.now ≡ true }
+        ensures stepped { IfOk result (λ a. (a.ledger, a.reply) ≡ step ledger found.now) }
+        ensures report { IfOk result (λ a. a.report ≡ report_of_record ledger found.now) }
+    { apply_record_alone(alloc, ledger, found) };
+    answer_by(alloc, &applies, 1, before, reading)
 }

@@ -5,7 +5,7 @@ mod answers;
 mod crew;
 mod held;
 
-pub use answers::answer;
+pub use answers::{answer, answer_alone};
 pub use crew::Crew;
 pub use held::Held;
 pub use outlook::of_epoch_rule;
