@@ -1,0 +1,14 @@
+//! A ledger that a caller holds, with the number of its last line and the text of its last answer.
+#![tactic(auto)]
+
+mod ending;
+mod every_session;
+mod keeping;
+mod page;
+mod session;
+mod state;
+
+pub use ending::Ending;
+pub use every_session::laws;
+pub use session::Session;
+pub use state::SessionState;
