@@ -3,6 +3,7 @@
 
 mod ending;
 mod every_session;
+mod held;
 mod keeping;
 mod page;
 mod session;
@@ -10,5 +11,6 @@ mod state;
 
 pub use ending::Ending;
 pub use every_session::laws;
+pub use held_ledger::Held;
 pub use session::Session;
 pub use state::SessionState;

@@ -1,0 +1,55 @@
+/* The ledger for C: a handle, and calls over it. The library is made by `rt lib` in crates/conway_c;
+   its contracts are in crates/conway_c/src/lib.rt, in the words of crates/conway_c/specs and
+   crates/embedded/specs. Nothing checks a call from C against them, so a caller sees to these:
+
+   - Each pointer is not NULL and points to as many bytes as are said, also where these are 0; what a
+     call writes to (a handle, room for text) is no part of anything else that the call is given.
+   - A handle begins as CONWAY_CLOSED, is written by these calls alone, and is never copied.
+   - A handle is used by one call at a time, and stays with the thread that opened it.
+   - `malloc` and `free` are those of the C library. No call is made from a signal handler. */
+#ifndef CONWAY_H
+#define CONWAY_H
+
+#include <stddef.h>
+#include <stdint.h>
+
+/* A ledger with the text of its last answer. Closed, it holds no memory, and each call answers so. */
+struct conway {
+    void *ledger;
+};
+#define CONWAY_CLOSED {NULL}
+
+/* `wanted` is the length of the whole text. If the room is as long, the text is in its first bytes
+   and `written` is `wanted`; if not, nothing is written, `written` is 0, and `conway_text` copies
+   the text into greater room. */
+struct conway_answer {
+    uint32_t status;
+    size_t written;
+    size_t wanted;
+};
+
+/* The statuses. 0, 3 and 6 are as those with which the program ends. */
+enum {
+    CONWAY_DONE = 0,
+    CONWAY_BAD_GENESIS = 3, /* the line is no genesis to begin with */
+    CONWAY_NO_MEMORY = 6,   /* memory ran out: the handle is closed */
+    CONWAY_IS_CLOSED = 20,  /* the handle is closed; nothing changed */
+    CONWAY_IS_FULL = 21,    /* no number is left for a further line; nothing changed */
+    CONWAY_IS_BLANK = 22    /* `conway_open`: the line is blank, and says nothing */
+};
+
+/* Opens the ledger of the genesis on the line of this number, 1 for the first line of a stream. The
+   line is given without its line feed. What the handle held is closed first. `wanted` is the length
+   of the text that `replay` writes for the line, which `conway_text` copies; `written` is 0. */
+struct conway_answer conway_open(const uint8_t *genesis, size_t length, uint64_t number, struct conway *ledger);
+
+/* Records the next line, without its line feed. The text is what `replay` writes for it. */
+struct conway_answer conway_record(struct conway *ledger, const uint8_t *line, size_t length, uint8_t *room, size_t size);
+
+/* Copies the text of the last answer again. */
+struct conway_answer conway_text(struct conway *ledger, uint8_t *room, size_t size);
+
+/* Closes the handle, and frees what it held. A closed handle stays closed. */
+void conway_close(struct conway *ledger);
+
+#endif
