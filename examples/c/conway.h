@@ -39,7 +39,7 @@ enum {
 };
 
 /* Opens the ledger of the genesis on the line of this number, 1 for the first line of a stream. The
-   line is given without its line feed. What the handle held is closed first. `wanted` is the length
+   line is given without its line feed. What the handle held is closed. `wanted` is the length
    of the text that `replay` writes for the line, which `conway_text` copies; `written` is 0. */
 struct conway_answer conway_open(const uint8_t *genesis, size_t length, uint64_t number, struct conway *ledger);
 
