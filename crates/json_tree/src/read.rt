@@ -1,5 +1,5 @@
 // From a text to its value, in one pass over the tokens.
-ghost use Rattle.std.specs.Prelude.{◌≡◌, ◌<◌, length, Some, None, Err, IfOk, OnOk, option_map, if◌then◌else◌};
+ghost use Rattle.std.specs.Prelude.{◌≡◌, ◌<◌, [], length, Some, None, Err, IfOk, OnOk, option_map, if◌then◌else◌};
 ghost use Rattle.std.specs.Str.{is_utf8};
 ghost use Rattle.json.specs.Json.{value, items, members};
 ghost use Rattle.serde_json.specs.Data.{no_members};
@@ -14,6 +14,9 @@ use std::alloc::{AllocError, AllocFailed, Global};
 
 /// The greatest depth of arrays and objects.
 const MAX_DEPTH: usize = 127;
+
+/// How many members the outermost object has room for at once. Few lines that have them have more.
+const FIRST_ROOM: usize = 20;
 
 /// Why there is no value.
 #[derive(Clone, Copy, Debug, Drop, PartialEq, Eq)]
@@ -150,6 +153,17 @@ fn read_items<'a>(
     Ok(found)
 }
 
+/// An empty list for the members of an object at this depth.
+fn room_at<'a>(alloc: Global, depth: usize) -> Result<Vec<(&'a str, Value<'a>)>, AllocError>
+    ensures { IfOk result (λ v. v.items ≡ []) }
+{
+    if depth == MAX_DEPTH - 1 {
+        Vec::with_capacity(alloc, FIRST_ROOM)
+    } else {
+        Ok(Vec::new(alloc))
+    }
+}
+
 /// The members up to the end of an object.
 #[cycle(read)]
 #[inline(never)]
@@ -167,7 +181,7 @@ fn read_members<'a>(
         → converted (λ ms. of_members ms no_members)
         (members (value depth) (length reader.old) reader.old) ≡ None }
 {
-    let mut found = Vec::new(alloc);
+    let mut found = room_at(alloc, depth)?;
     'members: while let Some(name) = reader.next_key()? {
         let member = read(alloc, reader, depth)?;
         found.push((name, member))?;
