@@ -1,7 +1,7 @@
 //! The book of accounts: the live entries, and those of the last freeze.
 #![tactic(auto)]
 
-ghost use Rattle.std.specs.Prelude.{◌≡◌, [], OnOk, OnErr, length, option_map};
+ghost use Rattle.std.specs.Prelude.{◌≡◌, [], IfOk, OnOk, OnErr, length, option_map};
 ghost use Rattle.gov_ids.specs.Orders.{credential_cmp};
 ghost use Rattle.maps.specs.Maps.{IsMap, value_at, entry_after};
 ghost use Rattle.maps.specs.Replaced.{with_option};
@@ -15,7 +15,7 @@ use gov_ids::of_no_memory::NoMemory;
 use std::alloc::Global;
 use std::marker::Model;
 use view_map::ViewMap;
-pub use view_map::{FrozenIter, LiveIter};
+pub use view_map::{Follower, FrozenIter, LiveIter};
 
 /// The account entries by credential, live and frozen. Contracts see the `ViewMap`.
 /// (DState of the formal specification; the frozen entries are own)
@@ -31,6 +31,12 @@ impl Model for AccountBook {
 
     ghost view = { λ a. a.view };
 }
+
+/// The entry of whoever has neither stake nor a registration.
+pub const NO_ENTRY: Entry = Entry {
+    stake: 0,
+    registered: None,
+};
 
 // Whether an entry has neither stake nor a registration.
 fn is_empty(e: &Entry) -> bool
@@ -79,6 +85,31 @@ impl AccountBook {
             self.view.put(c, e)?;
         }
         Ok(())
+    }
+
+    /// Changes the live entry of a credential, in one search, and returns the entry before.
+    /// `NoMemory` leaves the book unchanged, and the follower has followed no change.
+    pub fn change<C, S: Follower<Entry, C>>(
+        &mut self,
+        c: Credential,
+        by: &C,
+        follower: &mut S,
+    ) -> Result<Option<Entry>, NoMemory>
+        requires { S.can_follow follower.old by.now (value_at credential_cmp self.old.live c) }
+        ensures value { IfOk result (λ e. e ≡ value_at credential_cmp self.old.live c) }
+        ensures ok { OnOk result (self.new ≡ record self.old {
+          live = with_option credential_cmp c
+              (S.value_after by.now (value_at credential_cmp self.old.live c)) self.old.live;
+        }) }
+        ensures frozen { frozen_of credential_cmp self.new ≡ frozen_of credential_cmp self.old }
+        ensures follower { OnOk result (S.has_followed follower.old (value_at credential_cmp self.old.live c)
+            (S.value_after by.now (value_at credential_cmp self.old.live c)) follower.new) }
+        ensures err { OnErr result (self.new ≡ self.old) }
+        ensures follower_err { OnErr result (S.has_followed follower.old (value_at credential_cmp self.old.live c)
+            (value_at credential_cmp self.old.live c) follower.new) }
+    {
+        let before = self.view.change(c, NO_ENTRY, by, follower)?;
+        Ok(before)
     }
 
     /// Sets the frozen entry of a credential; `None` means that it had none.

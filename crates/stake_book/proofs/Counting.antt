@@ -19,12 +19,13 @@ use Rattle.maps.specs.Maps.{value_at, has_key, has_member, entries_where, sum_va
 use Rattle.maps.specs.Words.{some_and}
 use Rattle.accounts.specs.Accounts.{with_entry}
 use Rattle.stake_book.specs.declared.leaving.Leaving.{Leaving}
-use Rattle.stake_book.specs.Delegators.{AreCounted, credential_of, drep_of, joins_pool, joins_drep}
-use Rattle.stake_book.specs.Ended.{is_cleared, cleared, change_of, delegating}
+use Rattle.stake_book.specs.declared.leaving.Leaving.TheVariants.{Pools, Dreps}
+use Rattle.stake_book.specs.Delegators.{Counted, AreCounted, HasCounted, AreRecounted, credential_of, drep_of, joins_pool, joins_drep}
+use Rattle.stake_book.specs.Ended.{is_cleared, cleared, change_of, delegating, have_any}
 use Rattle.stake_book.specs.Stakes.{whole_entry}
 use Rattle.stake_book.specs.Sums.{IsRaised, amount_at, amount_for, pool_of}
 use Rattle.stake_book.proofs.Raised.{amount_there}
-use Rattle.stake_book.proofs.Ended.{names_one}
+use Rattle.stake_book.proofs.Ended.{names_one, delegates_named}
 use Rattle.stake_book.proofs.Entering.{IsMap-with_entry, before_within, entered_sum}
 
 -- the delegation that begins and the one that ends make of the old one the new one
@@ -36,38 +37,52 @@ pub same_moved : {K : Type 0} (cmp : K → K → Ordering) (left joined : Option
 same_moved cmp left joined {from} {to} {was} {is} e f h =
     λ k. (λ i. amount_for cmp 1 joined k + amount_for cmp 1 (sym e i) k) ∙ h k ∙ (λ i. amount_for cmp 1 left k + amount_for cmp 1 (f i) k)
 
-module _ (pools : List (PoolId × ℕ)) (dreps : List (Credential × ℕ)) (entries : List (Credential × Entry)) (s : AreCounted pools dreps entries) where
+module _ (pools : List (PoolId × ℕ)) (dreps : List (Credential × ℕ)) where
   -- a count that was raised and lowered again is what it was
-  pub uncounted : (pool : Option PoolId) (drep : Option Credential) (up down : List (PoolId × ℕ)) (more less : List (Credential × ℕ))
-      → IsRaised pool_cmp pool 1 pools up → IsRaised pool_cmp pool 1 down up → IsRaised credential_cmp drep 1 dreps more → IsRaised credential_cmp drep 1 less more → AreCounted down less entries
-  uncounted pool drep up down more less r l t m = record {
-    in_order = s.in_order;
-    pools = λ p. omega (arith, s.pools p, r.each p, l.each p);
-    dreps = λ c. omega (arith, s.dreps c, t.each c, m.each c);
+  pub unpooled : (e : Entry) (pool : Option PoolId) (up down : List (PoolId × ℕ)) → IsRaised pool_cmp pool 1 pools up → IsRaised pool_cmp pool 1 down up
+      → AreRecounted e e (record { pools = pools; dreps = dreps }) (record { pools = down; dreps = dreps })
+  unpooled e pool up down r l = record { pools = λ p. omega (arith, r.each p, l.each p); dreps = λ c. refl }
+
+  -- one entry instead of another
+  pub recounted : (before after : Entry) (pool_left pool_joined : Option PoolId) (drep_left drep_joined : Option Credential) (up down : List (PoolId × ℕ)) (more less : List (Credential × ℕ))
+      → AreMoved pool_cmp (pool_of before) (pool_of after) pool_left pool_joined → AreMoved credential_cmp (drep_of before) (drep_of after) drep_left drep_joined
+      → IsRaised pool_cmp pool_joined 1 pools up → IsRaised pool_cmp pool_left 1 down up → IsRaised credential_cmp drep_joined 1 dreps more → IsRaised credential_cmp drep_left 1 less more
+      → AreRecounted before after (record { pools = pools; dreps = dreps }) (record { pools = down; dreps = less })
+  recounted before after pool_left pool_joined drep_left drep_joined up down more less v w r l t m = record {
+    pools = λ p. omega (arith, v p, r.each p, l.each p);
+    dreps = λ d. omega (arith, w d, t.each d, m.each d);
   }
 
-  -- the same, where the DReps were not reached
-  pub unpooled : (pool : Option PoolId) (up down : List (PoolId × ℕ)) → IsRaised pool_cmp pool 1 pools up → IsRaised pool_cmp pool 1 down up → AreCounted down dreps entries
-  unpooled pool up down r l = record { in_order = s.in_order; pools = λ p. omega (arith, s.pools p, r.each p, l.each p); dreps = s.dreps }
-
-  module _ (c : Credential) where
-    -- one entry instead of another
-    pub recounted : (e : Entry) (pool_left pool_joined : Option PoolId) (drep_left drep_joined : Option Credential) (up down : List (PoolId × ℕ)) (more less : List (Credential × ℕ))
-        → AreMoved pool_cmp (pool_of (whole_entry entries c)) (pool_of e) pool_left pool_joined → AreMoved credential_cmp (drep_of (whole_entry entries c)) (drep_of e) drep_left drep_joined
-        → IsRaised pool_cmp pool_joined 1 pools up → IsRaised pool_cmp pool_left 1 down up → IsRaised credential_cmp drep_joined 1 dreps more → IsRaised credential_cmp drep_left 1 less more
-        → AreCounted down less (with_entry c e entries)
-    recounted e pool_left pool_joined drep_left drep_joined up down more less v w r l t m = record {
-      in_order = IsMap-with_entry c e entries s.in_order;
-      pools = λ p. omega (arith, s.pools p, v p, r.each p, l.each p, entered_sum (joins_pool p) refl c entries e s.in_order);
-      dreps = λ d. omega (arith, s.dreps d, w d, t.each d, m.each d, entered_sum (joins_drep d) refl c entries e s.in_order);
-    }
-
+  module _ (e : Entry) (h : HasCounted e (record { pools = pools; dreps = dreps })) where
     -- what the entry delegates to has a delegator
-    pub pool_has : (joined : Option PoolId) (up : List (PoolId × ℕ)) (p : PoolId) → IsRaised pool_cmp joined 1 pools up → pool_of (whole_entry entries c) ≡ Some p → 1 ≤ amount_at pool_cmp up p
-    pool_has joined up p r is = omega (arith, s.pools p, r.each p, before_within (joins_pool p) refl c entries, amount_there pool_total p 1 (pool_of (whole_entry entries c)) is)
+    pub pool_has : (joined : Option PoolId) (up : List (PoolId × ℕ)) (p : PoolId) → IsRaised pool_cmp joined 1 pools up → pool_of e ≡ Some p → 1 ≤ amount_at pool_cmp up p
+    pool_has joined up p r is = omega (arith, h.pools p, r.each p, amount_there pool_total p 1 (pool_of e) is)
 
-    pub drep_has : (joined : Option Credential) (more : List (Credential × ℕ)) (d : Credential) → IsRaised credential_cmp joined 1 dreps more → drep_of (whole_entry entries c) ≡ Some d → 1 ≤ amount_at credential_cmp more d
-    drep_has joined more d r is = omega (arith, s.dreps d, r.each d, before_within (joins_drep d) refl c entries, amount_there credential_total d 1 (drep_of (whole_entry entries c)) is)
+    pub drep_has : (joined : Option Credential) (more : List (Credential × ℕ)) (d : Credential) → IsRaised credential_cmp joined 1 dreps more → drep_of e ≡ Some d → 1 ≤ amount_at credential_cmp more d
+    drep_has joined more d r is = omega (arith, h.dreps d, r.each d, amount_there credential_total d 1 (drep_of e) is)
+
+-- the counts after an entry of the accounts has become another
+pub counted_after : (s t : Counted) (c : Credential) (e : Entry) (entries : List (Credential × Entry)) → AreCounted s entries → AreRecounted (whole_entry entries c) e s t → AreCounted t (with_entry c e entries)
+counted_after s t c e entries h r = record {
+  in_order = IsMap-with_entry c e entries h.in_order;
+  pools = λ p. omega (arith, h.pools p, r.pools p, entered_sum (joins_pool p) refl c entries e h.in_order);
+  dreps = λ d. omega (arith, h.dreps d, r.dreps d, entered_sum (joins_drep d) refl c entries e h.in_order);
+}
+
+-- an entry that becomes itself leaves the counts
+pub counted_still : (s t : Counted) (e : Entry) (entries : List (Credential × Entry)) → AreCounted s entries → AreRecounted e e s t → AreCounted t entries
+counted_still s t e entries h r = record {
+  in_order = h.in_order;
+  pools = λ p. omega (arith, h.pools p, r.pools p);
+  dreps = λ d. omega (arith, h.dreps d, r.dreps d);
+}
+
+-- the delegations of an entry are counted
+pub has_counted : (s : Counted) (c : Credential) (entries : List (Credential × Entry)) → AreCounted s entries → HasCounted (whole_entry entries c) s
+has_counted s c entries h = record {
+  pools = λ p. omega (arith, h.pools p, before_within (joins_pool p) refl c entries);
+  dreps = λ d. omega (arith, h.dreps d, before_within (joins_drep d) refl c entries);
+}
 
 -- a name has no delegators where none of the names has any
 none_at : {K : Type 0} {cmp : K → K → Ordering} (o : IsTotalOrder cmp) (es : List (K × ℕ)) (names : List K) → list_any (has_key cmp es) names ≡ false → (k : K) → has_member cmp names k ≡ true → amount_at cmp es k ≡ 0
@@ -111,12 +126,17 @@ named_one names (Some (drep.Registered c)) = refl
 named_one names (Some drep.Abstain) = refl
 named_one names (Some drep.NoConfidence) = refl
 
-module _ (pools : List (PoolId × ℕ)) (dreps : List (Credential × ℕ)) (entries : List (Credential × Entry)) (s : AreCounted pools dreps entries) (l : Leaving) where
+module _ (s : Counted) (entries : List (Credential × Entry)) (h : AreCounted s entries) (l : Leaving) where
   -- where none of the pools has a delegator, no account delegates to them
-  pub no_pool_has : (names : List PoolId) → ((r : Registered) → is_cleared l r ≡ some_and (has_member pool_cmp names) r.pool) → list_any (has_key pool_cmp pools) names ≡ false → delegating l entries ≡ []
-  no_pool_has names leaves h = none_delegate pool_total l names (λ (r : Registered). r.pool) leaves entries (λ p m. sym (s.pools p) ∙ none_at pool_total pools names h p m)
+  pub no_pool_has : (names : List PoolId) → ((r : Registered) → is_cleared l r ≡ some_and (has_member pool_cmp names) r.pool) → list_any (has_key pool_cmp s.pools) names ≡ false → delegating l entries ≡ []
+  no_pool_has names leaves none = none_delegate pool_total l names (λ (r : Registered). r.pool) leaves entries (λ p m. sym (h.pools p) ∙ none_at pool_total s.pools names none p m)
 
   -- and so it is for DReps
-  pub no_drep_has : (names : List Credential) → ((r : Registered) → is_cleared l r ≡ names_one names r.drep) → list_any (has_key credential_cmp dreps) names ≡ false → delegating l entries ≡ []
-  no_drep_has names leaves h =
-      none_delegate credential_total l names (λ (r : Registered). option_and_then credential_of r.drep) (λ r. leaves r ∙ named_one names r.drep) entries (λ d m. sym (s.dreps d) ∙ none_at credential_total dreps names h d m)
+  pub no_drep_has : (names : List Credential) → ((r : Registered) → is_cleared l r ≡ names_one names r.drep) → list_any (has_key credential_cmp s.dreps) names ≡ false → delegating l entries ≡ []
+  no_drep_has names leaves none =
+      none_delegate credential_total l names (λ (r : Registered). option_and_then credential_of r.drep) (λ r. leaves r ∙ named_one names r.drep) entries (λ d m. sym (h.dreps d) ∙ none_at credential_total s.dreps names none d m)
+
+-- where nothing that leaves has a delegator, no account delegates to it
+pub none_leave : (s : Counted) (entries : List (Credential × Entry)) → AreCounted s entries → (l : Leaving) → have_any l s ≡ false → delegating l entries ≡ []
+none_leave s entries h (Pools pools) none = no_pool_has s entries h (Pools pools) pools.keys (λ r. refl) none
+none_leave s entries h (Dreps dreps) none = no_drep_has s entries h (Dreps dreps) dreps.keys (delegates_named dreps.keys) none

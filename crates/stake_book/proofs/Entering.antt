@@ -13,13 +13,14 @@ use Rattle.gov_ids.specs.Same.{same_pool}
 use Rattle.gov_ids.proofs.Totals.{credential_total, pool_total}
 use Rattle.book_records.specs.declared.Entry.{Entry}
 use Rattle.book_records.specs.declared.Registered.{Registered}
-use Rattle.coin_frac.specs.declared.TheConstants.{SUPPLY_LIMIT}
 use Rattle.maps.proofs.Kept.{IsMap-with_value, IsMap-without_key}
 use Rattle.maps.specs.Maps.{IsMap, value_at, with_value, without_key, sum_values}
 use Rattle.maps.specs.Words.{amount, holds}
 use Rattle.accounts.specs.Accounts.{is_nothing, with_entry}
 use Rattle.stake_book.specs.Stakes.{whole_entry}
-use Rattle.stake_book.specs.Sums.{AreSummed, IsRaised, balance_of, pool_of, weight_of, share_of, shared_by, weight_in, stake_in}
+use Rattle.stake_book.specs.Delegators.{Counted, AreRecounted}
+use Rattle.stake_book.specs.Summed.{Summed, HasBecome}
+use Rattle.stake_book.specs.Sums.{IsRaised, balance_of, pool_of, weight_of, share_of, shared_by, weight_in, stake_in}
 use Rattle.stake_book.proofs.Raised.{amount_there}
 
 abbrev pub nothing : Entry
@@ -99,48 +100,44 @@ counted : (o : Option PoolId) (n : ℕ) → amount (λ _. n) o ≡ cond (is_some
 counted None n = refl
 counted (Some p) n = refl
 
-module _ (held : ℕ) (pools up : List (PoolId × ℕ)) (c : Credential) (entries : List (Credential × Entry)) (s : AreSummed held pools entries) where
-  -- one entry instead of another: its share is added, then the other's taken, except what stays
-  pub entered_summed : (e : Entry) (down : List (PoolId × ℕ)) (left : ℕ) → left ≤ weight_of (whole_entry entries c) → left ≤ weight_of e → (left ≡ 0) ⊎ (pool_of (whole_entry entries c) ≡ pool_of e)
-      → IsRaised pool_cmp (pool_of e) (weight_of e - left) pools up → IsRaised pool_cmp (pool_of (whole_entry entries c)) (weight_of (whole_entry entries c) - left) down up
-      → weight_in (with_entry c e entries) ≤ SUPPLY_LIMIT → AreSummed (held - balance_of (whole_entry entries c) + balance_of e) down (with_entry c e entries)
-  entered_summed e down left m n same r l w = record {
-    in_order = IsMap-with_entry c e entries s.in_order;
-    within = w;
-    balances = omega (arith, s.balances, before_within balance_of refl c entries, entered_sum balance_of refl c entries e s.in_order);
+module _ (before after : Entry) (s : Summed) (up down : List (PoolId × ℕ)) where
+  -- the share of one entry is added, then the other's taken, except what stays
+  pub has_become : (left held : ℕ) (counts : Counted) → left ≤ weight_of before → left ≤ weight_of after → (left ≡ 0) ⊎ (pool_of before ≡ pool_of after)
+      → IsRaised pool_cmp (pool_of after) (weight_of after - left) s.pools up → IsRaised pool_cmp (pool_of before) (weight_of before - left) down up
+      → held + balance_of before ≡ s.balances + balance_of after → AreRecounted before after s.counts counts
+      → HasBecome before after s (record { balances = held; pools = down; counts = counts })
+  has_become left held counts m n same r l b k = record {
+    balances = b;
     pools = λ p.
         omega (
           arith,
           r.each p,
           l.each p,
-          s.pools p,
-          entered_sum (share_of p) refl c entries e s.in_order,
-          stays (holds same_pool (pool_of (whole_entry entries c)) p) (holds same_pool (pool_of e) p) (weight_of (whole_entry entries c)) (weight_of e) left m n (tested left (λ o. holds same_pool o p) same),
+          stays (holds same_pool (pool_of before) p) (holds same_pool (pool_of after) p) (weight_of before) (weight_of after) left m n (tested left (λ o. holds same_pool o p) same),
         );
     total = omega (
       arith,
       r.total,
       l.total,
-      s.total,
-      entered_sum shared_by refl c entries e s.in_order,
-      counted (pool_of e) (weight_of e - left),
-      counted (pool_of e) (weight_of e),
-      counted (pool_of (whole_entry entries c)) (weight_of (whole_entry entries c) - left),
-      counted (pool_of (whole_entry entries c)) (weight_of (whole_entry entries c)),
-      stays (is_some (pool_of (whole_entry entries c))) (is_some (pool_of e)) (weight_of (whole_entry entries c)) (weight_of e) left m n (tested left (λ o. is_some o) same),
+      counted (pool_of after) (weight_of after - left),
+      counted (pool_of after) (weight_of after),
+      counted (pool_of before) (weight_of before - left),
+      counted (pool_of before) (weight_of before),
+      stays (is_some (pool_of before)) (is_some (pool_of after)) (weight_of before) (weight_of after) left m n (tested left (λ o. is_some o) same),
     );
+    counts = k;
   }
 
   -- an amount that was added and taken again leaves the sums
-  pub undone : (pool : Option PoolId) (n : ℕ) (down : List (PoolId × ℕ)) → IsRaised pool_cmp pool n pools up → IsRaised pool_cmp pool n down up → AreSummed held down entries
-  undone pool n down r l = record {
-    in_order = s.in_order;
-    within = s.within;
-    balances = s.balances;
-    pools = λ p. omega (arith, s.pools p, r.each p, l.each p);
-    total = omega (arith, s.total, r.total, l.total);
+  pub undone : (pool : Option PoolId) (n : ℕ) (counts : Counted) → IsRaised pool_cmp pool n s.pools up → IsRaised pool_cmp pool n down up → AreRecounted before before s.counts counts
+      → HasBecome before before s (record { balances = s.balances; pools = down; counts = counts })
+  undone pool n counts r l k = record {
+    balances = refl;
+    pools = λ p. omega (arith, r.each p, l.each p);
+    total = omega (arith, r.total, l.total);
+    counts = k;
   }
 
   -- the share of the entry that was there can be taken
-  pub before_enough : (pool : Option PoolId) (n : ℕ) (p : PoolId) → IsRaised pool_cmp pool n pools up → pool_of (whole_entry entries c) ≡ Some p → weight_of (whole_entry entries c) ≤ stake_in up p
-  before_enough pool n p r is = omega (arith, r.each p, s.pools p, before_within (share_of p) refl c entries, share_there (whole_entry entries c) p is)
+  pub before_enough : (pool : Option PoolId) (n : ℕ) (p : PoolId) → ((q : PoolId) → share_of q before ≤ stake_in s.pools q) → IsRaised pool_cmp pool n s.pools up → pool_of before ≡ Some p → weight_of before ≤ stake_in up p
+  before_enough pool n p h r is = omega (arith, r.each p, h p, share_there before p is)

@@ -1,3 +1,4 @@
+mod Becoming
 mod Clearing
 mod Counting
 mod Entering

@@ -1,5 +1,6 @@
 -- What a spent or an added output does to the stake of its stake part.
-use Rattle.std.proofs.Common.{◌≡◌, ℕ, ◌+◌, ◌-◌, ◌≤◌, List, Bool, true, false, cond, is_some, Option, Some, None, refl, ap, sym, ◌∙◌, arith}
+use Rattle.std.proofs.Common.{◌≡◌, ℕ, ◌+◌, ◌-◌, ◌≤◌, List, Bool, true, false, cond, is_some, Option, Some, None, refl, ap, sym, subst, ◌∙◌, arith}
+use Rattle.std.specs.Prelude.{MatchOption}
 use Rattle.std.proofs.lemmas.Cmp.{eq_by_cmp_equiv}
 use Rattle.gov_ids.specs.declared.Credential.{Credential}
 use Rattle.gov_ids.specs.declared.OutRef.{OutRef}
@@ -13,8 +14,9 @@ use Rattle.book_records.specs.declared.Output.{Output}
 use Rattle.maps.specs.Maps.{value_at, with_value, without_key}
 use Rattle.maps.specs.Words.{holds}
 use Rattle.view_map.proofs.Entries.{without_key-with_value, no_entry}
-use Rattle.stake_book.specs.Stakes.{Stakes, AreKept, HasRoom, stake_at, stake_held, stake_part_at, with_stake, spent}
-use Rattle.stake_book.proofs.Kept.{HasMoved, itself, restaked, stake_kept}
+use Rattle.accounts.specs.Accounts.{Accounts}
+use Rattle.stake_book.specs.Stakes.{Stakes, AreKept, HasRoom, registrations, stake_at, stake_held, stake_part_at, with_stake, spent}
+use Rattle.stake_book.proofs.Kept.{HasMoved, itself, registrations_kept, restaked, stake_kept}
 use Rattle.stake_book.proofs.Sums.{counts, held-without_key, held-with_value}
 
 nothing : (b : Bool) → ◌≡◌ {A = ℕ} (cond b 0 0) 0
@@ -68,3 +70,49 @@ module _ (s : Stakes) (r : OutRef) (o : Output) (k : AreKept s) where
   -- an output that is added and taken away again leaves nothing behind
   pub untouched : value_at outref_cmp s.outputs.outputs r ≡ None → without_key outref_cmp r more ≡ s.outputs.outputs
   untouched m = without_key-with_value outref_total r r o s.outputs.outputs ((eq_by_cmp_equiv outref_total).refl r) (no_entry outref_cmp s.outputs.outputs r (ap (λ (x : Option Output). is_some x) m))
+
+frozen_stays : (part : Option Credential) (stake : Credential → ℕ) (a : Accounts) → (with_stake part stake a).frozen ≡ a.frozen
+frozen_stays None stake a = refl
+frozen_stays (Some c) stake a = refl
+
+module _ (s : Stakes) (r : OutRef) (a : Accounts) (k : AreKept s) where
+  -- the accounts after the output at r, if there is one, has taken its lovelace from its stake part
+  abbrev pub IsLowered : Option Output → Type 0
+  IsLowered o = MatchOption o (a ≡ s.accounts) (λ o. a ≡ with_stake o.address.stake (λ c. stake_at s.accounts.live c - o.lovelace) s.accounts)
+
+  -- they are those of the book after the spending
+  lowered_as : (o : Option Output) → o ≡ value_at outref_cmp s.outputs.outputs r → IsLowered o → a ≡ (spent r s).accounts
+  lowered_as None none is = is ∙ sym (ap (λ (s : Stakes). s.accounts) (nothing_spent s r (sym none)))
+  lowered_as (Some o) there is =
+      is ∙ spend_lowers s r o k there
+      ∙ ap (λ (x : Option Output). with_stake (option_and_then (λ (o : Output). o.address.stake) x) (stake_held (without_key outref_cmp r s.outputs.outputs)) s.accounts) there
+
+  pub lowered_is : IsLowered (value_at outref_cmp s.outputs.outputs r) → a ≡ (spent r s).accounts
+  lowered_is is = lowered_as (value_at outref_cmp s.outputs.outputs r) refl is
+
+  kept_as : (o : Option Output) → o ≡ value_at outref_cmp s.outputs.outputs r → AreKept (spent r s)
+  kept_as None none = subst (λ (s : Stakes). AreKept s) (sym (nothing_spent s r (sym none))) k
+  kept_as (Some o) there =
+      let left : List (OutRef × Output) = without_key outref_cmp r s.outputs.outputs in
+      subst (λ (x : Option Output). AreKept (record { outputs = record s.outputs { outputs = left }; accounts = with_stake (option_and_then (λ (o : Output). o.address.stake) x) (stake_held left) s.accounts })) there
+      (spend_keeps s r o k there)
+
+  -- the book is kept after the spending
+  pub spent_kept : AreKept (spent r s)
+  spent_kept = kept_as (value_at outref_cmp s.outputs.outputs r) refl
+
+  registered_as : (o : Option Output) → IsLowered o → registrations a.live ≡ registrations s.accounts.live
+  registered_as None is = ap (λ (a : Accounts). registrations a.live) is
+  registered_as (Some o) is = ap (λ (a : Accounts). registrations a.live) is ∙ registrations_kept o.address.stake (λ c. stake_at s.accounts.live c - o.lovelace) s.accounts k.live
+
+  -- the registrations stay
+  pub still_registered : IsLowered (value_at outref_cmp s.outputs.outputs r) → registrations a.live ≡ registrations s.accounts.live
+  still_registered is = registered_as (value_at outref_cmp s.outputs.outputs r) is
+
+  frozen_as : (o : Option Output) → IsLowered o → a.frozen ≡ s.accounts.frozen
+  frozen_as None is = ap (λ (a : Accounts). a.frozen) is
+  frozen_as (Some o) is = ap (λ (a : Accounts). a.frozen) is ∙ frozen_stays o.address.stake (λ c. stake_at s.accounts.live c - o.lovelace) s.accounts
+
+  -- and so do the frozen entries
+  pub still_frozen : IsLowered (value_at outref_cmp s.outputs.outputs r) → a.frozen ≡ s.accounts.frozen
+  still_frozen is = frozen_as (value_at outref_cmp s.outputs.outputs r) is

@@ -1,5 +1,5 @@
 -- How many accounts delegate to each pool and to each DRep. (Own)
-use Rattle.std.specs.Prelude.{ℕ, ◌≡◌, List, Option, Some, None}
+use Rattle.std.specs.Prelude.{ℕ, ◌≡◌, ◌+◌, ◌≤◌, List, Option, Some, None}
 use Rattle.std.specs.Option.{option_and_then}
 use Rattle.gov_ids.specs.declared.Credential.{Credential}
 use Rattle.gov_ids.specs.declared.Drep.{Drep}
@@ -28,8 +28,23 @@ joins_pool p e = amount_for pool_cmp 1 (pool_of e) p
 abbrev pub joins_drep : Credential → Entry → ℕ
 joins_drep c e = amount_for credential_cmp 1 (drep_of e) c
 
+-- how many accounts delegate to each pool and to each DRep
+pub record Counted : Type 0 where
+  pub pools : List (PoolId × ℕ)
+  pub dreps : List (Credential × ℕ)
+
 -- the counts are those of the entries, which are in order
-pub record AreCounted (by_pool : List (PoolId × ℕ)) (by_drep : List (Credential × ℕ)) (entries : List (Credential × Entry)) : Type 0 where
+pub record AreCounted (s : Counted) (entries : List (Credential × Entry)) : Type 0 where
   pub in_order : IsMap credential_cmp entries
-  pub pools : (p : PoolId) → amount_at pool_cmp by_pool p ≡ sum_values (joins_pool p) entries
-  pub dreps : (c : Credential) → amount_at credential_cmp by_drep c ≡ sum_values (joins_drep c) entries
+  pub pools : (p : PoolId) → amount_at pool_cmp s.pools p ≡ sum_values (joins_pool p) entries
+  pub dreps : (c : Credential) → amount_at credential_cmp s.dreps c ≡ sum_values (joins_drep c) entries
+
+-- the delegations of the entry are counted
+pub record HasCounted (e : Entry) (s : Counted) : Type 0 where
+  pub pools : (p : PoolId) → joins_pool p e ≤ amount_at pool_cmp s.pools p
+  pub dreps : (c : Credential) → joins_drep c e ≤ amount_at credential_cmp s.dreps c
+
+-- the counts after an entry has become another
+pub record AreRecounted (before after : Entry) (s t : Counted) : Type 0 where
+  pub pools : (p : PoolId) → amount_at pool_cmp t.pools p + joins_pool p before ≡ amount_at pool_cmp s.pools p + joins_pool p after
+  pub dreps : (c : Credential) → amount_at credential_cmp t.dreps c + joins_drep c before ≡ amount_at credential_cmp s.dreps c + joins_drep c after

@@ -1,15 +1,17 @@
 -- How the delegations of entries and registrations to pools or DReps end. (Own)
 use Rattle.std.specs.Prelude.{Bool, List, Option, Some, None, fold, is_some, option_map, if◌then◌else◌}
+use Rattle.std.specs.List.{list_any}
 use Rattle.std.specs.Map.{keys_of}
 use Rattle.std.specs.Option.{option_and_then}
 use Rattle.gov_ids.specs.declared.Credential.{Credential}
 use Rattle.book_records.specs.declared.Entry.{Entry}
 use Rattle.book_records.specs.declared.Registered.{Registered}
 use Rattle.book_records.specs.Delegations.{without_drep}
-use Rattle.gov_ids.specs.Orders.{credential_cmp}
-use Rattle.maps.specs.Maps.{changed_at, changed_where, each_value, entries_where}
+use Rattle.gov_ids.specs.Orders.{credential_cmp, pool_cmp}
+use Rattle.maps.specs.Maps.{has_key, changed_at, changed_where, each_value, entries_where}
 use Rattle.stake_book.specs.declared.leaving.Leaving.{Leaving}
 use Rattle.stake_book.specs.declared.leaving.Leaving.TheVariants.{Pools, Dreps}
+use Rattle.stake_book.specs.Delegators.{Counted}
 use Rattle.stake_book.specs.Stakes.{delegates_to_dreps, delegates_to_pools, without_pool}
 
 -- whether a registration delegates to what leaves
@@ -45,3 +47,8 @@ ended_at l cs entries = fold (λ es c. changed_at credential_cmp c (entry_withou
 -- the accounts without such delegations
 abbrev pub accounts_without : Leaving → List (Credential × Registered) → List (Credential × Registered)
 accounts_without l accounts = changed_where (λ c r. is_cleared l r) (cleared l) accounts
+
+-- whether one of what leaves has a delegator
+abbrev pub have_any : Leaving → Counted → Bool
+have_any (Pools pools) s = list_any (has_key pool_cmp s.pools) pools.keys
+have_any (Dreps dreps) s = list_any (has_key credential_cmp s.dreps) dreps.keys

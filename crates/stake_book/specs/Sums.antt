@@ -1,17 +1,16 @@
 -- The running sums over the live entries: the balances, and the stake of each pool. (Own)
-use Rattle.std.specs.Prelude.{ℕ, ◌≡◌, ◌+◌, ◌≤◌, List, Option, unwrap_or, if◌then◌else◌}
+use Rattle.std.specs.Prelude.{ℕ, ◌≡◌, ◌+◌, List, Option, unwrap_or, if◌then◌else◌}
 use Rattle.std.specs.declared.cmp.Ordering.{Ordering}
 use Rattle.std.specs.Option.{option_and_then}
 use Rattle.std.specs.Ordering.{eq_by_cmp}
 use Rattle.gov_ids.specs.declared.Credential.{Credential}
 use Rattle.gov_ids.specs.declared.PoolId.{PoolId}
-use Rattle.gov_ids.specs.Orders.{credential_cmp, pool_cmp}
+use Rattle.gov_ids.specs.Orders.{pool_cmp}
 use Rattle.gov_ids.specs.Same.{same_pool}
 use Rattle.book_records.specs.declared.Entry.{Entry}
 use Rattle.book_records.specs.declared.Registered.{Registered}
-use Rattle.coin_frac.specs.declared.TheConstants.{SUPPLY_LIMIT}
 use Rattle.coin_frac.specs.Totals.{total_of}
-use Rattle.maps.specs.Maps.{IsMap, value_at, sum_values}
+use Rattle.maps.specs.Maps.{value_at, sum_values}
 use Rattle.maps.specs.Words.{amount, holds}
 
 -- the balance of an entry, in lovelace; 0 where it is not registered
@@ -54,11 +53,3 @@ amount_for cmp n named k = if holds (eq_by_cmp cmp) named k then n else 0
 pub record IsRaised {K : Type 0} (cmp : K → K → Ordering) (key : Option K) (gained : ℕ) (before after : List (K × ℕ)) : Type 0 where
   pub each : (k : K) → amount_at cmp after k ≡ amount_at cmp before k + amount_for cmp gained key k
   pub total : total_of after ≡ total_of before + amount (λ _. gained) key
-
--- the sums are those of the entries, which are in order
-pub record AreSummed (held : ℕ) (staked : List (PoolId × ℕ)) (entries : List (Credential × Entry)) : Type 0 where
-  pub in_order : IsMap credential_cmp entries
-  pub within : weight_in entries ≤ SUPPLY_LIMIT
-  pub balances : held ≡ sum_values balance_of entries
-  pub pools : (p : PoolId) → stake_in staked p ≡ sum_values (share_of p) entries
-  pub total : total_of staked ≡ sum_values shared_by entries

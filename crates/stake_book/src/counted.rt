@@ -1,40 +1,29 @@
-ghost use Rattle.std.specs.Prelude.{◌≡◌, false, [], IfOk, OnOk, OnErr};
-ghost use Rattle.gov_ids.specs.Orders.{credential_cmp};
-ghost use Rattle.maps.specs.Replaced.{with_option};
-ghost use Rattle.view_map.specs.View.{frozen_of};
-ghost use Rattle.accounts.specs.Accounts.{entered};
-ghost use Rattle.stake_book.specs.Delegators.{drep_of};
-ghost use Rattle.stake_book.specs.Ended.{delegating};
-ghost use Rattle.stake_book.specs.Stakes.{whole_entry};
+ghost use Rattle.std.specs.Prelude.{◌≡◌, [], OnOk, OnErr};
+ghost use Rattle.stake_book.specs.Delegators.{AreRecounted, HasCounted, drep_of};
+ghost use Rattle.stake_book.specs.Ended.{have_any};
 ghost use Rattle.stake_book.specs.Sums.{pool_of};
 
 use crate::delegators::{Delegators, moved};
 use crate::leaving::Leaving;
-use accounts::AccountBook;
 use book_records::Entry;
 use coin_frac::NoMemory;
 use gov_ids::{Credential, Drep, PoolId};
 use std::alloc::Global;
 use std::marker::Model;
 
-/// The accounts, with counts of those that delegate to each pool and each DRep.
-/// Contracts see the accounts.
+/// How many accounts delegate to each pool and to each DRep.
 #[derive(Drop)]
-pub struct CountedAccounts {
-    accounts: AccountBook,
+pub struct Counts {
     pools: Delegators<PoolId>,
     dreps: Delegators<Credential>,
 }
 
-impl Model for CountedAccounts {
-    ghost use Rattle.accounts.specs.Accounts.{Accounts};
-    ghost use Rattle.stake_book.specs.Delegators.{AreCounted};
+impl Model for Counts {
+    ghost use Rattle.stake_book.specs.Delegators.{Counted};
 
-    ghost Value = { Accounts };
+    ghost Value = { Counted };
 
-    ghost view = { λ a. a.accounts };
-
-    ghost invariant = { λ a. AreCounted a.pools a.dreps a.accounts.live };
+    ghost view = { λ a. record { pools = a.pools; dreps = a.dreps } };
 }
 
 /// The pool to which an entry delegates.
@@ -54,43 +43,29 @@ fn drep(e: &Entry) -> Option<Credential>
     }
 }
 
-impl CountedAccounts {
-    /// No accounts.
-    pub fn new(alloc: Global) -> CountedAccounts
-        ensures { result ≡ record { live = []; frozen = [] } }
+impl Counts {
+    /// No delegations.
+    pub fn new(alloc: Global) -> Counts
+        ensures { result ≡ record { pools = []; dreps = [] } }
     {
-        CountedAccounts {
-            accounts: AccountBook::new(alloc),
+        Counts {
             pools: Delegators::new(alloc),
             dreps: Delegators::new(alloc),
         }
     }
 
-    /// The accounts.
-    pub fn book(&self) -> &AccountBook
-        ensures { result.now ≡ self.now }
+    /// Counts the delegations of an entry that has become another.
+    /// `NoMemory` leaves each count as it was.
+    pub fn change(&mut self, before: &Entry, after: &Entry) -> Result<(), NoMemory>
+        requires { HasCounted before.now self.old }
+        ensures ok { OnOk result (AreRecounted before.now after.now self.old self.new) }
+        ensures err { OnErr result (AreRecounted before.now before.now self.old self.new) }
     {
-        &self.accounts
-    }
-
-    /// Replaces the entry `before`; an entry without stake and registration is removed.
-    /// `NoMemory` changes nothing.
-    pub fn put(&mut self, c: Credential, before: &Entry, e: Entry) -> Result<(), NoMemory>
-        requires { before.now ≡ whole_entry self.old.live c }
-        ensures ok { OnOk result (self.new ≡ entered c e self.old) }
-        ensures frozen { frozen_of credential_cmp self.new ≡ frozen_of credential_cmp self.old }
-        ensures err { OnErr result (self.new ≡ self.old) }
-    {
-        let (pool_left, pool_joined) = moved(pool(before), pool(&e));
-        let (drep_left, drep_joined) = moved(drep(before), drep(&e));
+        let (pool_left, pool_joined) = moved(pool(before), pool(after));
+        let (drep_left, drep_joined) = moved(drep(before), drep(after));
         self.pools.join(pool_joined)?;
         if let Err(error) = self.dreps.join(drep_joined) {
             self.pools.leave(pool_joined);
-            return Err(error);
-        }
-        if let Err(error) = self.accounts.put(c, e) {
-            self.pools.leave(pool_joined);
-            self.dreps.leave(drep_joined);
             return Err(error);
         }
         self.pools.leave(pool_left);
@@ -98,48 +73,13 @@ impl CountedAccounts {
         Ok(())
     }
 
-    /// The credentials of the entries that delegate to what leaves, in order.
-    /// It scans the accounts once; where no entry delegates to it, not at all.
-    pub fn delegating(&self, alloc: Global, leaving: &Leaving) -> Result<Vec<Credential>, NoMemory>
-        ensures { IfOk result (λ cs. cs.items ≡ delegating leaving.now self.now.live) }
-    {
-        let mut delegating = Vec::new(alloc);
-        if !self.have_any(leaving) {
-            return Ok(delegating);
-        }
-        for (c, entry) in self.accounts.iter() {
-            if leaving.change(entry.registered).is_some() {
-                delegating.push(*c)?;
-            }
-        }
-        Ok(delegating)
-    }
-
-    // Whether an account delegates to what leaves.
-    fn have_any(&self, leaving: &Leaving) -> bool
-        ensures { result ≡ false → delegating leaving.now self.now.live ≡ [] }
+    /// Whether an account delegates to what leaves.
+    pub fn have_any(&self, leaving: &Leaving) -> bool
+        ensures { result ≡ have_any leaving.now self.now }
     {
         match leaving {
             Leaving::Pools(pools) => self.pools.have_any(pools),
             Leaving::Dreps(dreps) => self.dreps.have_any(dreps),
         }
-    }
-
-    /// Sets the entry of a credential at the last freeze, or its absence. The live entry stays.
-    /// `NoMemory` changes nothing.
-    pub fn note_first(&mut self, c: Credential, first: Option<Entry>) -> Result<(), NoMemory>
-        ensures ok { OnOk result (self.new ≡
-            record self.old { frozen = with_option credential_cmp c first self.old.frozen }) }
-        ensures err { OnErr result (self.new ≡ self.old) }
-    {
-        self.accounts.note_first(c, first)
-    }
-
-    /// Freezes the live entries. It takes no memory and copies no entry.
-    pub fn freeze(&mut self)
-        ensures fields { self.new ≡ record self.old { frozen = self.old.live } }
-        ensures frozen { frozen_of credential_cmp self.new ≡ self.old.live }
-    {
-        self.accounts.freeze();
     }
 }

@@ -16,17 +16,22 @@ ghost use Rattle.stake_book.specs.Sums.{weight_in};
 ghost use Rattle.stake_book.specs.Ended.{entry_without, entries_without, accounts_without, ended_at};
 
 mod amounts;
+mod changes;
 mod counted;
 mod delegators;
 mod leaving;
 mod pay;
+mod running;
+mod spending;
 mod summed;
 
 pub use accounts as of_accounts;
 use accounts::AccountBook;
 pub use book_records::{Entry, Output, Registered};
+use changes::EntryChange;
 use coin_frac::NoMemory;
 use gov_ids::{Credential, OutRef, PoolId, TxId};
+use hash_seed::HashSeed;
 use leaving::Leaving;
 use maps::set_of;
 use std::alloc::Global;
@@ -80,9 +85,8 @@ fn raise_stake(
     let Some(c) = part else {
         return Ok(());
     };
-    let entry = accounts.entry_of(&c);
-    let stake = entry.stake + gained;
-    accounts.enter(c, &entry, Entry { stake, ..entry })
+    accounts.change(c, &EntryChange::Gain(gained))?;
+    Ok(())
 }
 
 // Takes from the stake of a stake part; without one nothing changes.
@@ -101,19 +105,19 @@ fn lower_stake(
     let Some(c) = part else {
         return Ok(());
     };
-    let entry = accounts.entry_of(&c);
-    let stake = entry.stake - lost;
-    accounts.enter(c, &entry, Entry { stake, ..entry })
+    accounts.change(c, &EntryChange::Lose(lost))?;
+    Ok(())
 }
 
 impl StakeBook {
-    /// An empty book. (UTxOState and DState of the formal specification)
-    pub fn new(alloc: Global) -> StakeBook
+    /// An empty book; the seed is of the table of used ids.
+    /// (UTxOState and DState of the formal specification)
+    pub fn new(alloc: Global, seed: HashSeed) -> StakeBook
         ensures { result ≡ no_stakes }
     {
         StakeBook {
             alloc,
-            outputs: UtxoSet::new(alloc),
+            outputs: UtxoSet::new(alloc, seed),
             accounts: SummedAccounts::new(alloc),
         }
     }
@@ -177,13 +181,8 @@ impl StakeBook {
         ensures frozen { frozen_of credential_cmp self.new.accounts ≡ frozen_of credential_cmp self.old.accounts }
         ensures err { OnErr result (self.new ≡ self.old) }
     {
-        let Some(output) = self.outputs.get(r) else {
-            return Ok(None);
-        };
-        let part = output.address.stake;
-        let lovelace = output.lovelace;
-        lower_stake(&mut self.accounts, part, lovelace)?;
-        Ok(self.outputs.take(r))
+        let output = self.outputs.take_with(r, &mut self.accounts)?;
+        Ok(output)
     }
 
     /// Adds an output at a new reference. `NoMemory` changes nothing.
@@ -217,31 +216,7 @@ impl StakeBook {
         ensures frozen { frozen_of credential_cmp self.new.accounts ≡ frozen_of credential_cmp self.old.accounts }
         ensures err { OnErr result (self.new ≡ self.old) }
     {
-        let entry = self.entry(&c);
-        self.register(c, &entry, to)
-    }
-
-    // Replaces the registration of an entry, which is the current one.
-    fn register(
-        &mut self,
-        c: Credential,
-        entry: &Entry,
-        to: Option<Registered>,
-    ) -> Result<(), NoMemory>
-        requires entry { entry.now ≡ whole_entry self.old.accounts.live c }
-        requires room { lovelace_in self.old.outputs.outputs
-            + balances_in (with_option credential_cmp c to (accounts_of self.old)) ≤ SUPPLY_LIMIT }
-        ensures ok { OnOk result (self.new ≡ with_account c to self.old) }
-        ensures registered { OnOk result (accounts_of self.new ≡
-            with_option credential_cmp c to (accounts_of self.old)) }
-        ensures frozen { frozen_of credential_cmp self.new.accounts ≡ frozen_of credential_cmp self.old.accounts }
-        ensures err { OnErr result (self.new ≡ self.old) }
-    {
-        let changed = Entry {
-            registered: to,
-            ..*entry
-        };
-        self.accounts.enter(c, entry, changed)?;
+        self.accounts.change(c, &EntryChange::Register(to))?;
         Ok(())
     }
 
@@ -336,7 +311,7 @@ impl StakeBook {
     {
         let entry = self.entry(&c);
         if let Some(changed) = leaving.change(entry.registered) {
-            self.register(c, &entry, Some(changed))?;
+            self.set_account(c, Some(changed))?;
         }
         Ok(())
     }

@@ -6,7 +6,7 @@ ghost use Rattle.stake_book.specs.Stakes.{AreKept, HasRoom, accounts_of};
 ghost use Rattle.view_map.specs.View.{frozen_of};
 
 use crate::StakeBook;
-use book_records::Registered;
+use crate::changes::EntryChange;
 use coin_frac::NoMemory;
 use gov_ids::Credential;
 
@@ -23,12 +23,7 @@ impl StakeBook {
         ensures err { OnErr result (self.new ≡ self.old) }
         ensures kept { AreKept self.old }
     {
-        let entry = self.entry(c);
-        let Some(r) = entry.registered else {
-            return Ok(false);
-        };
-        let rewards = r.rewards + amount;
-        self.register(*c, &entry, Some(Registered { rewards, ..r }))?;
-        Ok(true)
+        let before = self.accounts.change(*c, &EntryChange::Pay(amount))?;
+        Ok(before.registered.is_some())
     }
 }

@@ -1,58 +1,41 @@
-ghost use Rattle.std.specs.Prelude.{◌≡◌, ◌≤◌, ◌⊎◌, [], IfOk, OnOk, OnErr};
+ghost use Rattle.std.specs.Prelude.{◌≡◌, ◌≤◌, [], IfOk, OnOk, OnErr};
 ghost use Rattle.gov_ids.specs.Orders.{credential_cmp};
 ghost use Rattle.coin_frac.specs.declared.TheConstants.{SUPPLY_LIMIT};
 ghost use Rattle.maps.specs.Maps.{IsMap, sum_values};
 ghost use Rattle.maps.specs.Replaced.{with_option};
 ghost use Rattle.view_map.specs.View.{frozen_of};
 ghost use Rattle.accounts.specs.Accounts.{with_entry, entered};
+ghost use Rattle.stake_book.specs.Changes.{entry_after, taken_by};
 ghost use Rattle.stake_book.specs.Ended.{delegating};
-ghost use Rattle.stake_book.specs.Stakes.{whole_entry};
-ghost use Rattle.stake_book.specs.Sums.{balance_of, weight_of, share_of, weight_in};
+ghost use Rattle.stake_book.specs.Stakes.{stake_at, whole_entry};
+ghost use Rattle.stake_book.specs.Sums.{balance_of, share_of, weight_in};
 
-use crate::amounts::{lower, raise};
-use crate::counted::{CountedAccounts, pool};
+use crate::changes::{EntryChange, or_nothing};
 use crate::leaving::Leaving;
+use crate::running::Sums;
 use accounts::AccountBook;
-use book_records::{Entry, Registered};
+use book_records::Entry;
 use coin_frac::NoMemory;
 use gov_ids::{Credential, PoolId};
 use std::alloc::Global;
-use std::collections::BTreeMap;
 use std::marker::Model;
 
 /// The accounts, with sums over them. Contracts see the accounts.
 #[derive(Drop)]
 pub struct SummedAccounts {
-    accounts: CountedAccounts,
-    balances: u64,
-    pools: BTreeMap<PoolId, u64>,
+    accounts: AccountBook,
+    sums: Sums,
 }
 
 impl Model for SummedAccounts {
     ghost use Rattle.accounts.specs.Accounts.{Accounts};
-    ghost use Rattle.stake_book.specs.Sums.{AreSummed};
+    ghost use Rattle.stake_book.specs.Summed.{AreSummed};
 
     ghost Value = { Accounts };
 
     ghost view = { λ a. a.accounts };
 
-    ghost invariant = { λ a. AreSummed a.balances a.pools.entries a.accounts.live };
-}
-
-// The balance of an entry, in lovelace; 0 where it is not registered.
-fn balance(e: &Entry) -> u64
-    ensures { result ≡ balance_of e.now }
-{
-    e.registered.map_or(0, |r| r.rewards)
-}
-
-// What stays in a pool's stake when an entry is replaced; 0 where the pool changes.
-fn left_there(from: Option<PoolId>, lost: u64, to: Option<PoolId>, gained: u64) -> u64
-    ensures of_lost { result ≤ lost }
-    ensures of_gained { result ≤ gained }
-    ensures pool { (result ≡ 0) ⊎ (from ≡ to) }
-{
-    if from == to { lost.min(gained) } else { 0 }
+    ghost invariant = { λ a. AreSummed a.sums a.accounts.live };
 }
 
 impl SummedAccounts {
@@ -61,9 +44,8 @@ impl SummedAccounts {
         ensures { result ≡ record { live = []; frozen = [] } }
     {
         SummedAccounts {
-            accounts: CountedAccounts::new(alloc),
-            balances: 0,
-            pools: BTreeMap::new(alloc),
+            accounts: AccountBook::new(alloc),
+            sums: Sums::new(alloc),
         }
     }
 
@@ -71,7 +53,7 @@ impl SummedAccounts {
     pub fn book(&self) -> &AccountBook
         ensures { result.now ≡ self.now }
     {
-        self.accounts.book()
+        &self.accounts
     }
 
     /// The entry of a credential; where there is none, one without stake and registration.
@@ -80,10 +62,7 @@ impl SummedAccounts {
         ensures in_order { IsMap credential_cmp self.now.live }
         ensures within { weight_in self.now.live ≤ SUPPLY_LIMIT }
     {
-        self.accounts.book().get(c).unwrap_or(Entry {
-            stake: 0,
-            registered: None,
-        })
+        or_nothing(self.accounts.get(c))
     }
 
     /// The credentials of the entries that delegate to what leaves, in order.
@@ -92,14 +71,23 @@ impl SummedAccounts {
         ensures value { IfOk result (λ cs. cs.items ≡ delegating leaving.now self.now.live) }
         ensures in_order { IsMap credential_cmp self.now.live }
     {
-        self.accounts.delegating(alloc, leaving)
+        let mut delegating = Vec::new(alloc);
+        if !self.sums.have_any(leaving) {
+            return Ok(delegating);
+        }
+        for (c, entry) in self.accounts.iter() {
+            if leaving.change(entry.registered).is_some() {
+                delegating.push(*c)?;
+            }
+        }
+        Ok(delegating)
     }
 
     /// The sum of the balances, in lovelace.
     pub fn balances(&self) -> u64
         ensures { result ≡ sum_values balance_of self.now.live }
     {
-        self.balances
+        self.sums.balances()
     }
 
     /// The stake of a pool, in lovelace.
@@ -107,36 +95,22 @@ impl SummedAccounts {
         ensures value { result ≡ sum_values (share_of p.now) self.now.live }
         ensures in_order { IsMap credential_cmp self.now.live }
     {
-        self.pools.get(p).copied().unwrap_or(0)
+        self.sums.pool_stake(p)
     }
 
-    /// Replaces the entry `before`; an entry without stake and registration is removed.
-    /// `NoMemory` changes nothing.
-    pub fn enter(&mut self, c: Credential, before: &Entry, e: Entry) -> Result<(), NoMemory>
-        requires before { before.now ≡ whole_entry self.old.live c }
-        requires within { weight_in (with_entry c e self.old.live) ≤ SUPPLY_LIMIT }
-        ensures ok { OnOk result (self.new ≡ entered c e self.old) }
+    /// Changes an entry, in one search, and returns the entry before.
+    /// An entry without stake and registration is removed. `NoMemory` changes nothing.
+    pub fn change(&mut self, c: Credential, by: &EntryChange) -> Result<Entry, NoMemory>
+        requires enough { taken_by by.now ≤ stake_at self.old.live c }
+        requires within { weight_in (with_entry c (entry_after by.now (whole_entry self.old.live c)) self.old.live) ≤
+            SUPPLY_LIMIT }
+        ensures before { IfOk result (λ e. e ≡ whole_entry self.old.live c) }
+        ensures ok { OnOk result (self.new ≡ entered c (entry_after by.now (whole_entry self.old.live c)) self.old) }
         ensures frozen { frozen_of credential_cmp self.new ≡ frozen_of credential_cmp self.old }
         ensures err { OnErr result (self.new ≡ self.old) }
     {
-        let held = self.balances;
-        let ended = balance(before);
-        let begun = balance(&e);
-        let lost = before.stake + ended;
-        let gained = e.stake + begun;
-        let from = pool(before);
-        let to = pool(&e);
-        let left = left_there(from, lost, to, gained);
-        let more = gained - left;
-        let less = lost - left;
-        raise(&mut self.pools, to, more)?;
-        if let Err(error) = self.accounts.put(c, before, e) {
-            lower(&mut self.pools, to, more);
-            return Err(error);
-        }
-        lower(&mut self.pools, from, less);
-        self.balances = held - ended + begun;
-        Ok(())
+        let before = self.accounts.change(c, by, &mut self.sums)?;
+        Ok(or_nothing(before))
     }
 
     /// Sets the entry of a credential at the last freeze, or its absence. The live entry stays.

@@ -228,6 +228,14 @@ module _ {K V : Type 0} {cmp : K → K → Ordering} (o : IsTotalOrder cmp) wher
       let live : values_in es ≡ without_key cmp k (values_in m.live) = ap (λ (es : List (K × (V × ℕ))). values_in es) e ∙ values-without_key cmp k m.live in
       ((λ i. record { live = live i; frozen = both.0 i }), both.1)
 
+  -- any change of one entry
+  pub all-changed : (k : K) (after : Option V) (m : Marks K V) → IsMarked cmp m → (es : List (K × (V × ℕ))) (kept : List (K × V)) → es ≡ with_option cmp k (option_map (λ v. (v, m.mark)) after) m.live
+      → kept ≡ kept_with cmp (key_in cmp m.live k) (option_and_then (unchanged_value m.mark) (value_at cmp m.live k)) m.kept
+      → (view_of cmp (record { live = es; kept = kept; mark = m.mark; frozen_len = m.frozen_len }) ≡ record (view_of cmp m) { live = with_option cmp k after (values_in m.live) })
+      × IsMarked cmp (record { live = es; kept = kept; mark = m.mark; frozen_len = m.frozen_len })
+  all-changed k None m h es kept e is = gone-changed k (key_in cmp m.live k) (value_at cmp m.live k) m h es kept e refl refl is
+  all-changed k (Some v) m h es kept e is = put-changed k (key_in cmp m.live k) v (value_at cmp m.live k) m h es kept e refl refl is
+
   -- a freeze
   pub frozen-changed : (m : Marks K V) → IsMarked cmp m → (es : List (K × (V × ℕ))) (kept : List (K × V)) (mark len : ℕ) → values_in es ≡ values_in m.live → AllBefore mark es → kept ≡ [] → len ≡ length es
       → (view_of cmp (record { live = es; kept = kept; mark = mark; frozen_len = len }) ≡ record (view_of cmp m) { frozen = values_in m.live })

@@ -11,11 +11,14 @@ ghost use Rattle.view_map.specs.Marks.{AllBefore, AllMarked, kept_with, unchange
 ghost use Rattle.view_map.specs.View.{IsInOrder, NotedAreFrozen, entry_at, frozen_of, key_in};
 ghost use Rattle.view_map.specs.Walk.{entries_past};
 
+mod change;
 mod frozen_iter;
 mod live_iter;
 mod peeked;
 mod unchanged;
 
+pub use change::Follower;
+use change::change_in;
 pub use frozen_iter::FrozenIter;
 pub use live_iter::LiveIter;
 use maps::keys_past;
@@ -294,6 +297,39 @@ impl<K: Copy + Ord, V: Copy> ViewMap<K, V> {
         keep(&mut self.kept, self.mark, *key, Some(before))?;
         self.live.remove(k);
         Ok(Some(before.0))
+    }
+
+    /// Changes the live value at a key, in one search, and returns the value before.
+    /// Until the follower has returned, a new entry holds `blank`.
+    /// `NoMemory` leaves the map unchanged, and the follower has followed no change.
+    pub fn change<C, S: Follower<V, C>>(
+        &mut self,
+        k: K,
+        blank: V,
+        by: &C,
+        follower: &mut S,
+    ) -> Result<Option<V>, NoMemory>
+        requires { S.can_follow follower.old by.now (value_at K.cmp self.old.live k) }
+        ensures value { IfOk result (λ v. v ≡ value_at K.cmp self.old.live k) }
+        ensures ok { OnOk result (self.new ≡ record self.old {
+          live = with_option K.cmp k (S.value_after by.now (value_at K.cmp self.old.live k)) self.old.live;
+        }) }
+        ensures follower { OnOk result (S.has_followed follower.old (value_at K.cmp self.old.live k)
+            (S.value_after by.now (value_at K.cmp self.old.live k)) follower.new) }
+        ensures err { OnErr result (self.new ≡ self.old) }
+        ensures follower_err { OnErr result (S.has_followed follower.old (value_at K.cmp self.old.live k)
+            (value_at K.cmp self.old.live k) follower.new) }
+    {
+        let before = change_in(
+            &mut self.live,
+            &mut self.kept,
+            self.mark,
+            k,
+            blank,
+            by,
+            follower,
+        )?;
+        Ok(before)
     }
 
     /// Sets the frozen value at a key; none removes it. The live entry stays.

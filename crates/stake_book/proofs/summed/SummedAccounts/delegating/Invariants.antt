@@ -1,6 +1,6 @@
 use Rattle.std.proofs.Common.{◌≡◌, ◌++◌}
 use Rattle.stake_book.specs.Ended.{delegating}
-use Rattle.stake_book.proofs.counted.CountedAccounts.delegating.Given as goal
+use Rattle.stake_book.proofs.summed.SummedAccounts.delegating.Given as goal
 
 -- those so far and those of the entries that are left are all
 abbrev pub invariant-loop-c : goal.invariant-loop-c
