@@ -5,6 +5,7 @@
 
 #include <stdio.h>
 #include <stdlib.h>
+#include <sys/random.h>
 
 /* Room for a text, made greater as texts ask for it. */
 struct room {
@@ -37,9 +38,13 @@ int main(void)
     char *line = NULL;
     size_t size = 0;
     uint64_t number = 0;
+    uint64_t seed[2];
     int is_open = 0;
     int status = CONWAY_DONE;
     ssize_t length;
+    if (getrandom(seed, sizeof seed, 0) != sizeof seed) {
+        return 1;
+    }
     while (status == CONWAY_DONE && (length = getline(&line, &size, stdin)) != -1) {
         struct conway_answer answer;
         const uint8_t *bytes = (const uint8_t *)line;
@@ -51,7 +56,7 @@ int main(void)
         if (is_open) {
             answer = conway_record(&ledger, bytes, count, room.bytes, room.size);
         } else {
-            answer = conway_open(bytes, count, number, &ledger);
+            answer = conway_open(bytes, count, number, seed[0], seed[1], &ledger);
             if (answer.status == CONWAY_IS_BLANK) {
                 continue;
             }

@@ -1,16 +1,21 @@
 """The ledger for Python, by ctypes over a shared library of crates/conway_c.
 
     with Conway.open("libconway.so", genesis_line) as ledger:
+        verdict = ledger.judge(line)
         text = ledger.record(line)
+        with Conway.resume("libconway.so", ledger.checkpoint()) as copy:
+            tallies = copy.outlook()
 
 A shared library is made of the archives that examples/c/conway.h names. Run as a program, with the
 library as its word, it reads a stream of records from standard input and writes what
 `conway replay` writes for it, with the same status."""
 
 import ctypes
+import os
+import struct
 import sys
 
-DONE, BAD_GENESIS, NO_MEMORY, IS_CLOSED, IS_FULL, IS_BLANK = 0, 3, 6, 20, 21, 22
+DONE, BAD_GENESIS, NO_MEMORY, BAD_CHECKPOINT, IS_CLOSED, IS_FULL, IS_BLANK = 0, 3, 6, 8, 20, 21, 22
 # bytes of room for a text, before a longer one comes
 ROOM = 4096
 
@@ -34,16 +39,26 @@ class Fault(Exception):
 def load(library):
     """The library at this path, with the types of its calls."""
     calls = ctypes.CDLL(library)
-    handle, bytes_, size = ctypes.POINTER(_Handle), ctypes.c_char_p, ctypes.c_size_t
+    handle, bytes_ = ctypes.POINTER(_Handle), ctypes.c_char_p
+    size, number = ctypes.c_size_t, ctypes.c_uint64
     for name, words, result in (
-        ("conway_open", [bytes_, size, ctypes.c_uint64, handle], _Answer),
+        ("conway_open", [bytes_, size, number, number, number, handle], _Answer),
+        ("conway_resume", [bytes_, size, number, number, handle], _Answer),
         ("conway_record", [handle, bytes_, size, bytes_, size], _Answer),
+        ("conway_judge", [handle, bytes_, size, bytes_, size], _Answer),
+        ("conway_checkpoint", [handle, bytes_, size], _Answer),
+        ("conway_outlook", [handle, bytes_, size], _Answer),
         ("conway_text", [handle, bytes_, size], _Answer),
         ("conway_close", [handle], None),
     ):
         call = getattr(calls, name)
         call.argtypes, call.restype = words, result
     return calls
+
+
+def _seed():
+    """Two numbers that whoever sends records cannot guess."""
+    return struct.unpack("=QQ", os.urandom(16))
 
 
 class Conway:
@@ -58,7 +73,14 @@ class Conway:
     def open(cls, library, genesis, number=1):
         """The ledger of the genesis on the line of this number, without its line feed."""
         ledger = cls(load(library) if isinstance(library, str) else library)
-        ledger._done(ledger._calls.conway_open(genesis, len(genesis), number, ledger._handle))
+        ledger._done(ledger._calls.conway_open(genesis, len(genesis), number, *_seed(), ledger._handle))
+        return ledger
+
+    @classmethod
+    def resume(cls, library, text):
+        """The ledger of a checkpoint, of its whole text."""
+        ledger = cls(load(library) if isinstance(library, str) else library)
+        ledger._done(ledger._calls.conway_resume(text, len(text), *_seed(), ledger._handle))
         return ledger
 
     def record(self, line):
@@ -66,14 +88,30 @@ class Conway:
         room = self._room
         return self._text(self._calls.conway_record(self._handle, line, len(line), room, len(room)))
 
+    def judge(self, line):
+        """The line of the reply that the next line would get; nothing is recorded."""
+        room = self._room
+        return self._text(self._calls.conway_judge(self._handle, line, len(line), room, len(room)))
+
+    def checkpoint(self):
+        """What `checkpoint` writes here."""
+        return self._shown(self._calls.conway_checkpoint)
+
+    def outlook(self):
+        """What `outlook` writes here. It uses the ledger up; take a copy by `resume` to go on."""
+        return self._shown(self._calls.conway_outlook)
+
     def text(self):
         """The text of the last answer."""
-        room = self._room
-        return self._text(self._calls.conway_text(self._handle, room, len(room)))
+        return self._shown(self._calls.conway_text)
 
     def close(self):
         """Frees what the ledger holds. It may be closed again."""
         self._calls.conway_close(self._handle)
+
+    def _shown(self, call):
+        room = self._room
+        return self._text(call(self._handle, room, len(room)))
 
     def _text(self, answer):
         self._done(answer)

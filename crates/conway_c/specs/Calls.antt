@@ -1,5 +1,8 @@
 -- What the calls of the C interface do to a handle, and what they answer. (Own)
 use Rattle.std.specs.Prelude.{◌≡◌, ◌≢◌, ℕ, ◌<◌, ◌≤◌, ◌++◌, List, [], Option, Some, None, Ok, Err, length, drop}
+use Rattle.embedded.specs.declared.fault.CheckpointFault.{CheckpointFault}
+use Rattle.embedded.specs.declared.fault.CheckpointFault.TheVariants as checkpoint_faults
+use Rattle.embedded.specs.Resumed.{Resumes}
 use Rattle.embedded.specs.Standing.{Opens, Records, Standing}
 use Rattle.embedded.specs.declared.ending.Ending.{Ending}
 use Rattle.embedded.specs.declared.ending.Ending.TheVariants as endings
@@ -65,3 +68,26 @@ fault_status faults.NoMemory = 6
 abbrev pub HandleOpens : ℕ → List ℕ → Option Standing → ℕ → Type 0
 HandleOpens n line (Some s) status = (status ≡ 0) × Opens n line (Ok s)
 HandleOpens n line None status = (fault : AnswerFault) × (status ≡ fault_status fault) × Opens n line (Err fault)
+
+-- what another call does to a handle, by what it does to the ledger; it frees none
+abbrev pub HandleDoes : (Standing → Standing → Ending → Type 0) → Option Standing → Option Standing → Ending → Type 0
+HandleDoes does None h' e = (e ≡ endings.Closed) × (h' ≡ None)
+HandleDoes does (Some s) None e = ⊥
+HandleDoes does (Some s) (Some s') e = does s s' e
+
+-- such a call was made: the handle before and after, the room, and the answer
+pub record HasDone (does : Standing → Standing → Ending → Type 0) (h h' : Option Standing) (room room' : List ℕ) (a : Answer) : Type 0 where
+  pub ending : Ending
+  pub status : a.status ≡ status_of ending
+  pub did : HandleDoes does h h' ending
+  pub tells : TellsBy ending h' room room' a
+
+-- the status where a text begins no ledger
+abbrev pub resume_status : CheckpointFault → ℕ
+resume_status checkpoint_faults.Bad = 8
+resume_status checkpoint_faults.NoMemory = 6
+
+-- the text of a checkpoint was resumed: the handle after it, and the status
+abbrev pub HandleResumes : List ℕ → Option Standing → ℕ → Type 0
+HandleResumes text (Some s) status = (status ≡ 0) × Resumes text (Ok s)
+HandleResumes text None status = (fault : CheckpointFault) × (status ≡ resume_status fault) × Resumes text (Err fault)

@@ -7,6 +7,8 @@ pub(crate) const DONE: u32 = 0;
 pub(crate) const BAD_GENESIS: u32 = 3;
 /// Memory ran out.
 pub(crate) const NO_MEMORY: u32 = 6;
+/// The text is the checkpoint of no ledger.
+pub(crate) const BAD_CHECKPOINT: u32 = 8;
 /// The handle is closed.
 pub(crate) const IS_CLOSED: u32 = 20;
 /// No number is left for a further line.

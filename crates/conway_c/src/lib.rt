@@ -3,34 +3,43 @@
 #![tactic(auto)]
 
 ghost use Rattle.std.specs.Prelude.{◌≡◌, ◌≢◌, None, length};
-ghost use Rattle.conway_c.specs.Calls.{HandleOpens, HasRecorded, Tells, TellsNone, text_now};
+ghost use Rattle.conway_c.specs.Calls.{HandleOpens, HandleResumes, HasDone, HasRecorded, Tells, TellsNone, text_now};
+ghost use Rattle.embedded.specs.Shown.{EndsInOutlook, ShowsCheckpoint};
+ghost use Rattle.embedded.specs.Verdicts.{Judges};
 
+mod alone;
 mod answer;
 mod handle;
 mod ledger;
 mod loose;
+mod replies;
 
 pub use answer::Answer;
 use answer::{DONE, IS_CLOSED};
 pub use handle::Conway;
-use ledger::{fault_status, opened, recorded};
+use hash_seed::HashSeed;
+use ledger::{fault_status, judged, opened, recorded, resume_status, resumed, shown, used_up};
 use std::alloc::Global;
 use std::mem;
 
 /// Opens the ledger of the genesis on the line of this number; what the handle held is closed.
 /// Status 0, 3 for a bad genesis, 6 for out of memory, 22 for a blank line. The text is that of the
-/// genesis in a run; `wanted` is its length in bytes, and `conway_text` copies it.
+/// genesis in a run; `wanted` is its length in bytes, and `conway_text` copies it. The seed is two
+/// numbers that whoever sends records cannot guess; no clause depends on them.
 #[unsafe(no_mangle)]
 pub extern "C" fn conway_open(
     alloc: Global,
     genesis: &[u8],
     number: u64,
+    seed_first: u64,
+    seed_second: u64,
     handle: &mut Conway,
 ) -> Answer
     ensures opens { HandleOpens number genesis.now handle.new.value result.status }
     ensures text { (result.wanted ≡ length (text_now handle.new.value)) × (result.written ≡ 0) }
 {
-    match opened(alloc, number, genesis) {
+    let seed = HashSeed::new(seed_first, seed_second);
+    match opened(alloc, seed, number, genesis) {
         Ok(book) => {
             let wanted = book.text().len();
             *handle = Conway::of(book);
@@ -43,6 +52,34 @@ pub extern "C" fn conway_open(
         Err(fault) => {
             *handle = Conway::closed(alloc);
             Answer::without_text(fault_status(fault))
+        }
+    }
+}
+
+/// Opens the ledger of the text of a checkpoint; what the handle held is closed. Its last line is
+/// the one behind which the checkpoint was made, and it has no text yet.
+/// Status 0, 6 for out of memory, 8 where the text is the checkpoint of no ledger. The seed is as
+/// for `conway_open`.
+#[unsafe(no_mangle)]
+pub extern "C" fn conway_resume(
+    alloc: Global,
+    text: &[u8],
+    seed_first: u64,
+    seed_second: u64,
+    handle: &mut Conway,
+) -> Answer
+    ensures resumes { HandleResumes text.now handle.new.value result.status }
+    ensures text { (result.wanted ≡ 0) × (result.written ≡ 0) }
+{
+    let seed = HashSeed::new(seed_first, seed_second);
+    match resumed(alloc, seed, text) {
+        Ok(book) => {
+            *handle = Conway::of(book);
+            Answer::without_text(DONE)
+        }
+        Err(fault) => {
+            *handle = Conway::closed(alloc);
+            Answer::without_text(resume_status(fault))
         }
     }
 }
@@ -66,6 +103,57 @@ pub extern "C" fn conway_record(
     if let Some(book) = after {
         *handle = Conway::of(book);
     }
+    answer
+}
+
+/// Judges the next line and records nothing. The text is the line of the reply that it would get.
+/// Status 0, 6 for out of memory, 20 for a closed handle, 21 where no number is left for the line;
+/// where it is not 0 nothing changed.
+#[unsafe(no_mangle)]
+pub extern "C" fn conway_judge(
+    alloc: Global,
+    handle: &mut Conway,
+    line: &[u8],
+    room: &mut [u8],
+) -> Answer
+    ensures { HasDone (λ s s' e. Judges s line.now s' e) handle.old.value handle.new.value room.old room.new result }
+{
+    let taken = mem::replace(handle, Conway::closed(alloc));
+    let Some(book) = taken.into_box() else {
+        return Answer::without_text(IS_CLOSED);
+    };
+    let (after, answer) = judged(book, line, room);
+    *handle = Conway::of(after);
+    answer
+}
+
+/// Makes the checkpoint of the ledger. The text is what `checkpoint` writes after so many lines.
+/// Status 0, 6 for out of memory, 20 for a closed handle; where it is not 0 nothing changed.
+#[unsafe(no_mangle)]
+pub extern "C" fn conway_checkpoint(alloc: Global, handle: &mut Conway, room: &mut [u8]) -> Answer
+    ensures { HasDone ShowsCheckpoint handle.old.value handle.new.value room.old room.new result }
+{
+    let taken = mem::replace(handle, Conway::closed(alloc));
+    let Some(book) = taken.into_box() else {
+        return Answer::without_text(IS_CLOSED);
+    };
+    let (after, answer) = shown(book, room);
+    *handle = Conway::of(after);
+    answer
+}
+
+/// Makes the outlook of the ledger, which it uses up: later calls answer 20, except `conway_text`.
+/// The text is what `outlook` writes. Status 0, 6 for out of memory, 20 for a closed handle.
+#[unsafe(no_mangle)]
+pub extern "C" fn conway_outlook(alloc: Global, handle: &mut Conway, room: &mut [u8]) -> Answer
+    ensures { HasDone EndsInOutlook handle.old.value handle.new.value room.old room.new result }
+{
+    let taken = mem::replace(handle, Conway::closed(alloc));
+    let Some(book) = taken.into_box() else {
+        return Answer::without_text(IS_CLOSED);
+    };
+    let (after, answer) = used_up(book, room);
+    *handle = Conway::of(after);
     answer
 }
 

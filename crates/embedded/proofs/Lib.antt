@@ -1,2 +1,5 @@
+mod Cut
+mod Appended
 mod Told
+mod Verdicts
 mod Written

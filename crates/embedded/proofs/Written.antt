@@ -1,5 +1,5 @@
 -- What is answered to a line is what the definitions say of a session.
-use Rattle.std.proofs.Common.{◌≡◌, ℕ, ◌+◌, List, Some, ap, ◌∙◌}
+use Rattle.std.proofs.Common.{◌≡◌, ℕ, ◌+◌, List, Option, Some, None, ap, ◌∙◌}
 use Rattle.replay_loop.proofs.Lines.{lines_are}
 use Rattle.replay_loop.specs.Answers.{IsJudged}
 use Rattle.replay_loop.specs.Outcomes.{outcome_text}
@@ -20,3 +20,13 @@ answered_is w v n r o text (v_is, o_is) is =
 -- the line that is recorded is the next one
 pub next_is : (w : World) (now n : ℕ) (line : List ℕ) (s : Standing) → s ≡ after_line w n line → n ≡ now + 1 → s ≡ after_line w (now + 1) line
 next_is w now n line s is next = is ∙ ap (λ (m : ℕ). after_line w m line) next
+
+-- the text alone is another, which the number of the last line determines
+pub text_is : (s : Standing) (w : Option World) (n : ℕ) (was text : Text) (wanted : ℕ → Text) → record { world = w; line = n; text = was } ≡ s → text ≡ wanted n
+    → record { world = w; line = n; text = text } ≡ record s { text = wanted s.line }
+text_is s w n was text wanted view is = λ i. record { world = (view i).world; line = (view i).line; text = (is ∙ ap (λ (x : Standing). wanted x.line) view) i }
+
+-- and it is closed
+pub closed_is : (s : Standing) (w after : Option World) (n : ℕ) (was text wanted : Text) → record { world = w; line = n; text = was } ≡ s → after ≡ None → text ≡ wanted
+    → ◌≡◌ {A = Standing} (record { world = after; line = n; text = text }) (record { world = None; line = s.line; text = wanted })
+closed_is s w after n was text wanted view none is = λ i. record { world = none i; line = (view i).line; text = is i }

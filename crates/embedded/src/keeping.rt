@@ -1,12 +1,13 @@
 //! What a line says, and the state and the text after it.
 ghost use Rattle.std.specs.Prelude.{◌≡◌, Err, IfOk, IfSome, Some, true};
 ghost use Rattle.embedded.specs.Standing.{Begun, after_line, after_reading, said_by, start_fault_of};
+ghost use Rattle.embedded.specs.Verdicts.{verdict_text};
 ghost use Rattle.record_stream.specs.Records.{is_within};
 ghost use Rattle.replay_loop.specs.Outcomes.{outcome_text};
 
-use crate::page::Page;
 use crate::state::SessionState;
-use byte_lines::{SinkFault, put_all};
+use byte_lines::{MemorySink, SinkFault, put_all};
+use hash_seed::HashSeed;
 use no_memory::NoMemory;
 use record_stream::of_record_read::Scratch;
 use record_stream::read_line;
@@ -37,29 +38,30 @@ fn text_of<R: RunState + Drop>(
     state: &R,
     outcome: Outcome,
     number: u64,
-) -> Result<Vec<u8>, SinkFault>
-    ensures { IfOk result (λ text. text.items ≡ outcome_text number (R.world state.now) outcome) }
+) -> Result<MemorySink, SinkFault>
+    ensures { IfOk result (λ text. text ≡ outcome_text number (R.world state.now) outcome) }
 {
-    let mut page = Page::new(alloc);
+    let mut page = MemorySink::new(alloc);
     let mut batch = Vec::new(alloc);
     let mut teller = TextTeller::new(alloc);
     teller.tell(state, outcome, number, &mut batch, &mut page)?;
     put_all(&mut page, &batch)?;
-    Ok(page.into_text())
+    Ok(page)
 }
 
 /// The state and the text after what was read of the line of this number.
 fn after_read<R: SessionState + Drop>(
     alloc: Global,
+    seed: HashSeed,
     before: R,
     number: u64,
     reading: &Reading,
-) -> Result<(R, Vec<u8>), NoMemory>
+) -> Result<(R, MemorySink), NoMemory>
     requires within { is_within reading.now ≡ true }
-    ensures { IfOk result (λ r. record { world = Some (R.world r.0); line = number; text = r.1.items } ≡
+    ensures { IfOk result (λ r. record { world = Some (R.world r.0); line = number; text = r.1 } ≡
         after_reading (R.world before) number (Some reading.now)) }
 {
-    let Ok((after, outcome)) = R::answer_alone(alloc, Some(before), reading) else {
+    let Ok((after, outcome)) = R::answer_alone(alloc, seed, Some(before), reading) else {
         return Err(NoMemory);
     };
     match text_of(alloc, &after, outcome, number) {
@@ -74,17 +76,18 @@ fn after_read<R: SessionState + Drop>(
 /// The state and the text after the line of this number.
 pub(crate) fn after<R: SessionState + Drop>(
     alloc: Global,
+    seed: HashSeed,
     scratch: &mut Scratch,
     before: R,
     number: u64,
     line: &[u8],
-) -> Result<(R, Vec<u8>), NoMemory>
-    ensures { IfOk result (λ r. record { world = Some (R.world r.0); line = number; text = r.1.items } ≡
+) -> Result<(R, MemorySink), NoMemory>
+    ensures { IfOk result (λ r. record { world = Some (R.world r.0); line = number; text = r.1 } ≡
         after_line (R.world before) number line.now) }
 {
     match read(alloc, scratch, line) {
-        Ok(Some(reading)) => after_read(alloc, before, number, &reading),
-        Ok(None) => Ok((before, Vec::new(alloc))),
+        Ok(Some(reading)) => after_read(alloc, seed, before, number, &reading),
+        Ok(None) => Ok((before, MemorySink::new(alloc))),
         Err(fault) => {
             drop(before);
             Err(fault)
@@ -92,20 +95,54 @@ pub(crate) fn after<R: SessionState + Drop>(
     }
 }
 
+/// The text of the verdict on what was read of the line of this number.
+fn judged_read<R: SessionState + Drop>(
+    alloc: Global,
+    state: &R,
+    number: u64,
+    reading: &Reading,
+) -> Result<MemorySink, NoMemory>
+    requires within { is_within reading.now ≡ true }
+    ensures { IfOk result (λ text. text ≡ verdict_text (R.world state.now) number (Some reading.now)) }
+{
+    let reply = state.reply_alone(alloc, reading)?;
+    match text_of(alloc, state, Outcome::Answered(reply), number) {
+        Ok(text) => Ok(text),
+        Err(_) => Err(NoMemory),
+    }
+}
+
+/// The text of the verdict on the line of this number.
+pub(crate) fn judged<R: SessionState + Drop>(
+    alloc: Global,
+    scratch: &mut Scratch,
+    state: &R,
+    number: u64,
+    line: &[u8],
+) -> Result<MemorySink, NoMemory>
+    ensures { IfOk result (λ text. text ≡ verdict_text (R.world state.now) number (said_by line.now)) }
+{
+    match read(alloc, scratch, line)? {
+        Some(reading) => judged_read(alloc, state, number, &reading),
+        None => Ok(MemorySink::new(alloc)),
+    }
+}
+
 /// The state and the text of the genesis on the line of this number, or why there is no state.
 pub(crate) fn begin<R: SessionState + Drop>(
     alloc: Global,
+    seed: HashSeed,
     scratch: &mut Scratch,
     number: u64,
     line: &[u8],
-) -> Result<(R, Vec<u8>), AnswerFault>
-    ensures begun { IfOk result (λ r. Begun number line.now (record { world = Some (R.world r.0); line = number; text = r.1.items })) }
+) -> Result<(R, MemorySink), AnswerFault>
+    ensures begun { IfOk result (λ r. Begun number line.now (record { world = Some (R.world r.0); line = number; text = r.1 })) }
     ensures bad { (cause : GenesisCause) → result ≡ Err (AnswerFault.BadGenesis cause) → start_fault_of (said_by line.now) ≡ Some cause }
 {
     let Some(reading) = read(alloc, scratch, line)? else {
         return Err(AnswerFault::BadGenesis(GenesisCause::Missing));
     };
-    let (state, outcome) = R::answer_alone(alloc, None, &reading)?;
+    let (state, outcome) = R::answer_alone(alloc, seed, None, &reading)?;
     match text_of(alloc, &state, outcome, number) {
         Ok(text) => Ok((state, text)),
         Err(_) => {

@@ -3,14 +3,15 @@
 
 mod ending;
 mod every_session;
-mod held;
+mod fault;
+mod gathered;
 mod keeping;
-mod page;
+mod resumed;
 mod session;
 mod state;
 
 pub use ending::Ending;
 pub use every_session::laws;
-pub use held_ledger::Held;
+pub use fault::CheckpointFault;
 pub use session::Session;
 pub use state::SessionState;
