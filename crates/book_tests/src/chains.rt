@@ -2,6 +2,7 @@
 use crate::proposals::{add, fork_after, id};
 use coin_frac::NoMemory;
 use gov_actions::{Action, LastIds};
+use hash_seed::HashSeed;
 use lineage::{kept_after, may_follow};
 use proposal_store::ProposalStore;
 use std::alloc::Global;
@@ -27,7 +28,7 @@ fn dismissal(previous: Option<u8>) -> Action {
 /// Hard forks 2, 3, 4 in a chain after 1, and 8 before the 7 that it follows.
 /// 5 is of another purpose, and 6 of none.
 fn forks_and_others(rt: &impl Abort, alloc: Global) -> Result<ProposalStore, Fail> {
-    let mut store = ProposalStore::new(alloc);
+    let mut store = ProposalStore::new(alloc, HashSeed::new(1, 2));
     for (byte, previous) in [(2, 1), (3, 2), (4, 3), (8, 7), (7, 1)] {
         add(rt, &mut store, alloc, byte, fork_after(previous))?;
     }

@@ -2,6 +2,7 @@
 use assets::Assets;
 use coin_frac::NoMemory;
 use gov_ids::{Address, AssetId, AssetName, CredKind, Credential, OutRef, TxId};
+use hash_seed::HashSeed;
 use std::alloc::Global;
 use std::process::Abort;
 use std::test::Fail;
@@ -48,7 +49,7 @@ fn put(rt: &impl Abort, book: &mut UtxoSet, r: OutRef, assets: Assets) -> Result
 
 /// An output with 5 of asset 1 and 7 of asset 2, one with the most of asset 1, and one with none.
 fn three_outputs(rt: &impl Abort, alloc: Global) -> Result<UtxoSet, NoMemory> {
-    let mut book = UtxoSet::new(alloc);
+    let mut book = UtxoSet::new(alloc, HashSeed::new(1, 2));
     let two = Assets::from_entries(alloc, &[(asset(2), 7), (asset(1), 5)])?;
     let most = Assets::from_entries(alloc, &[(asset(1), u64::MAX)])?;
     put(rt, &mut book, at(1), two)?;
@@ -82,5 +83,34 @@ fn keeps_the_totals_of_assets(rt: HostRuntime) -> Result<(), Fail> {
     book.take(&at(2));
     assert!(rt; has_totals(&book, [0, 0, 0]));
     assert!(rt; book.next_asset(None).is_none());
+    Ok(())
+}
+
+/// The id whose bytes are all this one.
+fn id(byte: u8) -> TxId {
+    TxId([byte; 32])
+}
+
+/// The used ids are in order, whatever the seed, and the next one is the least past one.
+#[test]
+fn lists_the_used_ids_in_order(rt: HostRuntime) -> Result<(), Fail> {
+    let wanted = [id(1), id(3), id(5), id(7)];
+    for first in [0u64, 1, 99] {
+        let mut book = UtxoSet::new(rt.alloc(), HashSeed::new(first, 2));
+        for byte in [5u8, 1, 9, 3, 5, 7] {
+            book.mark_used(id(byte))?;
+        }
+        book.unmark(&id(9));
+        let ids = book.used_ids()?;
+        assert_eq!(rt; ids.len(), wanted.len(), "{first}");
+        for i in 0..wanted.len() {
+            assert!(rt;
+                ids.get(i).copied().copied() == wanted.get(i).copied(),
+                "{first}, {i}"
+            );
+        }
+        assert!(rt; book.next_used(Some(&id(3))) == Some(id(5)), "{first}");
+        assert!(rt; book.next_used(Some(&id(7))).is_none(), "{first}");
+    }
     Ok(())
 }

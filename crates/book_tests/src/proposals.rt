@@ -5,6 +5,7 @@ use coin_frac::Unit;
 use credential_list::CredentialList;
 use gov_actions::{Action, Proposal, Purpose, Vote};
 use gov_ids::{Account, ActionId, CredKind, Credential, TxId, Voter};
+use hash_seed::HashSeed;
 use listed::Listed;
 use proposal_store::ProposalStore;
 use std::alloc::Global;
@@ -67,7 +68,7 @@ pub fn add(
 
 /// Three proposals, and votes on two of them and on none.
 fn voted_on(rt: &impl Abort, alloc: Global) -> Result<ProposalStore, Fail> {
-    let mut store = ProposalStore::new(alloc);
+    let mut store = ProposalStore::new(alloc, HashSeed::new(1, 2));
     for byte in [2, 1, 3] {
         add(rt, &mut store, alloc, byte, fork_after(2))?;
     }

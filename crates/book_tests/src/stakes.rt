@@ -3,6 +3,7 @@ use assets::Assets;
 use book_records::{Output, Registered};
 use coin_frac::NoMemory;
 use gov_ids::{Address, CredKind, Credential, Drep, OutRef, PoolId, TxId};
+use hash_seed::HashSeed;
 use stake_book::StakeBook;
 use std::alloc::Global;
 use std::process::Abort;
@@ -75,7 +76,7 @@ fn set(
 /// Two accounts that delegate to pool 5 and DRep 31, and one that delegates to pool 6 and DRep 32.
 /// 7 lovelace belong to no account.
 fn three_accounts(rt: &impl Abort, alloc: Global) -> Result<StakeBook, NoMemory> {
-    let mut book = StakeBook::new(alloc);
+    let mut book = StakeBook::new(alloc, HashSeed::new(1, 2));
     set(rt, &mut book, key(1), delegating(3, pool(5), key(31)))?;
     set(rt, &mut book, key(2), delegating(4, pool(5), key(31)))?;
     set(rt, &mut book, key(3), delegating(5, pool(6), key(32)))?;

@@ -6,6 +6,7 @@ ghost use Rattle.tx_records.specs.TxLimits as tx_limits;
 use crate::lines::{Line, bytes_of};
 use epoch_rule::cross;
 use gov_ids::{CredKind, Credential};
+use hash_seed::HashSeed;
 use ledger_state::LedgerState;
 use live_ledger::{Draft, GenesisFault};
 use no_memory::NoMemory;
@@ -82,7 +83,7 @@ pub trait Changed: Sized {
 
 impl Changed for LedgerState {
     fn begin(alloc: Global, genesis: &Genesis) -> Result<LedgerState, Stop> {
-        match LedgerState::from_genesis(alloc, genesis, WORKERS) {
+        match LedgerState::from_genesis(alloc, HashSeed::new(1, 2), genesis, WORKERS) {
             Ok(s) => Ok(s),
             Err(GenesisFault::Broken(_)) => Err(Stop::NotTaken),
             Err(GenesisFault::NoMemory) => Err(Stop::NoMemory),

@@ -4,6 +4,7 @@ ghost use Rattle.line_giver.specs.OfList.{texts_of};
 ghost use Rattle.checkpoint.specs.Only.{IsOfNoOther};
 
 use crate::fault::CheckpointFault;
+use hash_seed::HashSeed;
 use ledger_state::LedgerState;
 use line_giver::ListedLines;
 use resumed_ledger::ledger_of_lists;
@@ -15,6 +16,7 @@ use std::alloc::Global;
 /// its line feed. `Bad`: they are the checkpoint of no ledger and line.
 pub fn read(
     alloc: Global,
+    seed: HashSeed,
     lines: &[Vec<u8>],
     workers: u32,
 ) -> Result<(LedgerState, u64), CheckpointFault>
@@ -37,6 +39,6 @@ pub fn read(
     if !giver.lines.is_empty() {
         return Err(CheckpointFault::Bad);
     }
-    let ledger = ledger_of_lists(alloc, lists, workers)?;
+    let ledger = ledger_of_lists(alloc, seed, lists, workers)?;
     Ok((ledger, line))
 }

@@ -13,29 +13,29 @@ use report::LineTaker;
 use state_view::of_ledger_state::LedgerState;
 use utxo_set::UtxoSet;
 
-/// The used ids after one, or all of them.
+/// The used ids, in order, from an index on.
 #[derive(Drop)]
 struct UsedIds<'a> {
-    outputs: &'a UtxoSet,
-    last: Option<TxId>,
+    ids: Vec<&'a TxId>,
+    index: usize,
 }
 
 impl<'a> LineSource for UsedIds<'a> {
-    ghost use Rattle.std.specs.Prelude.{map};
+    ghost use Rattle.std.specs.Prelude.{drop, map};
+    ghost use Rattle.std.specs.Map.Iter.{deref};
     ghost use Rattle.checkpoint_model.specs.Checkpoint.{used_words};
-    ghost use Rattle.checkpoint_print.specs.Sources.{keys_past};
-    ghost use Rattle.gov_ids.specs.Orders.{txid_cmp};
 
     type Line = CheckpointLine<'a>;
 
-    ghost left = { λ s. map used_words (keys_past txid_cmp s.last s.outputs.now.used) };
+    ghost left = { λ s. map used_words (map deref (drop s.index s.ids.items)) };
 
     fn next_line(&mut self) -> Option<CheckpointLine<'a>> {
-        // each id occurs once, in order
-        let _total = self.outputs.total();
-        let id = self.outputs.next_used(self.last.as_ref())?;
-        self.last = Some(id);
-        Some(CheckpointLine::Used(id))
+        if self.index >= self.ids.len() {
+            return None;
+        }
+        let id = self.ids[self.index];
+        self.index += 1;
+        Some(CheckpointLine::Used(*id))
     }
 }
 
@@ -64,7 +64,7 @@ impl<'a> LineSource for LiveActions<'a> {
     }
 }
 
-/// Hands over the used ids.
+/// Hands over the used ids, in order. `NoMemory` comes before the first.
 fn put_used<T: LineTaker>(
     to: &mut T,
     text: &mut Vec<u8>,
@@ -73,11 +73,8 @@ fn put_used<T: LineTaker>(
     ensures { HasPut T.with_line T.IsPart 0 (T.taken to.old) (map used_words outputs.now.used) (T.taken to.new)
         (T.faults to.old) (T.faults to.new) result }
 {
-    let ids = UsedIds {
-        outputs,
-        last: None,
-    };
-    put_left(to, text, ids)
+    let ids = outputs.used_ids()?;
+    put_left(to, text, UsedIds { ids, index: 0 })
 }
 
 /// Hands over the actions of the live proposals, in order of submission.

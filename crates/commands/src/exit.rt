@@ -7,24 +7,22 @@ ghost use Rattle.command_runs.specs.of_replay_loop.declared.status.Status.{Statu
 use crate::command::after_name;
 use crate::dispatch::run;
 use byte_lines::{Sink, Source};
+use following::of_held_ledger::Crew;
 use par_count::Gate;
-use std::alloc::Global;
 use std::process::ExitCode;
 use std::thread::Threads;
 
 /// Runs the command of the words after the program's name, and exits with its status's number.
 pub fn run_to_exit<R: Threads + Sync, S: Source, K: Sink, G: Gate + Sync>(
-    alloc: Global,
-    rt: &R,
+    crew: &Crew<R, G>,
     args: &[String],
     source: &mut S,
     sink: &mut K,
-    gate: &G,
 ) -> ExitCode
     ensures runs { (status : Status) × (exit_status result ≡ status_number status)
         × RunsAs (record { left = S.left; failed_reads = S.faults; taken = K.taken; failed_writes = K.faults })
         (source.old, sink.old) (source.new, sink.new) status (drop 1 args.now) }
 {
-    let status = run(alloc, rt, after_name(args), source, sink, gate);
+    let status = run(crew, after_name(args), source, sink);
     ExitCode::from(status.number())
 }

@@ -6,7 +6,8 @@ ghost use Rattle.record_stream.specs.Records.{records_of};
 ghost use Rattle.replay_loop.specs.Runs.{start_fault, text_of_run};
 
 use byte_lines::{MemorySink, MemorySource, Sink, Source, whole_lines};
-use commands::{Status, run};
+use commands::{Crew, Status, run};
+use hash_seed::HashSeed;
 use no_memory::NoMemory;
 use par_count::{Gate, OpenGate};
 use std::alloc::Global;
@@ -31,7 +32,14 @@ pub fn ran_through<R: Threads + Sync, S: Source, K: Sink, G: Gate + Sync>(
     gate: &G,
 ) -> Result<Status, NoMemory> {
     let words = words_of(alloc, text)?;
-    Ok(run(alloc, rt, words.as_slice(), source, sink, gate))
+    let seed = HashSeed::new(1, 2);
+    let crew = Crew {
+        alloc,
+        rt,
+        gate,
+        seed,
+    };
+    Ok(run(&crew, words.as_slice(), source, sink))
 }
 
 /// How a run ends, whose words are those of a text.
@@ -77,13 +85,12 @@ pub fn replayed_in_memory<R: Threads + Sync>(
     let words = replay_words(alloc)?;
     let mut source = MemorySource::new(bytes, part);
     let mut sink = MemorySink::new(alloc);
-    let status = run(
+    let crew = Crew {
         alloc,
         rt,
-        words.as_slice(),
-        &mut source,
-        &mut sink,
-        &OpenGate,
-    );
+        gate: &OpenGate,
+        seed: HashSeed::new(1, 2),
+    };
+    let status = run(&crew, words.as_slice(), &mut source, &mut sink);
     Ok((status, sink))
 }

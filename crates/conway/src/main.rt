@@ -2,7 +2,8 @@
 #![tactic(auto)]
 
 use byte_lines::{ReaderSource, WriterSink};
-use commands::run_to_exit;
+use commands::{Crew, run_to_exit};
+use hash_seed::HashSeed;
 use par_count::OpenGate;
 use std::env;
 use std::process::ExitCode;
@@ -17,14 +18,16 @@ fn main(rt: HostRuntime) -> ExitCode {
     let Some(args) = args_of(&rt) else {
         return ExitCode::from(1);
     };
+    let Ok(seed) = HashSeed::random(&rt) else {
+        return ExitCode::from(1);
+    };
+    let crew = Crew {
+        alloc: rt.alloc(),
+        rt: &rt,
+        gate: &OpenGate,
+        seed,
+    };
     let mut source = ReaderSource::new(rt.stdin());
     let mut sink = WriterSink::new(rt.stdout());
-    run_to_exit(
-        rt.alloc(),
-        &rt,
-        args.as_slice(),
-        &mut source,
-        &mut sink,
-        &OpenGate,
-    )
+    run_to_exit(&crew, args.as_slice(), &mut source, &mut sink)
 }

@@ -7,6 +7,7 @@ use cert_pool::PoolBook;
 use freeze::{copied_proposals, deposits_by_account, deposits_by_pool, frozen_pools};
 use gov_actions::{Action, Proposal};
 use gov_ids::{Account, ActionId, CredKind, Credential, PoolId, TxId};
+use hash_seed::HashSeed;
 use listed::Listed;
 use no_memory::NoMemory;
 use proposal_store::ProposalStore;
@@ -76,7 +77,7 @@ fn registered(pool: Option<PoolId>) -> Entry {
 
 /// The three proposals.
 fn three(rt: &impl Abort, alloc: Global) -> Result<ProposalStore, Fail> {
-    let mut store = ProposalStore::new(alloc);
+    let mut store = ProposalStore::new(alloc, HashSeed::new(1, 2));
     for proposal in [(1, 10, 7), (2, 5, 8), (3, 7, 7)] {
         add(rt, alloc, &mut store, proposal)?;
     }

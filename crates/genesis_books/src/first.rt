@@ -11,12 +11,17 @@ use cert_pool::{PoolBook, registered};
 use coin_frac::NoMemory;
 use committee_book::HotBook;
 use drep_book::DrepBook;
+use hash_seed::HashSeed;
 use stake_book::StakeBook;
 use std::alloc::Global;
 use tx_records::Genesis;
 
 /// The book of a genesis' accounts and outputs, with frozen entries, and that of its pools.
-pub fn first_holdings(alloc: Global, genesis: &Genesis) -> Result<(StakeBook, PoolBook), NoMemory>
+pub fn first_holdings(
+    alloc: Global,
+    seed: HashSeed,
+    genesis: &Genesis,
+) -> Result<(StakeBook, PoolBook), NoMemory>
     requires unbroken { genesis_fault genesis.now ≡ None }
     ensures outputs { IfOk result (λ first. first.0.outputs.outputs ≡ (ledger_of_genesis genesis.now).outputs) }
     ensures used { IfOk result (λ first. first.0.outputs.used ≡ (ledger_of_genesis genesis.now).used) }
@@ -25,7 +30,7 @@ pub fn first_holdings(alloc: Global, genesis: &Genesis) -> Result<(StakeBook, Po
         entries_of (ledger_of_genesis genesis.now)) }
     ensures pools { IfOk result (λ first. first.1 ≡ (ledger_of_genesis genesis.now).pools) }
 {
-    let stake = first_stake(alloc, genesis)?;
+    let stake = first_stake(alloc, seed, genesis)?;
     let pools = first_pools(alloc, genesis)?;
     Ok((stake, pools))
 }
@@ -42,7 +47,7 @@ pub fn first_keys(alloc: Global, genesis: &Genesis) -> Result<(DrepBook, HotBook
 }
 
 /// The book of the accounts and outputs of a genesis, with frozen entries.
-fn first_stake(alloc: Global, genesis: &Genesis) -> Result<StakeBook, NoMemory>
+fn first_stake(alloc: Global, seed: HashSeed, genesis: &Genesis) -> Result<StakeBook, NoMemory>
     requires unbroken { genesis_fault genesis.now ≡ None }
     ensures outputs { IfOk result (λ stake. stake.outputs.outputs ≡ (ledger_of_genesis genesis.now).outputs) }
     ensures used { IfOk result (λ stake. stake.outputs.used ≡ (ledger_of_genesis genesis.now).used) }
@@ -50,19 +55,19 @@ fn first_stake(alloc: Global, genesis: &Genesis) -> Result<StakeBook, NoMemory>
     ensures frozen { IfOk result (λ stake. frozen_of credential_cmp stake.accounts ≡
         entries_of (ledger_of_genesis genesis.now)) }
 {
-    let stake = first_accounts(alloc, genesis)?;
+    let stake = first_accounts(alloc, seed, genesis)?;
     let mut stake = with_first_outputs(alloc, stake, genesis)?;
     stake.freeze();
     Ok(stake)
 }
 
 /// The book of the accounts of a genesis, with no output.
-fn first_accounts(alloc: Global, genesis: &Genesis) -> Result<StakeBook, NoMemory>
+fn first_accounts(alloc: Global, seed: HashSeed, genesis: &Genesis) -> Result<StakeBook, NoMemory>
     requires unbroken { genesis_fault genesis.now ≡ None }
     ensures outputs { IfOk result (λ stake. stake.outputs ≡ record { outputs = []; used = [] }) }
     ensures accounts { IfOk result (λ stake. accounts_of stake ≡ (ledger_of_genesis genesis.now).accounts) }
 {
-    let mut stake = StakeBook::new(alloc);
+    let mut stake = StakeBook::new(alloc, seed);
     for (credential, deposit, rewards, pool, drep) in genesis.accounts.as_slice() {
         let registered = Registered {
             deposit: *deposit,

@@ -14,6 +14,7 @@ ghost use Rattle.tx_records.specs.Rules.{plain_rule};
 
 use crate::crew::Crew;
 use crate::held::Held;
+use hash_seed::HashSeed;
 use listed::Boxed;
 use no_memory::NoMemory;
 use record_rule::of_par_count::Gate;
@@ -51,27 +52,42 @@ fn begun(alloc: Global, ledger: LedgerState) -> Judged
 }
 
 /// The ledger of a genesis that breaks no rule, its first epoch counted by workers, and its pots.
-fn begin(alloc: Global, genesis: &Genesis, workers: u32) -> Answered<Boxed<LedgerState>>
+fn begin(
+    alloc: Global,
+    seed: HashSeed,
+    genesis: &Genesis,
+    workers: u32,
+) -> Answered<Boxed<LedgerState>>
     requires within { genesis_limits.is_within_limits genesis.now ≡ true }
     requires some { 1 ≤ workers }
     requires few { workers ≤ 64 }
     ensures { Begins genesis.now result }
 {
-    match LedgerState::from_genesis(alloc, genesis, workers) {
+    match LedgerState::from_genesis(alloc, seed, genesis, workers) {
         Ok(ledger) => Ok(begun(alloc, ledger)?),
         Err(fault) => Err(fault_of(fault)),
     }
 }
 
 /// The ledger and the pots of what was read first, or why there is no ledger to begin with.
-fn begin_with(alloc: Global, reading: &Reading, workers: u32) -> Answered<Boxed<LedgerState>>
+fn begin_with(
+    alloc: Global,
+    seed: HashSeed,
+    reading: &Reading,
+    workers: u32,
+) -> Answered<Boxed<LedgerState>>
     requires within { is_within reading.now ≡ true }
     requires some { 1 ≤ workers }
     requires few { workers ≤ 64 }
     ensures { BeginsWith reading.now result }
 {
     let cause = match reading {
-        Reading::Read(Record::Genesis(genesis)) => return begin(alloc, genesis.get(), workers),
+        Reading::Read(Record::Genesis(genesis)) => return begin(
+            alloc,
+            seed,
+            genesis.get(),
+            workers,
+        ),
         Reading::Read(
             Record::Block { .. } | Record::Rewards(_) | Record::Tx(_) | Record::Print(_),
         ) => GenesisCause::NoGenesis,
@@ -204,6 +220,7 @@ fn judge_reading<F: Fn(LedgerState, &Record) -> Result<Applied, NoMemory>>(
 /// The ledger after what was read, and its outcome. `apply` applies records.
 fn answer_by<F: Fn(LedgerState, &Record) -> Result<Applied, NoMemory>>(
     alloc: Global,
+    seed: HashSeed,
     apply: &F,
     workers: u32,
     before: Option<Held>,
@@ -217,7 +234,7 @@ fn answer_by<F: Fn(LedgerState, &Record) -> Result<Applied, NoMemory>>(
 {
     let (ledger, outcome) = match before {
         Some(held) => judge_reading(alloc, apply, held.ledger, reading)?,
-        None => begin_with(alloc, reading, workers)?,
+        None => begin_with(alloc, seed, reading, workers)?,
     };
     Ok((Held { ledger }, outcome))
 }
@@ -241,11 +258,16 @@ pub fn answer<T: Threads + Sync, G: Gate + Sync>(
         ensures stepped { IfOk result (λ a. (a.ledger, a.reply) ≡ step ledger found.now) }
         ensures report { IfOk result (λ a. a.report ≡ report_of_record ledger found.now) }
     { apply_record(crew.alloc, crew.rt, ledger, found, workers, crew.gate) };
-    answer_by(crew.alloc, &applies, workers, before, reading)
+    answer_by(crew.alloc, crew.seed, &applies, workers, before, reading)
 }
 
 /// The ledger after what was read, and its outcome, as `answer` gives them, in this thread.
-pub fn answer_alone(alloc: Global, before: Option<Held>, reading: &Reading) -> Answered<Held>
+pub fn answer_alone(
+    alloc: Global,
+    seed: HashSeed,
+    before: Option<Held>,
+    reading: &Reading,
+) -> Answered<Held>
     requires within { is_within reading.now ≡ true }
     ensures { AnswersAs (λ held. held.ledger) (option_map (λ held. held.ledger) before) reading.now result }
 {
@@ -254,5 +276,5 @@ pub fn answer_alone(alloc: Global, before: Option<Held>, reading: &Reading) -> A
         ensures stepped { IfOk result (λ a. (a.ledger, a.reply) ≡ step ledger found.now) }
         ensures report { IfOk result (λ a. a.report ≡ report_of_record ledger found.now) }
     { apply_record_alone(alloc, ledger, found) };
-    answer_by(alloc, &applies, 1, before, reading)
+    answer_by(alloc, seed, &applies, 1, before, reading)
 }

@@ -3,6 +3,7 @@ use assets::Assets;
 use coin_frac::{FracFault, NoMemory, Ratio, Unit};
 use gov_actions::HotState;
 use gov_ids::{Address, AssetId, AssetName, CredKind, Credential, OutRef, TxId};
+use hash_seed::HashSeed;
 use listed::Listed;
 use live_ledger::{GenesisFault, LiveLedger};
 use pparams::Params;
@@ -150,7 +151,7 @@ fn started(alloc: Global, genesis: &Genesis) -> Option<Result<LiveLedger, Genesi
     if !genesis.is_within_limits() {
         return None;
     }
-    Some(LiveLedger::from_genesis(alloc, genesis))
+    Some(LiveLedger::from_genesis(alloc, HashSeed::new(1, 2), genesis))
 }
 
 /// Why a genesis gives no ledger.

@@ -24,6 +24,7 @@ use crate::live::LiveProposal;
 use crate::voted::VotedOn;
 use gov_actions::{Proposal, Purpose, Vote};
 use gov_ids::{ActionId, Credential, Voter};
+use hash_seed::HashSeed;
 use indexmap::IndexMap;
 use maps::set_of;
 use no_memory::NoMemory;
@@ -36,7 +37,7 @@ use std::mem;
 /// (GovState of the formal specification)
 pub struct ProposalStore {
     alloc: Global,
-    proposals: IndexMap<ActionId, LiveProposal>,
+    proposals: IndexMap<ActionId, LiveProposal, HashSeed>,
     families: Families,
     voted: VotedOn,
     added: AddedKeys,
@@ -73,13 +74,14 @@ impl Model for ProposalStore {
 }
 
 impl ProposalStore {
-    /// A store without proposals. (GovState of the formal specification)
-    pub fn new(alloc: Global) -> ProposalStore
+    /// A store without proposals; the seed is of the table of their ids.
+    /// (GovState of the formal specification)
+    pub fn new(alloc: Global, seed: HashSeed) -> ProposalStore
         ensures { result ≡ [] }
     {
         ProposalStore {
             alloc,
-            proposals: IndexMap::new(alloc),
+            proposals: IndexMap::with_hasher(alloc, seed),
             families: Families::new(alloc),
             voted: VotedOn::new(alloc),
             added: AddedKeys::new(alloc),
@@ -153,8 +155,9 @@ impl ProposalStore {
         ensures removed { IfOk result (λ r. r.items ≡ others_than keep.now self.old) }
     {
         let alloc = self.alloc;
+        let seed = *self.proposals.hasher();
         let keep = set_of(alloc, keep)?;
-        let old = mem::replace(self, ProposalStore::new(alloc));
+        let old = mem::replace(self, ProposalStore::new(alloc, seed));
         self.refill(old.into_proposals(), &keep)
     }
 
@@ -182,7 +185,7 @@ impl ProposalStore {
     }
 
     // The proposals, each at its id.
-    fn into_proposals(self) -> IndexMap<ActionId, LiveProposal>
+    fn into_proposals(self) -> IndexMap<ActionId, LiveProposal, HashSeed>
         ensures proposals { values_of result.entries ≡ self }
         ensures distinct { IsDistinct same_action (ids_of self) }
         ensures fit { deposits_of self < 2 ^ 64 }
@@ -271,7 +274,7 @@ impl ProposalStore {
     // Adds the proposals to keep to an empty store, and returns the others.
     fn refill(
         &mut self,
-        proposals: IndexMap<ActionId, LiveProposal>,
+        proposals: IndexMap<ActionId, LiveProposal, HashSeed>,
         keep: &BTreeSet<ActionId>,
     ) -> Result<Vec<LiveProposal>, NoMemory>
         requires empty { self.old ≡ [] }
@@ -329,7 +332,11 @@ fn note_beside(
 }
 
 // Removes the vote of a voter from the proposals of these ids.
-fn drop_from(proposals: &mut IndexMap<ActionId, LiveProposal>, ids: &[ActionId], v: &Voter)
+fn drop_from(
+    proposals: &mut IndexMap<ActionId, LiveProposal, HashSeed>,
+    ids: &[ActionId],
+    v: &Voter,
+)
     requires keyed { AllKeyed proposals.old.entries }
     requires distinct { IsDistinct same_action (ids_of (values_of proposals.old.entries)) }
     requires ordered { AllOrdered (values_of proposals.old.entries) }
@@ -341,7 +348,7 @@ fn drop_from(proposals: &mut IndexMap<ActionId, LiveProposal>, ids: &[ActionId],
 }
 
 // Removes the vote of a voter from the proposal of an id, if there are both.
-fn drop_at(proposals: &mut IndexMap<ActionId, LiveProposal>, id: &ActionId, v: &Voter)
+fn drop_at(proposals: &mut IndexMap<ActionId, LiveProposal, HashSeed>, id: &ActionId, v: &Voter)
     requires keyed { AllKeyed proposals.old.entries }
     requires distinct { IsDistinct same_action (ids_of (values_of proposals.old.entries)) }
     ensures { proposals.new.entries ≡ each (changing id.now (without_vote v.now)) proposals.old.entries }

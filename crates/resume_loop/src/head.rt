@@ -8,11 +8,13 @@ ghost use Rattle.resume_loop.specs.Reading.{ReadsHead, ReadsText, fresh_reader};
 use crate::state::ResumedState;
 use byte_lines::{LineFault, Lines, Source};
 use ended_source::{EndedLines, Place, fault_of, pass_all};
+use hash_seed::HashSeed;
 use std::alloc::Global;
 
 // Reads a checkpoint, and passes what is left up to the first `end` if the lines are none.
 fn read_text<R: ResumedState + Drop, S: Source>(
     alloc: Global,
+    seed: HashSeed,
     workers: u32,
     ended: &mut EndedLines<'_, '_, S>,
 ) -> Result<Option<(R, u64)>, LineFault>
@@ -41,7 +43,7 @@ fn read_text<R: ResumedState + Drop, S: Source>(
       failed = S.faults ended.new.source.now;
     }) result }
 {
-    match R::read_checkpoint(alloc, workers, ended) {
+    match R::read_checkpoint(alloc, seed, workers, ended) {
         Ok(Some(read)) => Ok(Some(read)),
         Ok(None) => {
             pass_all(ended)?;
@@ -55,6 +57,7 @@ fn read_text<R: ResumedState + Drop, S: Source>(
 // the source is asked for nothing more.
 pub(crate) fn read_head<R: ResumedState + Drop, S: Source>(
     alloc: Global,
+    seed: HashSeed,
     workers: u32,
     lines: &mut Lines,
     source: &mut S,
@@ -72,5 +75,5 @@ pub(crate) fn read_head<R: ResumedState + Drop, S: Source>(
         source,
         place: Place::Open,
     };
-    read_text(alloc, workers, &mut ended)
+    read_text(alloc, seed, workers, &mut ended)
 }

@@ -8,6 +8,7 @@ use crate::head::read_head;
 use crate::renumbered::Renumbered;
 use crate::state::ResumedState;
 use byte_lines::{Lines, Sink, Source, whole_lines};
+use hash_seed::HashSeed;
 use line_runs::{RunFault, run_lines};
 use record_read::Scratch;
 use replay_loop::{Answered, Records, TextTeller};
@@ -25,6 +26,7 @@ pub fn resume<
     F: Fn(u32, Option<R>, Reading) -> Answered<R>,
 >(
     alloc: Global,
+    seed: HashSeed,
     answer: &F,
     workers: u32,
     source: &mut S,
@@ -41,7 +43,7 @@ pub fn resume<
     // (laws: how bytes are cut into lines)
     whole_lines();
     let mut lines = Lines::new(alloc, LINE_LIMIT, STREAM_LIMIT);
-    let Some((state, line)) = read_head::<R, S>(alloc, workers, &mut lines, source)? else {
+    let Some((state, line)) = read_head::<R, S>(alloc, seed, workers, &mut lines, source)? else {
         return Err(RunFault::Stop(NoCheckpoint));
     };
     let mut command = Renumbered {

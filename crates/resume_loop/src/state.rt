@@ -1,4 +1,5 @@
 use byte_lines::LineFault;
+use hash_seed::HashSeed;
 use line_giver::LineGiver;
 use replay_loop::RunState;
 use std::alloc::Global;
@@ -13,9 +14,10 @@ pub trait ResumedState: RunState {
     /// Passes the lines up to and with the first `end`, or all lines. If they are a checkpoint,
     /// returns its state and the number of the line after which it was made. An error is that of
     /// the giver, or `NoMemory`; some lines may be passed before it. No clause depends on the
-    /// number of workers.
+    /// seed of the hash tables or the number of workers.
     fn read_checkpoint<G: LineGiver>(
         alloc: Global,
+        seed: HashSeed,
         workers: u32,
         giver: &mut G,
     ) -> Result<Option<(Self, u64)>, LineFault>

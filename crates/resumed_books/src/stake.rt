@@ -11,6 +11,7 @@ use crate::frozen::with_frozen;
 use book_records::{Entry, Output, Registered};
 use coin_frac::NoMemory;
 use gov_ids::{Credential, OutRef, TxId};
+use hash_seed::HashSeed;
 use listed::Listed;
 use stake_book::StakeBook;
 use std::alloc::Global;
@@ -20,6 +21,7 @@ use std::alloc::Global;
 /// at any time.
 pub fn stake_of(
     alloc: Global,
+    seed: HashSeed,
     accounts: Listed<(Credential, Registered)>,
     outputs: Listed<(OutRef, Output)>,
     used: Listed<TxId>,
@@ -34,7 +36,7 @@ pub fn stake_of(
     ensures accounts { IfOk result (λ stake. accounts_of stake ≡ accounts) }
     ensures frozen { IfOk result (λ stake. frozen_of credential_cmp stake.accounts ≡ entries) }
 {
-    let stake = of_accounts(alloc, accounts)?;
+    let stake = of_accounts(alloc, seed, accounts)?;
     let stake = with_outputs(stake, outputs)?;
     let stake = with_used(stake, used)?;
     with_frozen(alloc, stake, entries)
@@ -43,6 +45,7 @@ pub fn stake_of(
 /// The book of these accounts, with no output and no used id.
 fn of_accounts(
     alloc: Global,
+    seed: HashSeed,
     accounts: Listed<(Credential, Registered)>,
 ) -> Result<StakeBook, NoMemory>
     requires in_order { IsMap credential_cmp accounts }
@@ -50,7 +53,7 @@ fn of_accounts(
     ensures outputs { IfOk result (λ stake. stake.outputs ≡ record { outputs = []; used = [] }) }
     ensures accounts { IfOk result (λ stake. accounts_of stake ≡ accounts) }
 {
-    let mut stake = StakeBook::new(alloc);
+    let mut stake = StakeBook::new(alloc, seed);
     for (credential, registered) in accounts.as_slice() {
         stake.set_account(*credential, Some(*registered))?;
     }

@@ -21,6 +21,7 @@ use drep_book::DrepBook;
 use drep_pulser::Pulser;
 use gov_actions::HotState;
 use gov_ids::{Credential, OutRef, PoolId, TxId};
+use hash_seed::HashSeed;
 use listed::Listed;
 use proposal_store::ProposalStore;
 use resumed_books::{counted_of, dreps_of, hot_of, pools_of, proposals_of, stake_of};
@@ -45,6 +46,7 @@ pub(crate) struct Progress {
 /// The books of lists with so many dormant epochs, with what was frozen and counted of them.
 pub(crate) fn books_of(
     alloc: Global,
+    seed: HashSeed,
     lists: BookLists,
     dormant: u64,
     entries: Listed<(Credential, Entry)>,
@@ -69,10 +71,10 @@ pub(crate) fn books_of(
     ensures proposals { IfOk result (λ b. b.2 ≡ lists.proposals) }
 {
     let (outputs, used, accounts, pools, dreps, hot, proposals) = lists.into_parts();
-    let stake = stake_of(alloc, accounts, outputs, used, entries)?;
+    let stake = stake_of(alloc, seed, accounts, outputs, used, entries)?;
     let held = held_of(alloc, stake, frozen, progress)?;
     let keyed = keyed_of(alloc, pools, dreps, dormant, hot)?;
-    let proposals = proposals_of(alloc, proposals)?;
+    let proposals = proposals_of(alloc, seed, proposals)?;
     Ok((held, keyed, proposals))
 }
 

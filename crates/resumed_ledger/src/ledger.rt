@@ -12,6 +12,7 @@ use crate::frozen::frozen_parts;
 use coin_frac::NoMemory;
 use drep_pulser::Pulser;
 use further_laws::resumable_is_sound;
+use hash_seed::HashSeed;
 use ledger_books::Books;
 use ledger_state::LedgerState;
 use listed::Boxed;
@@ -24,6 +25,7 @@ use tx_records::Pots;
 /// `NoMemory` may come at any time and takes the lists.
 pub fn ledger_of_lists(
     alloc: Global,
+    seed: HashSeed,
     lists: StateLists,
     workers: u32,
 ) -> Result<LedgerState, NoMemory>
@@ -40,7 +42,15 @@ pub fn ledger_of_lists(
     let kept = frozen_parts(alloc, clock.epoch, &state, frozen, mark)?;
     let (copy, entries) = kept;
     let progress = Progress { counted, workers };
-    let made = books_of(alloc, books, clock.dormant, entries, copy.get(), progress)?;
+    let made = books_of(
+        alloc,
+        seed,
+        books,
+        clock.dormant,
+        entries,
+        copy.get(),
+        progress,
+    )?;
     let ((stake, pulser), (pools, dreps, hot), proposals) = made;
     let state = Boxed::new(alloc, state)?;
     let books = Books {

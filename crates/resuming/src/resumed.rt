@@ -6,6 +6,7 @@ ghost use Rattle.replay_loop.specs.Answers.{AnswersAs};
 ghost use Rattle.state_lists.specs.Worlds.{world_of_lists};
 
 use byte_lines::{LineFault, SinkFault};
+use hash_seed::HashSeed;
 use held_ledger::{Crew, Held, answer};
 use line_giver::LineGiver;
 use listed::Boxed;
@@ -28,13 +29,18 @@ pub(crate) struct Resumed {
 }
 
 /// The ledger of these lists.
-fn resumed_of(alloc: Global, lists: StateLists, workers: u32) -> Result<Resumed, NoMemory>
+fn resumed_of(
+    alloc: Global,
+    seed: HashSeed,
+    lists: StateLists,
+    workers: u32,
+) -> Result<Resumed, NoMemory>
     requires some { 1 ≤ workers }
     requires few { workers ≤ 64 }
     requires sound { IsResumable (world_of_lists lists) }
     ensures { IfOk result (λ r. r.held.ledger ≡ world_of_lists lists) }
 {
-    let ledger = ledger_of_lists(alloc, lists, workers)?;
+    let ledger = ledger_of_lists(alloc, seed, lists, workers)?;
     let ledger = Boxed::new(alloc, ledger)?;
     Ok(Resumed {
         held: Held { ledger },
@@ -101,13 +107,14 @@ impl RunState for Resumed {
 impl ResumedState for Resumed {
     fn read_checkpoint<G: LineGiver>(
         alloc: Global,
+        seed: HashSeed,
         workers: u32,
         giver: &mut G,
     ) -> Result<Option<(Resumed, u64)>, LineFault> {
         let Some((lists, line)) = read_sound(alloc, giver)? else {
             return Ok(None);
         };
-        let resumed = resumed_of(alloc, lists, workers)?;
+        let resumed = resumed_of(alloc, seed, lists, workers)?;
         Ok(Some((resumed, line)))
     }
 }

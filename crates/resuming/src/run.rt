@@ -35,5 +35,5 @@ pub fn resume_ledger<T: Threads + Sync, S: Source, K: Sink, G: Gate + Sync>(
         requires within { is_within reading ≡ true }
         ensures { AnswersAs (λ r. r.held.ledger) (option_map (λ r. r.held.ledger) before) reading result }
     { answer_resumed(crew, workers, before, &reading) };
-    resume(crew.alloc, &answers, workers, source, sink)
+    resume(crew.alloc, crew.seed, &answers, workers, source, sink)
 }

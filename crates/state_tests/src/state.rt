@@ -6,6 +6,7 @@ ghost use Rattle.tx_records.specs.TxLimits as tx_limits;
 use crate::lines::{Line, bytes_of};
 use drep_pulser::Pulser;
 use gov_ids::{CredKind, Credential, Drep};
+use hash_seed::HashSeed;
 use ledger_state::LedgerState;
 use live_ledger::GenesisFault;
 use no_memory::NoMemory;
@@ -71,7 +72,7 @@ pub trait Changed: Sized {
 
 impl Changed for LedgerState {
     fn begin(alloc: Global, genesis: &Genesis) -> Result<LedgerState, Stop> {
-        match LedgerState::from_genesis(alloc, genesis, 4) {
+        match LedgerState::from_genesis(alloc, HashSeed::new(1, 2), genesis, 4) {
             Ok(s) => Ok(s),
             Err(GenesisFault::Broken(_)) => Err(Stop::NotTaken),
             Err(GenesisFault::NoMemory) => Err(Stop::NoMemory),

@@ -143,8 +143,8 @@ fn judge_passed(alloc: Global, draft: &mut Draft, tx: &Tx, spent: Spent) -> Resu
     check_drafted(alloc, draft, tx, spent)
 }
 
-/// The reply to a transaction that breaks no rule.
-fn accepted_as(scripts: Scripts) -> Reply
+/// The reply to a transaction that breaks no rule. (isValid of the formal specification)
+pub fn accepted_as(scripts: Scripts) -> Reply
     ensures { result ≡ accepted_as scripts }
 {
     match scripts {

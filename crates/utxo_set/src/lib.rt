@@ -1,19 +1,26 @@
 //! The book of unspent outputs, with the used ids.
 #![tactic(auto)]
 
-ghost use Rattle.std.specs.Prelude.{◌≡◌, ◌+◌, ◌^◌, ◌<◌, [], None, option_map, OnOk, OnErr};
+ghost use Rattle.std.specs.Prelude.{◌≡◌, ◌+◌, ◌^◌, ◌<◌, ◌&&◌, [], Some, None, MatchOption, map, option_map, IfOk, OnOk, OnErr};
+ghost use Rattle.book_records.specs.declared.Output.{Output};
 ghost use Rattle.gov_ids.specs.Orders.{asset_cmp, outref_cmp, txid_cmp};
-ghost use Rattle.maps.specs.Maps.{value_at, with_value, without_key, entry_after, has_member, with_key, without_member, key_after};
+ghost use Rattle.maps.specs.Maps.{value_at, with_value, without_key, comes_past, entry_after, has_member, with_key, without_member, key_after};
 ghost use Rattle.book_records.specs.Outputs.{asset_totals, assets_in, lovelace_in};
-ghost use Rattle.utxo_set.specs.Utxos.{IsInOrder};
+ghost use Rattle.std.specs.Map.Iter.{deref};
+ghost use Rattle.utxo_set.specs.Utxos.{IsInOrder, comes_below};
+
+mod spending;
 
 pub use book_records::Output;
 use book_records::of_assets::AssetTotals;
 use gov_ids::of_no_memory::NoMemory;
 use gov_ids::{AssetId, OutRef, TxId};
+use hash_seed::HashSeed;
 use maps::keys_past;
+pub use spending::Spender;
+use spending::take_from;
 use std::alloc::Global;
-use std::collections::{BTreeMap, BTreeSet};
+use std::collections::{BTreeMap, HashSet};
 use std::marker::Model;
 
 /// The unspent outputs and the used ids, with the outputs' totals of lovelace and of each asset.
@@ -21,9 +28,10 @@ use std::marker::Model;
 #[derive(Drop)]
 pub struct UtxoSet {
     outputs: BTreeMap<OutRef, Output>,
-    used: BTreeSet<TxId>,
+    used: HashSet<TxId, HashSeed>,
     total: u64,
     assets: AssetTotals,
+    alloc: Global,
 }
 
 impl Model for UtxoSet {
@@ -31,28 +39,32 @@ impl Model for UtxoSet {
     ghost use Rattle.book_records.specs.of_assets.Totals.{AreTotals, total_at};
     ghost use Rattle.book_records.specs.Outputs.{assets_in, lovelace_in};
     ghost use Rattle.gov_ids.specs.declared.assets.AssetId.{AssetId};
+    ghost use Rattle.gov_ids.specs.Orders.{txid_cmp};
+    ghost use Rattle.maps.specs.Maps.{in_order};
     ghost use Rattle.utxo_set.specs.Utxos.{Utxos, IsInOrder};
 
     ghost Value = { Utxos };
 
-    ghost view = { λ a. record { outputs = a.outputs.entries; used = a.used.keys } };
+    ghost view = { λ a. record { outputs = a.outputs.entries; used = in_order txid_cmp a.used.keys } };
 
     ghost invariant = { λ a. (a.total ≡ lovelace_in a.outputs.entries)
-        × IsInOrder (record { outputs = a.outputs.entries; used = a.used.keys })
+        × IsInOrder (record { outputs = a.outputs.entries; used = in_order txid_cmp a.used.keys })
         × AreTotals a.assets
         × ((k : AssetId) → total_at a.assets k ≡ assets_in a.outputs.entries k) };
 }
 
 impl UtxoSet {
-    /// A book with no outputs and no used ids. (UTxO of the formal specification)
-    pub fn new(alloc: Global) -> UtxoSet
+    /// A book with no outputs and no used ids; the seed is of the table of used ids.
+    /// (UTxO of the formal specification)
+    pub fn new(alloc: Global, seed: HashSeed) -> UtxoSet
         ensures { result ≡ record { outputs = []; used = [] } }
     {
         UtxoSet {
             outputs: BTreeMap::new(alloc),
-            used: BTreeSet::new(alloc),
+            used: HashSet::with_hasher(alloc, seed),
             total: 0,
             assets: AssetTotals::new(alloc),
+            alloc,
         }
     }
 
@@ -92,6 +104,31 @@ impl UtxoSet {
         self.total -= output.lovelace;
         self.assets.subtract(&output.assets);
         Some(output)
+    }
+
+    /// Removes and returns the output at a reference, if there is one, in one search.
+    /// Before that the spender changes. `NoMemory` changes neither of them.
+    /// (UTxO of the formal specification)
+    pub fn take_with<S: Spender>(
+        &mut self,
+        r: &OutRef,
+        spender: &mut S,
+    ) -> Result<Option<Output>, NoMemory>
+        requires { (o : Output) → value_at outref_cmp self.old.outputs r.now ≡ Some o → S.can_spend spender.old o }
+        ensures value { IfOk result (λ o. o ≡ value_at outref_cmp self.old.outputs r.now) }
+        ensures rest { OnOk result (self.new ≡ record self.old { outputs = without_key outref_cmp r.now self.old.outputs }) }
+        ensures spender { OnOk result (MatchOption (value_at outref_cmp self.old.outputs r.now)
+            (spender.new ≡ spender.old) (λ o. spender.new ≡ S.spent_by o spender.old)) }
+        ensures err { OnErr result (self.new ≡ self.old) }
+        ensures spender_err { OnErr result (spender.new ≡ spender.old) }
+    {
+        let found = take_from(&mut self.outputs, *r, spender)?;
+        let Some(taken) = found else {
+            return Ok(None);
+        };
+        self.total -= taken.lovelace;
+        self.assets.subtract(&taken.assets);
+        Ok(Some(taken))
     }
 
     /// What all outputs hold, in lovelace. (UTxO of the formal specification)
@@ -151,10 +188,57 @@ impl UtxoSet {
         Some((*r, o))
     }
 
-    /// The next used id in order after this one, or the first of all.
+    /// The next used id in order after this one, or the first of all. It scans all used ids.
     pub fn next_used(&self, after: Option<&TxId>) -> Option<TxId>
         ensures { result ≡ key_after txid_cmp (option_map (λ id. id.now) after.entry) self.now.used }
     {
-        self.used.range(keys_past(after)).next().copied()
+        let mut next: Option<TxId> = None;
+        for id in &self.used {
+            if is_between(id, after, next.as_ref()) {
+                next = Some(*id);
+            }
+        }
+        next
     }
+
+    /// All used ids, in order, at 8 bytes an id.
+    pub fn used_ids(&self) -> Result<Vec<&TxId>, NoMemory>
+        ensures ids { IfOk result (λ ids. map deref ids.items ≡ self.now.used) }
+        ensures in_order { IsInOrder self.now }
+    {
+        let mut ids = Vec::with_capacity(self.alloc, self.used.len())?;
+        for id in &self.used {
+            ids.push(id)?;
+        }
+        ids.sort_unstable();
+        Ok(ids)
+    }
+}
+
+// Whether an id comes after one; without one every id does.
+fn is_past(id: &TxId, after: Option<&TxId>) -> bool
+    ensures { result ≡ comes_past txid_cmp (option_map (λ a. a.now) after.entry) id.now }
+{
+    match after {
+        Some(after) => after < id,
+        None => true,
+    }
+}
+
+// Whether an id comes before one; without one every id does.
+fn is_below(id: &TxId, before: Option<&TxId>) -> bool
+    ensures { result ≡ comes_below txid_cmp (option_map (λ b. b.now) before.entry) id.now }
+{
+    match before {
+        Some(before) => id < before,
+        None => true,
+    }
+}
+
+// Whether an id comes after one and before another.
+fn is_between(id: &TxId, after: Option<&TxId>, before: Option<&TxId>) -> bool
+    ensures { result ≡ (comes_past txid_cmp (option_map (λ a. a.now) after.entry) id.now
+        && comes_below txid_cmp (option_map (λ b. b.now) before.entry) id.now) }
+{
+    is_past(id, after) && is_below(id, before)
 }

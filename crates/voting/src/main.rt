@@ -4,18 +4,23 @@
 #![tactic(auto)]
 
 use byte_lines::{ReaderSource, WriterSink};
+use hash_seed::HashSeed;
 use par_count::OpenGate;
 use std::process::ExitCode;
 use voting_lines::of_commands::Crew;
 use voting_lines::report_votes;
 
 fn main(rt: HostRuntime) -> ExitCode {
+    let Ok(seed) = HashSeed::random(&rt) else {
+        return ExitCode::from(1);
+    };
     let mut source = ReaderSource::new(rt.stdin());
     let mut sink = WriterSink::new(rt.stdout());
     let crew = Crew {
         alloc: rt.alloc(),
         rt: &rt,
         gate: &OpenGate,
+        seed,
     };
     ExitCode::from(report_votes(&crew, &mut source, &mut sink).number())
 }

@@ -16,6 +16,7 @@ ghost use Rattle.wallet.specs.Questions.{asked_by};
 
 use ask::{AskFault, Asked, SendFault};
 use governance::{governance, hard_fork};
+use hash_seed::HashSeed;
 use no_memory::NoMemory;
 use report::reply_line;
 use start::ledger_of;
@@ -100,7 +101,8 @@ fn main(rt: HostRuntime) -> io::Result<()> {
     let Some(line) = rt.lines(rt.alloc()).next() else {
         return println!(rt; "no line");
     };
-    match ledger_of(rt.alloc(), line?.as_bytes()) {
+    let seed = HashSeed::random(&rt)?;
+    match ledger_of(rt.alloc(), seed, line?.as_bytes()) {
         Ok(ledger) => ask_all(&rt, ledger),
         Err(fault) => println!(rt; "no ledger: {fault:?}"),
     }

@@ -1,6 +1,7 @@
 //! The ledger to ask.
 ghost use Rattle.wallet.specs.Starts.{Starts};
 
+use hash_seed::HashSeed;
 use ledger_state::LedgerState;
 use live_ledger::GenesisFault;
 use record_read::{RecordFault, read_record};
@@ -21,7 +22,7 @@ pub enum StartFault {
 }
 
 /// The ledger of a line that is a genesis. (Own)
-pub fn ledger_of(alloc: Global, line: &[u8]) -> Result<LedgerState, StartFault>
+pub fn ledger_of(alloc: Global, seed: HashSeed, line: &[u8]) -> Result<LedgerState, StartFault>
     ensures { Starts line.now result }
 {
     let genesis = match read_record(alloc, line) {
@@ -31,7 +32,7 @@ pub fn ledger_of(alloc: Global, line: &[u8]) -> Result<LedgerState, StartFault>
         Err(RecordFault::NoMemory) => return Err(StartFault::NoMemory),
         Err(fault) => return Err(StartFault::Unreadable(fault)),
     };
-    match LedgerState::from_genesis(alloc, genesis.get(), 1) {
+    match LedgerState::from_genesis(alloc, seed, genesis.get(), 1) {
         Ok(ledger) => Ok(ledger),
         Err(GenesisFault::Broken(rule)) => Err(StartFault::Broken(rule)),
         Err(GenesisFault::NoMemory) => Err(StartFault::NoMemory),

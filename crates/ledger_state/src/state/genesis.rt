@@ -8,6 +8,7 @@ use super::LedgerState;
 use coin_frac::NoMemory;
 use epoch_start::of_freeze::pool_stakes;
 use epoch_start::of_ledger_books::Books;
+use hash_seed::HashSeed;
 use listed::Listed;
 use live_ledger::{GenesisFault, LiveLedger};
 use snapshots::Snapshots;
@@ -16,9 +17,11 @@ use tx_records::Genesis;
 
 impl LedgerState {
     /// The state of a genesis, its epoch frozen, and its count, for so many workers, begun.
+    /// The seed is of its hash tables; no clause depends on it.
     /// Errors: the first genesis rule that it breaks, or `NoMemory`, which may come at any time.
     pub fn from_genesis(
         alloc: Global,
+        seed: HashSeed,
         genesis: &Genesis,
         workers: u32,
     ) -> Result<LedgerState, GenesisFault>
@@ -27,7 +30,7 @@ impl LedgerState {
         requires few { workers ≤ 64 }
         ensures { StartsAs result genesis.now }
     {
-        let live = LiveLedger::from_genesis(alloc, genesis)?;
+        let live = LiveLedger::from_genesis(alloc, seed, genesis)?;
         let books = first_books(alloc, live)?;
         Ok(LedgerState::begin_epoch(alloc, books, workers)?)
     }

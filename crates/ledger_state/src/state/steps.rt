@@ -73,7 +73,8 @@ impl LedgerState {
     }
 
     /// The first rule that a reward update breaks.
-    fn check_rewards(&self, update: &Rewards) -> Result<(), Rule>
+    /// (RewardUpdate of the formal specification; that it is a record is own)
+    pub fn check_rewards(&self, update: &Rewards) -> Result<(), Rule>
         requires { is_within_limits (records.Rewards update.now) ≡ true }
         ensures { result ≡ answer_of (reward_checks self.now update.now) }
     {

@@ -17,6 +17,7 @@ use genesis_books::of_cert_pool::PoolBook;
 use genesis_books::of_committee_book::HotBook;
 use genesis_books::{broken_rule, first_committee, first_holdings, first_keys};
 use gov_actions::{EnactState, LastIds};
+use hash_seed::HashSeed;
 use listed::Boxed;
 use proposal_store::ProposalStore;
 use stake_book::StakeBook;
@@ -25,8 +26,13 @@ use tx_records::Genesis;
 
 impl LiveLedger {
     /// The ledger of a genesis that breaks no genesis rule, with its own account entries frozen.
+    /// The seed is of its hash tables; no clause depends on it.
     /// Errors: the first rule that it breaks, or `NoMemory`, which may come at any time.
-    pub fn from_genesis(alloc: Global, genesis: &Genesis) -> Result<LiveLedger, GenesisFault>
+    pub fn from_genesis(
+        alloc: Global,
+        seed: HashSeed,
+        genesis: &Genesis,
+    ) -> Result<LiveLedger, GenesisFault>
         requires within { is_within_limits genesis.now ≡ true }
         ensures { StartsAs result genesis.now }
     {
@@ -34,7 +40,7 @@ impl LiveLedger {
             return Err(GenesisFault::Broken(rule));
         }
         let state = first_state(alloc, genesis)?;
-        match first_books(alloc, genesis) {
+        match first_books(alloc, seed, genesis) {
             Ok((stake, pools, dreps, hot)) => {
                 let books = Books {
                     network: genesis.network,
@@ -46,7 +52,7 @@ impl LiveLedger {
                     pools,
                     dreps,
                     hot,
-                    proposals: ProposalStore::new(alloc),
+                    proposals: ProposalStore::new(alloc, seed),
                     snapshots: no_snapshots(alloc),
                     state,
                     pending: None,
@@ -76,6 +82,7 @@ fn boxed(alloc: Global, books: Books) -> Result<Box<Books>, NoMemory>
 /// The books of a genesis: of accounts and outputs, of pools, of DReps and of hot keys.
 fn first_books(
     alloc: Global,
+    seed: HashSeed,
     genesis: &Genesis,
 ) -> Result<(StakeBook, PoolBook, DrepBook, HotBook), NoMemory>
     requires unbroken { genesis_fault genesis.now ≡ None }
@@ -89,7 +96,7 @@ fn first_books(
     ensures dormant { IfOk result (λ first. first.2.dormant ≡ 0) }
     ensures hot { IfOk result (λ first. first.3 ≡ hot_of_genesis genesis.now.committee) }
 {
-    let (stake, pools) = first_holdings(alloc, genesis)?;
+    let (stake, pools) = first_holdings(alloc, seed, genesis)?;
     match first_keys(alloc, genesis) {
         Ok((dreps, hot)) => Ok((stake, pools, dreps, hot)),
         Err(error) => {

@@ -1,13 +1,17 @@
-use Rattle.std.proofs.Common.{ap, sym, subst, ◌∙◌}
+use Rattle.std.proofs.Common.{ℕ, ◌<◌, ap, sym, subst, ◌∙◌}
 use Rattle.draft_changes.specs.of_ledger_books.declared.Books.{Books}
 use Rattle.draft_changes.specs.of_ledger_books.Parts.{frozen_entries, ledger_of_books}
 use Rattle.ledger_model.specs.Ledger.{Ledger}
+use Rattle.tx_records.proofs.Parts.{genesis_parts}
 use Rattle.live_ledger.specs.Kept.{IsLiveLedger}
 use Rattle.live_ledger.proofs.Starting.{genesis_kept, made_ledger}
 use Rattle.live_ledger.proofs.state.LiveLedger.from_genesis.Goals as goal
 
 pub first_books-requires : goal.first_books-requires
 first_books-requires c = record { unbroken = sym c.in_ok-rule.ensures ∙ c.in_default.is }
+
+pub nonzero_div-books : goal.nonzero_div-books
+nonzero_div-books c = subst (λ (n : ℕ). 0 < n) (sym c.from.ensures) (genesis_parts c.args.genesis.now c.requires.within).long
 
 pub invariant_of-result : goal.invariant_of-result
 invariant_of-result c =

@@ -10,5 +10,5 @@ use Rattle.proposal_store.proofs.store.ProposalStore.new.Goals as goal
 
 pub invariant_of-result : goal.invariant_of-result
 invariant_of-result c =
-    subst (λ (es : List (ActionId × Proposal)). IsStore es c.new-2.result c.new-4.result 0 × AreNoted c.new-3.result (values_of es)) (sym c.new.ensures.empty)
-    (IsStore-none c.new-2.result c.new-4.result c.new-2.ensures c.new-4.ensures, AreNoted-none c.new-3.result c.new-3.ensures)
+    subst (λ (es : List (ActionId × Proposal)). IsStore es c.new.result c.new-3.result 0 × AreNoted c.new-2.result (values_of es)) (sym c.with_hasher.ensures.empty)
+    (IsStore-none c.new.result c.new-3.result c.new.ensures c.new-3.ensures, AreNoted-none c.new-2.result c.new-2.ensures)
