@@ -14,8 +14,10 @@ pub trait Spender {
     ghost use Rattle.std.specs.Prelude.{◌≡◌, OnOk, OnErr};
     ghost use Rattle.book_records.specs.declared.Output.{Output};
 
+    // when an output can be spent
     ghost can_spend: { Self → Output → Type 0 };
 
+    // the spender after it
     ghost spent_by: { Output → Self → Self };
 
     /// Changes as the spending of an output asks. `NoMemory` changes nothing.

@@ -13,10 +13,13 @@ use std::collections::btree_map::Entry;
 pub trait Follower<V, C> {
     ghost use Rattle.std.specs.Prelude.{◌≡◌, Option, IfOk, OnOk, OnErr};
 
+    // when a change of a value can be followed
     ghost can_follow: { Self → C → Option V → Type 0 };
 
+    // what the change makes of the value
     ghost value_after: { C → Option V → Option V };
 
+    // the follower before and after a value became another one
     ghost has_followed: { Self → Option V → Option V → Self → Type 0 };
 
     /// Returns what a value becomes by a change, and follows it; none is no entry.
@@ -27,6 +30,7 @@ pub trait Follower<V, C> {
         ensures ok { OnOk result (has_followed self.old before (value_after by.now before) self.new) }
         ensures err { OnErr result (has_followed self.old before before self.new) };
 
+    // a value that stays is followed by nothing
     ghost follows_nothing: { (s : Self) (v : Option V) → has_followed s v v s };
 }
 
