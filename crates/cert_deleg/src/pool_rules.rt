@@ -1,4 +1,4 @@
-ghost use Rattle.std.specs.Prelude.{◌≡◌};
+ghost use Rattle.std.specs.Prelude.{◌≡◌, ◌+◌, ◌||◌, ◌<◌, ◌^◌, nat_le, nat_lt};
 ghost use Rattle.book_records.specs.Pools.{is_key_of_other};
 ghost use Rattle.ledger_model.specs.CertRules.{cert_checks};
 ghost use Rattle.ledger_model.specs.Checks.{answer_of};
@@ -8,27 +8,35 @@ ghost use Rattle.tx_records.specs.declared.cert.Cert.TheVariants.{PoolReg, PoolR
 use book_records::PoolTerms;
 use gov_ids::PoolId;
 use live_ledger::Draft;
+use rule_checks::{Check, first_of};
 use tx_records::Rule;
 use tx_records::rules::{
     POOL_COST_TOO_LOW, POOL_KEY_IN_USE, POOL_UNKNOWN, POOL_WRONG_NETWORK, RETIREMENT_EPOCH_WRONG,
 };
 
 /// The rules on the terms with which a pool is registered, a new one or not.
+pub fn terms_checks(d: &Draft, pool: &PoolId, terms: &PoolTerms) -> [Check; 3]
+    ensures { result ≡ cert_checks d.now.start d.now.ledger
+        (PoolReg pool.now terms.now.cost terms.now.pledge terms.now.margin terms.now.account terms.now.key) }
+{
+    let least = d.start().params().min_pool_cost;
+    let in_use = d.start().is_from_version_eleven() && is_key_in_use(d, pool, terms.key);
+    [
+        Check::keeping(POOL_COST_TOO_LOW, u128::from(least), terms.cost < least),
+        Check::plain(
+            POOL_WRONG_NETWORK,
+            terms.account.network != d.start().network(),
+        ),
+        Check::plain(POOL_KEY_IN_USE, in_use),
+    ]
+}
+
+/// The first broken rule on the terms with which a pool is registered, if any.
 pub fn check_terms(d: &Draft, pool: &PoolId, terms: &PoolTerms) -> Result<(), Rule>
     ensures { result ≡ answer_of (cert_checks d.now.start d.now.ledger
         (PoolReg pool.now terms.now.cost terms.now.pledge terms.now.margin terms.now.account terms.now.key)) }
 {
-    let least = d.start().params().min_pool_cost;
-    if terms.cost < least {
-        return Err(Rule::keeping(POOL_COST_TOO_LOW, u128::from(least)));
-    }
-    if terms.account.network != d.start().network() {
-        return Err(Rule::new(POOL_WRONG_NETWORK));
-    }
-    if d.start().is_from_version_eleven() && is_key_in_use(d, pool, terms.key) {
-        return Err(Rule::new(POOL_KEY_IN_USE));
-    }
-    Ok(())
+    first_of(&terms_checks(d, pool, terms))
 }
 
 /// Whether a key is named that another pool has.
@@ -42,15 +50,28 @@ fn is_key_in_use(d: &Draft, pool: &PoolId, key: Option<[u8; 32]>) -> bool
 }
 
 /// The rules on a pool's retirement: it is registered, and the epoch is 1 to eMax after this one.
+pub fn retirement_checks(d: &Draft, pool: &PoolId, epoch: u64) -> [Check; 2]
+    ensures { result ≡ cert_checks d.now.start d.now.ledger (PoolRetire pool.now epoch) }
+{
+    let now = d.start().epoch();
+    let most = d.start().params().e_max;
+    let is_wrong = is_not_within(now, u64::from(most), epoch);
+    [
+        Check::plain(POOL_UNKNOWN, d.pool(pool).is_none()),
+        Check::keeping(RETIREMENT_EPOCH_WRONG, u128::from(now), is_wrong),
+    ]
+}
+
+/// The first broken rule on a pool's retirement, if any.
 pub fn check_retirement(d: &Draft, pool: &PoolId, epoch: u64) -> Result<(), Rule>
     ensures { result ≡ answer_of (cert_checks d.now.start d.now.ledger (PoolRetire pool.now epoch)) }
 {
-    if d.pool(pool).is_none() {
-        return Err(Rule::new(POOL_UNKNOWN));
-    }
-    let now = d.start().epoch();
-    if epoch <= now || epoch - now > u64::from(d.start().params().e_max) {
-        return Err(Rule::keeping(RETIREMENT_EPOCH_WRONG, u128::from(now)));
-    }
-    Ok(())
+    first_of(&retirement_checks(d, pool, epoch))
+}
+
+/// Whether an epoch is not one of the next epochs after this one, of which there are so many.
+fn is_not_within(now: u64, most: u64, epoch: u64) -> bool
+    ensures { result ≡ (nat_le epoch now || nat_lt (now + most) epoch) }
+{
+    epoch <= now || epoch - now > most
 }

@@ -1,14 +1,19 @@
-ghost use Rattle.std.specs.Prelude.{◌≡◌, ◌+◌, ◌≤◌, ◌<◌, ◌^◌, true, OnOk, length};
+ghost use Rattle.std.specs.Prelude.{◌≡◌, ◌+◌, ◌≤◌, ◌<◌, ◌^◌, ◌&&◌, not, true, is_none, OnOk, length};
+ghost use Rattle.book_records.specs.declared.Registered.{Registered};
 ghost use Rattle.cert_deleg.specs.Emptied.{emptied_all, emptied_at};
 ghost use Rattle.ledger_model.specs.CertRules.{withdrawal_checks};
 ghost use Rattle.ledger_model.specs.Checks.{answer_of, per_place};
+ghost use Rattle.ledger_model.specs.UtxoRules.{is_script};
+ghost use Rattle.maps.specs.Words.{some_and};
+ghost use Rattle.rule_checks.specs.Told.{told_with};
 ghost use Rattle.tx_records.specs.TxLimits.{is_within_limits};
 
+use crate::stored::rewards_of;
 use book_records::Registered;
 use gov_ids::{Account, CredKind, Credential};
 use live_ledger::{Draft, LiveLedger};
 use no_memory::NoMemory;
-use rule_checks::{ItemRules, check_each};
+use rule_checks::{Check, ItemRules, Told, check_each, first_of, tell_each};
 use tx_records::rules::{
     WITHDRAWAL_NO_ACCOUNT, WITHDRAWAL_NOT_DELEGATED, WITHDRAWAL_NOT_WHOLE, WITHDRAWAL_WRONG_NETWORK,
 };
@@ -28,29 +33,55 @@ impl<'a> ItemRules for Withdrawals<'a> {
     ghost checks = { λ r i item. withdrawal_checks r.s.now.ledger i item };
 
     fn check(&self, _place: usize, item: &(Account, u64)) -> Result<(), Rule> {
-        let (account, lovelace) = *item;
-        if account.network != self.s.network() {
-            return Err(Rule::new(WITHDRAWAL_WRONG_NETWORK));
-        }
-        let Some(registered) = self.s.stake().account(&account.cred) else {
-            return Err(Rule::new(WITHDRAWAL_NO_ACCOUNT));
-        };
-        if matches!(account.cred.kind, CredKind::Key) && registered.drep.is_none() {
-            return Err(Rule::new(WITHDRAWAL_NOT_DELEGATED));
-        }
-        if lovelace != registered.rewards {
-            return Err(Rule::keeping(WITHDRAWAL_NOT_WHOLE, u128::from(registered.rewards)));
-        }
-        Ok(())
+        first_of(&withdrawal_checks(self.s, item))
+    }
+
+    fn tell(&self, place: usize, item: &(Account, u64), told: &mut Told) -> Result<(), NoMemory> {
+        told.add_at(place, &withdrawal_checks(self.s, item))
     }
 }
 
-/// The rules on each withdrawal, by the ledger before the transaction.
+/// The rules on a withdrawal, whatever its place.
+fn withdrawal_checks(s: &LiveLedger, withdrawal: &(Account, u64)) -> [Check; 4]
+    ensures { result ≡ withdrawal_checks s.now.ledger 0 withdrawal.now }
+{
+    let (account, lovelace) = *withdrawal;
+    let registered = s.stake().account(&account.cred);
+    let rewards = rewards_of(registered);
+    let is_undelegated = is_undelegated(&account.cred, registered);
+    [
+        Check::plain(WITHDRAWAL_WRONG_NETWORK, account.network != s.network()),
+        Check::plain(WITHDRAWAL_NO_ACCOUNT, registered.is_none()),
+        Check::plain(WITHDRAWAL_NOT_DELEGATED, is_undelegated),
+        Check::keeping(
+            WITHDRAWAL_NOT_WHOLE,
+            u128::from(rewards),
+            lovelace != rewards,
+        ),
+    ]
+}
+
+/// Whether a credential is a key that is registered, and delegates its vote to no DRep.
+fn is_undelegated(c: &Credential, account: Option<Registered>) -> bool
+    ensures { result ≡ (not (is_script c.now.kind) && some_and (λ (r : Registered). is_none r.drep) account) }
+{
+    matches!(c.kind, CredKind::Key) && account.is_some_and(|registered| registered.drep.is_none())
+}
+
+/// The first broken rule on the withdrawals, by the ledger before the transaction.
 pub fn check_withdrawals(s: &LiveLedger, tx: &Tx) -> Result<(), Rule>
     requires { is_within_limits tx.now ≡ true }
     ensures { result ≡ answer_of (per_place (withdrawal_checks s.now.ledger) tx.now.withdrawals) }
 {
     check_each(&Withdrawals { s }, tx.withdrawals.as_slice())
+}
+
+/// Adds every broken rule on the withdrawals, by the ledger before the transaction.
+pub fn tell_withdrawals(s: &LiveLedger, tx: &Tx, told: &mut Told) -> Result<(), NoMemory>
+    requires { is_within_limits tx.now ≡ true }
+    ensures { OnOk result (told.new ≡ told_with (per_place (withdrawal_checks s.now.ledger) tx.now.withdrawals) told.old) }
+{
+    tell_each(&Withdrawals { s }, tx.withdrawals.as_slice(), told)
 }
 
 /// Each account of these withdrawals that is registered gives its balance.

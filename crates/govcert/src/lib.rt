@@ -7,8 +7,10 @@ ghost use Rattle.govcert.specs.Kinds.{is_governance_cert};
 ghost use Rattle.ledger_model.specs.CertRules.{cert_checks};
 ghost use Rattle.ledger_model.specs.Changes.{changed_by, refreshed};
 ghost use Rattle.ledger_model.specs.Checks.{at_place, first_among};
+ghost use Rattle.ledger_model.specs.Draft.{draft_with};
 ghost use Rattle.ledger_model.specs.Flows.{flows_of_cert};
 ghost use Rattle.rule_checks.specs.Answered.{IsAnswered};
+ghost use Rattle.rule_checks.specs.Told.{told_with};
 ghost use Rattle.tx_records.specs.TxLimits.{is_within_limits};
 
 mod changes;
@@ -17,17 +19,20 @@ mod drep_changes;
 mod drep_rules;
 mod hot_rules;
 mod kinds;
+mod moved;
 mod rules;
+mod stored;
 mod voters;
 
-use crate::changes::change;
+use crate::changes::{change, change_if_allowed};
 use crate::dormant::add_dormant;
-use crate::rules::check_cert;
+use crate::rules::{check_cert, tell_broken};
 use crate::voters::refresh_voters;
 pub use kinds::is_governance_cert;
 use live_ledger::Draft;
+pub use moved::moved_by;
 use no_memory::NoMemory;
-use rule_checks::{answer_at, as_fault};
+use rule_checks::{Told, answer_at, as_fault};
 use tx_records::{Cert, Tx, TxFault};
 
 /// Adds the dormant epochs to the expiries of DReps if the transaction proposes; then a registered
@@ -60,4 +65,18 @@ pub fn cert(d: &mut Draft, place: u32, c: &Cert) -> Result<(), TxFault>
     as_fault(answer_at(check_cert(d, c), place as usize))?;
     change(d, c)?;
     Ok(())
+}
+
+/// Adds every rule that the certificate at this index breaks; one that breaks none changes the
+/// draft as `cert` does, one that breaks a rule changes nothing. `NoMemory`: drop the draft. (Own)
+pub fn tell_cert(d: &mut Draft, place: u32, c: &Cert, told: &mut Told) -> Result<(), NoMemory>
+    requires kind { is_governance_cert c.now ≡ true }
+    requires few { d.old.changes ≤ 2 ^ 31 }
+    ensures rules { OnOk result (told.new ≡ told_with (map (at_place place) (cert_checks d.old.start d.old.ledger c.now)) told.old) }
+    ensures ledger { OnOk result (d.new.ledger ≡ draft_with d.old.start d.old.ledger c.now) }
+    ensures start { d.new.start ≡ d.old.start }
+    ensures few { d.new.changes ≤ d.old.changes + 1 }
+{
+    tell_broken(d, place as usize, c, told)?;
+    change_if_allowed(d, c)
 }

@@ -26,6 +26,15 @@ pub not_entered : (o : Option Rule) (b : Bool) (rule : Rule) → Err rule ≡ en
 not_entered None b rule h = cc
 not_entered (Some other) b rule h = cc
 
+-- the answer to a block by that of its rules
+pub entry_refused : (o : Option Rule) (b : Bool) (rule : Rule) → Err rule ≡ answer_by o → Err rule ≡ entry_by o b
+entry_refused None b rule h = cc
+entry_refused (Some other) b rule h = cc
+
+pub entry_open : (o : Option Rule) (b : Bool) (x : Unit {0}) → Ok x ≡ answer_by o → Ok b ≡ entry_by o b
+entry_open None b x h = refl
+entry_open (Some rule) b x h = cc
+
 pub accepted : (o : Option Rule) (x : Unit {0}) → Ok x ≡ answer_by o → o ≡ None
 accepted None x h = refl
 accepted (Some rule) x h = cc

@@ -3,12 +3,14 @@ ghost use Rattle.drep_pulser.specs.Pulsers.{GoesOnIn, IsPulserOf, done_by, total
 ghost use Rattle.gov_ids.specs.Orders.{credential_cmp};
 ghost use Rattle.gov_model.specs.Snapshot.{Snapshot};
 ghost use Rattle.ledger_state.specs.Blocks.{block_answer};
+ghost use Rattle.run_model.specs.Step.{block_checks};
 ghost use Rattle.view_map.specs.View.{frozen_of};
 
 use accounts::AccountBook;
 use coin_frac::Steps;
 use drep_pulser::{Counting, Pulser};
 use live_ledger::LiveLedger;
+use rule_checks::{Check, first_of};
 use std::marker::Brand;
 use std::sync::ledger::{Blank, Ledger};
 use tx_records::Rule;
@@ -21,19 +23,24 @@ pub fn answer(live: &LiveLedger, slot: u64, pulse: u32) -> Result<bool, Rule>
     requires early { live.now.ledger.epoch ≤ 2 ^ 62 }
     ensures { result ≡ block_answer live.now.ledger slot pulse }
 {
+    first_of(&block_checks(live, slot, pulse))?;
+    Ok(slot / u64::from(live.epoch_length()) == live.epoch() + 1)
+}
+
+/// The rules on a block. (TICK of the formal specification; the rules are own)
+pub fn block_checks(live: &LiveLedger, slot: u64, pulse: u32) -> [Check; 3]
+    requires lasting { 1 ≤ live.now.ledger.epoch_length }
+    requires early { live.now.ledger.epoch ≤ 2 ^ 62 }
+    ensures { result ≡ block_checks live.now.ledger slot pulse }
+{
     let last = live.slot();
-    if slot <= last {
-        return Err(Rule::keeping(SLOT_NOT_LATER, u128::from(last)));
-    }
     let epoch = live.epoch();
     let entered = slot / u64::from(live.epoch_length());
-    if epoch + 1 < entered {
-        return Err(Rule::keeping(EPOCH_SKIPPED, u128::from(epoch)));
-    }
-    if pulse == 0 {
-        return Err(Rule::new(ZERO_PULSE));
-    }
-    Ok(entered == epoch + 1)
+    [
+        Check::keeping(SLOT_NOT_LATER, u128::from(last), slot <= last),
+        Check::keeping(EPOCH_SKIPPED, u128::from(epoch), epoch + 1 < entered),
+        Check::plain(ZERO_PULSE, pulse == 0),
+    ]
 }
 
 /// The count after the next `n` frozen entries, or all that are left. An ended one stays.

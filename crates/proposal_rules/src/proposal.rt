@@ -1,7 +1,12 @@
-use crate::actions::check_action;
+ghost use Rattle.std.specs.Prelude.{◌≡◌};
+ghost use Rattle.proposal_rules.specs.Parts.{deposit_checks, lineage_checks};
+
+use crate::actions::{check_action, tell_action};
+use gov_actions::Action;
 use lineage::{follows_version, may_follow};
-use live_ledger::Draft;
-use rule_checks::ItemRules;
+use live_ledger::{Draft, LiveLedger};
+use no_memory::NoMemory;
+use rule_checks::{Check, ItemRules, Told, first_of};
 use tx_records::rules::{
     CANNOT_FOLLOW, PREVIOUS_WRONG, PROPOSAL_DEPOSIT_WRONG, RETURN_ACCOUNT_UNKNOWN,
     RETURN_WRONG_NETWORK,
@@ -22,24 +27,40 @@ impl<'a> ItemRules for Proposals<'a> {
     ghost checks = { λ r i p. proposal_checks r.d.now.start r.d.now.ledger i p };
 
     fn check(&self, _place: usize, p: &ProposalRecord) -> Result<(), Rule> {
-        let s = self.d.start();
-        let due = s.params().gov_action_deposit;
-        if p.deposit != due {
-            return Err(Rule::keeping(PROPOSAL_DEPOSIT_WRONG, u128::from(due)));
-        }
-        if p.account.network != s.network() {
-            return Err(Rule::new(RETURN_WRONG_NETWORK));
-        }
-        if self.d.account(&p.account.cred).is_none() {
-            return Err(Rule::new(RETURN_ACCOUNT_UNKNOWN));
-        }
+        first_of(&deposit_checks(self.d, p))?;
         check_action(self.d, &p.action)?;
-        if !may_follow(s.proposals(), &s.state().last, &p.action) {
-            return Err(Rule::new(PREVIOUS_WRONG));
-        }
-        if !follows_version(s.proposals(), s.state(), &p.action) {
-            return Err(Rule::new(CANNOT_FOLLOW));
-        }
-        Ok(())
+        first_of(&lineage_checks(self.d.start(), &p.action))
     }
+
+    fn tell(&self, place: usize, p: &ProposalRecord, told: &mut Told) -> Result<(), NoMemory> {
+        told.add_at(place, &deposit_checks(self.d, p))?;
+        tell_action(self.d, place, &p.action, told)?;
+        told.add_at(place, &lineage_checks(self.d.start(), &p.action))
+    }
+}
+
+/// The rules on the deposit and the account that gets it back.
+fn deposit_checks(d: &Draft, p: &ProposalRecord) -> [Check; 3]
+    ensures { result ≡ deposit_checks d.now.start d.now.ledger p.now }
+{
+    let s = d.start();
+    let due = s.params().gov_action_deposit;
+    let unknown = d.account(&p.account.cred).is_none();
+    [
+        Check::keeping(PROPOSAL_DEPOSIT_WRONG, u128::from(due), p.deposit != due),
+        Check::plain(RETURN_WRONG_NETWORK, p.account.network != s.network()),
+        Check::plain(RETURN_ACCOUNT_UNKNOWN, unknown),
+    ]
+}
+
+/// The rules on what the action follows.
+fn lineage_checks(s: &LiveLedger, a: &Action) -> [Check; 2]
+    ensures { result ≡ lineage_checks s.now.ledger a.now }
+{
+    let follows = may_follow(s.proposals(), &s.state().last, a);
+    let is_next = follows_version(s.proposals(), s.state(), a);
+    [
+        Check::plain(PREVIOUS_WRONG, !follows),
+        Check::plain(CANNOT_FOLLOW, !is_next),
+    ]
 }

@@ -1,37 +1,25 @@
 ghost use Rattle.std.specs.Prelude.{◌≡◌, ◌==◌, not, sum_by};
 ghost use Rattle.std.specs.List.{list_any};
-ghost use Rattle.ledger_model.specs.Checks.{answer_of};
 ghost use Rattle.ledger_model.specs.Ledger.{is_account};
 ghost use Rattle.ledger_model.specs.ProposalRules.{target_checks};
 
 use crate::policy::is_other_policy;
 use gov_ids::Account;
 use live_ledger::Draft;
-use tx_records::Rule;
+use rule_checks::Check;
 use tx_records::rules::{POLICY_WRONG, TARGET_UNKNOWN, TARGET_WRONG_NETWORK, ZERO_WITHDRAWAL};
 
-/// The rules on treasury withdrawals. The networks of all targets are checked before registrations.
-pub fn check_targets(
-    d: &Draft,
-    targets: &[(Account, u64)],
-    policy: Option<[u8; 28]>,
-) -> Result<(), Rule>
-    ensures { result ≡ answer_of (target_checks d.now.start d.now.ledger targets.now policy) }
+/// The rules on treasury withdrawals.
+pub fn target_checks(d: &Draft, targets: &[(Account, u64)], policy: Option<[u8; 28]>) -> [Check; 4]
+    ensures { result ≡ target_checks d.now.start d.now.ledger targets.now policy }
 {
     let s = d.start();
-    if is_other_policy(s, policy) {
-        return Err(Rule::new(POLICY_WRONG));
-    }
-    if is_any_beyond(s.network(), targets) {
-        return Err(Rule::new(TARGET_WRONG_NETWORK));
-    }
-    if is_any_unknown(d, targets) {
-        return Err(Rule::new(TARGET_UNKNOWN));
-    }
-    if is_nothing_paid(targets) {
-        return Err(Rule::new(ZERO_WITHDRAWAL));
-    }
-    Ok(())
+    [
+        Check::plain(POLICY_WRONG, is_other_policy(s, policy)),
+        Check::plain(TARGET_WRONG_NETWORK, is_any_beyond(s.network(), targets)),
+        Check::plain(TARGET_UNKNOWN, is_any_unknown(d, targets)),
+        Check::plain(ZERO_WITHDRAWAL, is_nothing_paid(targets)),
+    ]
 }
 
 /// Whether some target is on another network.

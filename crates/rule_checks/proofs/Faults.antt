@@ -1,5 +1,5 @@
 -- Answers of calls that may also run out of memory, one group of checks after the other.
-use Rattle.std.proofs.Common.{◌≡◌, List, Option, Some, None, Result, Ok, Err, refl, ap, sym, subst, ◌∙◌}
+use Rattle.std.proofs.Common.{◌≡◌, List, Option, Some, None, Result, Err, refl, ap, sym, subst, ◌∙◌}
 use Rattle.std.specs.Prelude.{⊤}
 use Rattle.maps.specs.Words.{or_else}
 use Rattle.tx_records.specs.declared.reply.Rule.{Rule}

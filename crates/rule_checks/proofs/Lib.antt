@@ -1,3 +1,4 @@
 pub mod Firsts
 pub mod Groups
 pub mod Faults
+pub mod Telling

@@ -1,17 +1,25 @@
 //! What every crate of rules does: it tries the rules on each item of a list, place after place.
 #![tactic(auto)]
 
-ghost use Rattle.std.specs.Prelude.{◌≡◌, ◌<◌, ◌≤◌, ◌^◌, length};
+ghost use Rattle.std.specs.Prelude.{◌≡◌, ◌<◌, ◌≤◌, ◌^◌, OnOk, length};
 ghost use Rattle.ledger_model.specs.Checks.{answer_of, per_place};
 ghost use Rattle.rule_checks.specs.Answered.{as_fault};
 ghost use Rattle.rule_checks.specs.Places.{answer_at};
+ghost use Rattle.rule_checks.specs.Told.{told_with};
 
+mod check;
+mod told;
+
+pub use check::{Check, first_of};
+use no_memory::NoMemory;
+pub use told::Told;
 use tx_records::{Rule, TxFault};
 
 /// The rules on the items of a list, with what they look at.
 pub trait ItemRules {
-    ghost use Rattle.std.specs.Prelude.{◌≡◌, ℕ, List};
-    ghost use Rattle.ledger_model.specs.Checks.{Check, answer_of};
+    ghost use Rattle.std.specs.Prelude.{◌≡◌, ◌<◌, ◌^◌, ℕ, List, OnOk, map};
+    ghost use Rattle.ledger_model.specs.Checks.{Check, answer_of, at_place};
+    ghost use Rattle.rule_checks.specs.Told.{told_with};
 
     /// What the list has.
     type Item;
@@ -21,6 +29,11 @@ pub trait ItemRules {
     /// The first rule that an item at a place of the list breaks, if any, without its place.
     fn check(&self, place: usize, item: &Self::Item) -> Result<(), Rule>
         ensures { result ≡ answer_of (checks self.now place item.now) };
+
+    /// Adds every rule that the item breaks, at its place.
+    fn tell(&self, place: usize, item: &Self::Item, told: &mut Told) -> Result<(), NoMemory>
+        requires { place < 2 ^ 32 }
+        ensures { OnOk result (told.new ≡ told_with (map (at_place place) (checks self.now place item.now)) told.old) };
 }
 
 /// The first broken rule of the first item that breaks one, with the item's place.
@@ -30,6 +43,21 @@ pub fn check_each<R: ItemRules>(rules: &R, items: &[R::Item]) -> Result<(), Rule
 {
     for (place, item) in items.iter().enumerate() {
         answer_at(rules.check(place, item), place)?;
+    }
+    Ok(())
+}
+
+/// Adds every rule that an item breaks, item after item, at its place.
+pub fn tell_each<R: ItemRules>(
+    rules: &R,
+    items: &[R::Item],
+    told: &mut Told,
+) -> Result<(), NoMemory>
+    requires { length items.now ≤ 2 ^ 32 }
+    ensures { OnOk result (told.new ≡ told_with (per_place (R.checks rules.now) items.now) told.old) }
+{
+    for (place, item) in items.iter().enumerate() {
+        rules.tell(place, item, told)?;
     }
     Ok(())
 }

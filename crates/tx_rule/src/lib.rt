@@ -14,9 +14,11 @@ ghost use Rattle.tx_records.specs.TxLimits.{is_within_limits};
 ghost use Rattle.tx_rule.specs.Judged.{IsJudged};
 ghost use Rattle.utxo_rules.specs.Spent.{IsSpent};
 
+mod broken;
 mod certs;
 mod drafted;
 
+pub use crate::broken::{all_broken, tell_broken};
 use crate::certs::certify;
 use crate::drafted::check_drafted;
 use cert_deleg::of_draft_changes::Changes;
@@ -26,6 +28,7 @@ use govcert::refresh;
 pub use ledger_state as of_ledger_state;
 use ledger_state::LedgerState;
 use no_memory::NoMemory;
+pub use rule_checks as of_rule_checks;
 use std::alloc::Global;
 use tx_records::{Reply, Rule, Scripts, Tx, TxFault};
 use utxo_rules::{Spent, check_spent};

@@ -5,3 +5,5 @@ pub mod Stops
 pub mod Uneven
 pub mod SpentSums
 pub mod Assets
+pub mod Raised
+pub mod Telling

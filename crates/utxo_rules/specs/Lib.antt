@@ -1,3 +1,4 @@
 pub mod Repeated
 pub mod Spent
 pub mod Plain
+pub mod Raised

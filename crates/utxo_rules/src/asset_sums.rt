@@ -129,7 +129,7 @@ pub fn lowest_taken(s: &LiveLedger, refs: &[OutRef]) -> Option<(AssetId, u128)>
 }
 
 /// The assets of the unspent output at a reference; no output counts as no asset.
-fn assets_at<'a>(s: &'a LiveLedger, at: &OutRef) -> &'a [(AssetId, u64)]
+pub fn assets_at<'a>(s: &'a LiveLedger, at: &OutRef) -> &'a [(AssetId, u64)]
     ensures value { result.now ≡ assets_at s.now.ledger at.now }
     ensures sound { IsSound result.now }
 {
@@ -151,7 +151,7 @@ fn give(balance: &mut AssetBalance, outputs: &[TxOutput]) -> Result<(), NoMemory
 }
 
 /// An index in 32 bits, as it is reported.
-fn told_place(place: usize) -> u32
+pub fn told_place(place: usize) -> u32
     ensures { result ≡ min place u32.MAX }
 {
     place.min(u32::MAX as usize) as u32

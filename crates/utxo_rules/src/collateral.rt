@@ -5,13 +5,14 @@ ghost use Rattle.ledger_model.specs.UtxoRules.{collateral_sum_checks, has_script
 ghost use Rattle.maps.specs.Words.{is_empty};
 ghost use Rattle.rule_checks.specs.Answered.{IsAnswered};
 ghost use Rattle.tx_records.specs.TxLimits.{is_within_limits};
+ghost use Rattle.utxo_rules.specs.Repeated.{collateral_checks_by, is_at};
 
 use crate::amounts::spent_by;
 use crate::asset_sums::{lowest_taken, taken_by};
 use gov_ids::{AssetId, CredKind, OutRef};
 use live_ledger::LiveLedger;
 use no_memory::NoMemory;
-use rule_checks::{ItemRules, check_each};
+use rule_checks::{Check, ItemRules, Told, as_fault, check_each, first_of};
 use std::alloc::Global;
 use tx_records::rules::{
     COLLATERAL_ASSETS_WRONG, COLLATERAL_MISSING, COLLATERAL_NOT_KEY, COLLATERAL_TOO_SMALL,
@@ -27,25 +28,49 @@ fn has_scripts(tx: &Tx) -> bool
 }
 
 /// The rules on the list of collateral.
+pub fn collateral_list_checks(s: &LiveLedger, tx: &Tx) -> [Check; 2]
+    ensures { result ≡ collateral_list_checks s.now.ledger tx.now }
+{
+    let most = s.params().max_collateral_inputs;
+    let too_many = tx.collateral.len() > usize::from(most);
+    [
+        Check::keeping(TOO_MANY_COLLATERAL, u128::from(most), too_many),
+        Check::plain(NO_COLLATERAL, has_scripts(tx) && tx.collateral.is_empty()),
+    ]
+}
+
+/// The first broken rule on the list of collateral.
 pub fn check_collateral_list(s: &LiveLedger, tx: &Tx) -> Result<(), Rule>
     ensures { result ≡ answer_of (collateral_list_checks s.now.ledger tx.now) }
 {
-    let most = s.params().max_collateral_inputs;
-    if tx.collateral.len() > usize::from(most) {
-        return Err(Rule::keeping(TOO_MANY_COLLATERAL, u128::from(most)));
-    }
-    if has_scripts(tx) && tx.collateral.is_empty() {
-        return Err(Rule::new(NO_COLLATERAL));
-    }
-    Ok(())
+    first_of(&collateral_list_checks(s, tx))
 }
 
-/// The rules on each collateral input up to the first repeated one, which breaks one of them.
+/// The rules on each collateral input, where at most the one at this place is repeated.
 #[derive(Drop)]
-struct Collateral<'a> {
-    s: &'a LiveLedger,
-    tx: &'a Tx,
-    repeated: Option<usize>,
+pub struct Collateral<'a> {
+    pub s: &'a LiveLedger,
+    pub tx: &'a Tx,
+    pub repeated: Option<usize>,
+}
+
+impl<'a> Collateral<'a> {
+    /// The rules on the collateral input at a place.
+    fn checks_at(&self, place: usize, at: &OutRef) -> [Check; 2]
+        ensures { result ≡ collateral_checks_by self.now.s.now.ledger self.now.tx.now
+            (is_at self.now.repeated place) at.now }
+    {
+        let output = self.s.outputs().get(at);
+        let is_script = output.is_some_and(|output| matches!(
+            output.address.payment.kind,
+            CredKind::Script
+        ));
+        let is_repeated = self.repeated == Some(place);
+        [
+            Check::plain(COLLATERAL_MISSING, output.is_none() || is_repeated),
+            Check::plain(COLLATERAL_NOT_KEY, has_scripts(self.tx) && is_script),
+        ]
+    }
 }
 
 impl<'a> ItemRules for Collateral<'a> {
@@ -56,20 +81,15 @@ impl<'a> ItemRules for Collateral<'a> {
     ghost checks = { λ r i at. collateral_checks_by r.s.now.ledger r.tx.now (is_at r.repeated i) at };
 
     fn check(&self, place: usize, at: &OutRef) -> Result<(), Rule> {
-        let Some(output) = self.s.outputs().get(at) else {
-            return Err(Rule::new(COLLATERAL_MISSING));
-        };
-        if self.repeated == Some(place) {
-            return Err(Rule::new(COLLATERAL_MISSING));
-        }
-        if has_scripts(self.tx) && matches!(output.address.payment.kind, CredKind::Script) {
-            return Err(Rule::new(COLLATERAL_NOT_KEY));
-        }
-        Ok(())
+        first_of(&self.checks_at(place, at))
+    }
+
+    fn tell(&self, place: usize, at: &OutRef, told: &mut Told) -> Result<(), NoMemory> {
+        told.add_at(place, &self.checks_at(place, at))
     }
 }
 
-/// The rules on each collateral input.
+/// The first broken rule on a collateral input, up to the first repeated one.
 pub fn check_collateral(s: &LiveLedger, tx: &Tx) -> Result<(), Rule>
     requires { is_within_limits tx.now ≡ true }
     ensures { result ≡ answer_of (per_place (collateral_checks s.now.ledger tx.now) tx.now.collateral) }
@@ -79,9 +99,9 @@ pub fn check_collateral(s: &LiveLedger, tx: &Tx) -> Result<(), Rule>
 }
 
 /// The rule on what the collateral holds: without the return, it must cover its part of the fee.
-pub fn check_collateral_sum(s: &LiveLedger, tx: &Tx) -> Result<(), Rule>
+pub fn collateral_sum_checks(s: &LiveLedger, tx: &Tx) -> [Check; 1]
     requires { is_within_limits tx.now ≡ true }
-    ensures { result ≡ answer_of (collateral_sum_checks s.now.ledger tx.now) }
+    ensures { result ≡ collateral_sum_checks s.now.ledger tx.now }
 {
     let sum = spent_by(s, tx.collateral.as_slice()).lovelace;
     let returned = tx
@@ -90,24 +110,38 @@ pub fn check_collateral_sum(s: &LiveLedger, tx: &Tx) -> Result<(), Rule>
         .map_or(0, |output| u128::from(output.lovelace));
     let left = sum.saturating_sub(returned);
     let wanted = u128::from(tx.fee) * u128::from(s.params().collateral_percentage);
-    if has_scripts(tx) && (sum < returned || left * 100 < wanted) {
-        return Err(Rule::keeping(COLLATERAL_TOO_SMALL, left));
-    }
-    Ok(())
+    let too_small = has_scripts(tx) && (sum < returned || left * 100 < wanted);
+    [Check::keeping(COLLATERAL_TOO_SMALL, left, too_small)]
+}
+
+/// The same, as an answer.
+pub fn check_collateral_sum(s: &LiveLedger, tx: &Tx) -> Result<(), Rule>
+    requires { is_within_limits tx.now ≡ true }
+    ensures { result ≡ answer_of (collateral_sum_checks s.now.ledger tx.now) }
+{
+    first_of(&collateral_sum_checks(s, tx))
 }
 
 /// The rule on the assets of the collateral, all of which come back with its return.
+pub fn collateral_assets_checks(
+    alloc: Global,
+    s: &LiveLedger,
+    tx: &Tx,
+) -> Result<[Check; 1], NoMemory>
+    ensures checks { IfOk result (λ checks. checks ≡ collateral_assets_checks s.now.ledger tx.now) }
+    ensures memory { OnErr result (is_empty (returned_assets tx.now) ≡ false) }
+{
+    let is_wrong = has_scripts(tx) && is_collateral_uneven(alloc, s, tx)?;
+    Ok([Check::plain(COLLATERAL_ASSETS_WRONG, is_wrong)])
+}
+
+/// The same, as an answer.
 pub fn check_collateral_assets(alloc: Global, s: &LiveLedger, tx: &Tx) -> Result<(), TxFault>
     ensures rule { IsAnswered (first_among (collateral_assets_checks s.now.ledger tx.now)) result }
     ensures memory { result ≡ Err TxFault.NoMemory → is_empty (returned_assets tx.now) ≡ false }
 {
-    if !has_scripts(tx) {
-        return Ok(());
-    }
-    if is_collateral_uneven(alloc, s, tx)? {
-        return Err(TxFault::Refused(Rule::new(COLLATERAL_ASSETS_WRONG)));
-    }
-    Ok(())
+    let checks = collateral_assets_checks(alloc, s, tx)?;
+    as_fault(first_of(&checks))
 }
 
 /// Whether the collateral holds more or less of an asset than its return gives back.

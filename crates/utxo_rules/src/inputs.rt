@@ -1,31 +1,53 @@
-ghost use Rattle.std.specs.Prelude.{◌≡◌, ◌<◌, ◌≤◌, ◌^◌, true, [], ◌∷◌, IfOk, length};
-ghost use Rattle.ledger_model.specs.Checks.{answer_of, per_place};
+ghost use Rattle.std.specs.Prelude.{◌≡◌, ◌<◌, ◌≤◌, ◌^◌, true, [], ◌∷◌, IfOk, is_none, length};
+ghost use Rattle.ledger_model.specs.Ledger.{output_at};
+ghost use Rattle.ledger_model.specs.Checks.{answer_of, breaks, per_place};
 ghost use Rattle.ledger_model.specs.UtxoRules.{id_checks, input_checks};
 ghost use Rattle.rule_checks.specs.Places.{answer_at};
 ghost use Rattle.tx_records.specs.TxLimits.{is_within_limits};
+ghost use Rattle.tx_records.specs.declared.rules.TheConstants.{INPUT_MISSING, INPUT_REPEATED};
 ghost use Rattle.utxo_rules.specs.Repeated.{input_checks_by, is_at};
 ghost use Rattle.utxo_rules.specs.Spent.{IsSpent, without_value};
 
 use crate::holdings::{NOTHING, Spent, both, held_in};
 use gov_ids::OutRef;
 use live_ledger::LiveLedger;
+use rule_checks::{Check, answer_at, first_of};
 use tx_records::rules::{INPUT_MISSING, INPUT_REPEATED, NO_INPUTS, NOT_WITNESSED, TX_ID_USED};
 use tx_records::{Rule, Tx};
 
 /// The rules on the id, the witnesses and the presence of inputs.
+pub fn id_checks(s: &LiveLedger, tx: &Tx) -> [Check; 3]
+    ensures { result ≡ id_checks s.now.ledger tx.now }
+{
+    [
+        Check::plain(TX_ID_USED, s.outputs().used(&tx.id)),
+        Check::plain(NOT_WITNESSED, !tx.witnessed),
+        Check::plain(NO_INPUTS, tx.inputs.is_empty()),
+    ]
+}
+
+/// The first broken rule on the id, the witnesses and the presence of inputs.
 pub fn check_id(s: &LiveLedger, tx: &Tx) -> Result<(), Rule>
     ensures { result ≡ answer_of (id_checks s.now.ledger tx.now) }
 {
-    if s.outputs().used(&tx.id) {
-        return Err(Rule::new(TX_ID_USED));
-    }
-    if !tx.witnessed {
-        return Err(Rule::new(NOT_WITNESSED));
-    }
-    if tx.inputs.is_empty() {
-        return Err(Rule::new(NO_INPUTS));
-    }
-    Ok(())
+    first_of(&id_checks(s, tx))
+}
+
+/// Whether no unspent output is at a reference.
+pub fn is_missing(s: &LiveLedger, at: &OutRef) -> bool
+    ensures { result ≡ is_none (output_at s.now.ledger at.now) }
+{
+    s.outputs().get(at).is_none()
+}
+
+/// The rules on an input, by whether no unspent output is at its reference, and it is repeated.
+pub fn input_checks(missing: bool, repeated: bool) -> [Check; 2]
+    ensures { result ≡ breaks INPUT_MISSING missing ∷ breaks INPUT_REPEATED repeated ∷ [] }
+{
+    [
+        Check::plain(INPUT_MISSING, missing),
+        Check::plain(INPUT_REPEATED, repeated),
+    ]
 }
 
 /// What an input at an index holds, or the first rule that it breaks, with its index.
@@ -40,13 +62,13 @@ fn held_at(
         answer_at place (answer_of (input_checks_by s.now.ledger (is_at repeated place) at.now)) }
     ensures held { IfOk result (IsSpent s.now.ledger (at.now ∷ [])) }
 {
-    let Some(output) = s.outputs().get(at) else {
-        return Err(Rule::new(INPUT_MISSING).at(place as u32));
-    };
-    if repeated == Some(place) {
-        return Err(Rule::new(INPUT_REPEATED).at(place as u32));
+    let output = s.outputs().get(at);
+    let checks = input_checks(output.is_none(), repeated == Some(place));
+    answer_at(first_of(&checks), place)?;
+    match output {
+        Some(output) => Ok(held_in(output)),
+        None => Ok(NOTHING),
     }
-    Ok(held_in(output))
 }
 
 /// What these inputs hold, or the first rule that one of them breaks.

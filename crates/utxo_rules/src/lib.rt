@@ -1,15 +1,15 @@
 //! The rules on what a transaction spends and makes, and the rule on its balance.
 #![tactic(auto)]
 
-ghost use Rattle.std.specs.Prelude.{◌≡◌, ◌≤◌, ◌*◌, true, false, IfOk, length, sum_by};
+ghost use Rattle.std.specs.Prelude.{◌≡◌, true, false, IfOk};
 ghost use Rattle.ledger_model.specs.Checks.{answer_of, first_among};
-ghost use Rattle.ledger_model.specs.UtxoRules.{lovelace_at, returned_assets, utxo_checks};
+ghost use Rattle.ledger_model.specs.UtxoRules.{returned_assets, utxo_checks};
 ghost use Rattle.ledger_model.specs.Broken.{balance_checks};
 ghost use Rattle.ledger_model.specs.Flows.{flows_of_certs, hand, sink, source, sum_at};
 ghost use Rattle.maps.specs.Words.{is_empty};
 ghost use Rattle.rule_checks.specs.Answered.{IsAnswered};
 ghost use Rattle.tx_records.specs.TxLimits.{is_within_limits};
-ghost use Rattle.utxo_rules.specs.Plain.{lovelace_checks, names_assets, plain_checks};
+ghost use Rattle.utxo_rules.specs.Plain.{names_assets, plain_checks};
 ghost use Rattle.utxo_rules.specs.Spent.{IsSpent, without_value};
 
 mod amounts;
@@ -18,21 +18,27 @@ mod collateral;
 mod holdings;
 mod inputs;
 mod limits;
+mod lovelace;
 mod outputs;
+mod told_assets;
+mod told_balance;
+mod told_rules;
 
-use crate::amounts::{lovelace_made, lovelace_proposed, lovelace_withdrawn, spent_by};
+use crate::amounts::spent_by;
 use crate::asset_sums::{check_assets, moves_assets};
 use crate::collateral::{
     check_collateral, check_collateral_assets, check_collateral_list, check_collateral_sum,
 };
 use crate::inputs::{check_id, check_inputs};
 use crate::limits::{check_fee, check_treasury};
+use crate::lovelace::balance_of_lovelace;
 use crate::outputs::check_outputs;
 pub use holdings::Spent;
 use live_ledger::{Draft, LiveLedger};
 use rule_checks::as_fault;
 use std::alloc::Global;
-use tx_records::rules::NOT_BALANCED;
+pub use told_balance::tell_balance;
+pub use told_rules::tell_spent;
 use tx_records::{Rule, Tx, TxFault};
 
 /// The first broken rule on id, inputs, size, time, fee, outputs, collateral with its assets, and
@@ -112,26 +118,4 @@ pub fn balance_of_spent(alloc: Global, d: &Draft, tx: &Tx, spent: Spent) -> Resu
     } else {
         Ok(())
     }
-}
-
-/// Whether as much lovelace is taken as is given, if the inputs hold so much.
-fn balance_of_lovelace(d: &Draft, tx: &Tx, spent: u128) -> Result<(), Rule>
-    requires within { is_within_limits tx.now ≡ true }
-    requires refunds { d.now.refunds ≡ sum_at sink hand (flows_of_certs d.now.start tx.now) }
-    requires deposits { d.now.deposits ≡ sum_at source hand (flows_of_certs d.now.start tx.now) }
-    requires sum { spent ≡ sum_by (lovelace_at d.now.start) tx.now.inputs }
-    requires fits { spent ≤ length tx.now.inputs * u64.MAX }
-    ensures { result ≡ answer_of (lovelace_checks d.now.start tx.now) }
-{
-    let (refunds, deposits) = d.moved();
-    let consumed = spent + lovelace_withdrawn(tx.withdrawals.as_slice()) + refunds;
-    let produced = lovelace_made(tx.outputs.as_slice())
-        + u128::from(tx.fee)
-        + u128::from(tx.donation)
-        + deposits
-        + lovelace_proposed(tx.proposals.as_slice());
-    if consumed != produced {
-        return Err(Rule::keeping_two(NOT_BALANCED, consumed, produced));
-    }
-    Ok(())
 }

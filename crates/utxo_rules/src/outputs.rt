@@ -1,10 +1,12 @@
-ghost use Rattle.std.specs.Prelude.{◌≡◌, ◌++◌, true, option_to_list};
+ghost use Rattle.std.specs.Prelude.{◌≡◌, ◌++◌, true, OnOk, option_to_list};
 ghost use Rattle.ledger_model.specs.Checks.{answer_of, per_place};
 ghost use Rattle.ledger_model.specs.UtxoRules.{least_lovelace, output_checks};
+ghost use Rattle.rule_checks.specs.Told.{told_with};
 ghost use Rattle.tx_records.specs.TxLimits.{is_within_limits};
 
 use live_ledger::LiveLedger;
-use rule_checks::{ItemRules, answer_at, check_each};
+use no_memory::NoMemory;
+use rule_checks::{Check, ItemRules, Told, answer_at, check_each, first_of, tell_each};
 use tx_records::rules::{OUTPUT_TOO_SMALL, OUTPUT_WRONG_NETWORK};
 use tx_records::{Rule, Tx, TxOutput};
 
@@ -19,6 +21,21 @@ struct Outputs<'a> {
     tx: &'a Tx,
 }
 
+impl<'a> Outputs<'a> {
+    /// The rules on the output at a place.
+    fn checks_at(&self, place: usize, output: &TxOutput) -> [Check; 2]
+        ensures { result ≡ output_checks self.now.s.now.ledger self.now.tx.now place output.now }
+    {
+        let least = least_lovelace(self.s, output);
+        let too_small = u128::from(output.lovelace) < least;
+        let elsewhere = output.address.network != self.s.network();
+        [
+            Check::keeping(OUTPUT_TOO_SMALL, least, too_small),
+            Check::plain(OUTPUT_WRONG_NETWORK, elsewhere),
+        ]
+    }
+}
+
 impl<'a> ItemRules for Outputs<'a> {
     ghost use Rattle.ledger_model.specs.UtxoRules.{output_checks};
 
@@ -26,15 +43,12 @@ impl<'a> ItemRules for Outputs<'a> {
 
     ghost checks = { λ r i output. output_checks r.s.now.ledger r.tx.now i output };
 
-    fn check(&self, _place: usize, output: &TxOutput) -> Result<(), Rule> {
-        let least = least_lovelace(self.s, output);
-        if u128::from(output.lovelace) < least {
-            return Err(Rule::keeping(OUTPUT_TOO_SMALL, least));
-        }
-        if output.address.network != self.s.network() {
-            return Err(Rule::new(OUTPUT_WRONG_NETWORK));
-        }
-        Ok(())
+    fn check(&self, place: usize, output: &TxOutput) -> Result<(), Rule> {
+        first_of(&self.checks_at(place, output))
+    }
+
+    fn tell(&self, place: usize, output: &TxOutput, told: &mut Told) -> Result<(), NoMemory> {
+        told.add_at(place, &self.checks_at(place, output))
     }
 }
 
@@ -51,6 +65,20 @@ pub fn check_outputs(s: &LiveLedger, tx: &Tx) -> Result<(), Rule>
             let place = tx.outputs.len();
             answer_at(rules.check(place, output), place)
         }
+        None => Ok(()),
+    }
+}
+
+/// Adds every broken rule on an output or on the collateral return.
+pub fn tell_outputs(s: &LiveLedger, tx: &Tx, told: &mut Told) -> Result<(), NoMemory>
+    requires { is_within_limits tx.now ≡ true }
+    ensures { OnOk result (told.new ≡ told_with (per_place
+        (output_checks s.now.ledger tx.now) (tx.now.outputs ++ option_to_list tx.now.collateral_return)) told.old) }
+{
+    let rules = Outputs { s, tx };
+    tell_each(&rules, tx.outputs.as_slice(), told)?;
+    match &tx.collateral_return {
+        Some(output) => rules.tell(tx.outputs.len(), output, told),
         None => Ok(()),
     }
 }

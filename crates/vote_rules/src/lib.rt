@@ -1,55 +1,20 @@
 //! The rules on votes.
 #![tactic(auto)]
 
-ghost use Rattle.std.specs.Prelude.{◌≡◌, true};
+ghost use Rattle.std.specs.Prelude.{◌≡◌, OnOk, true};
 ghost use Rattle.ledger_model.specs.Checks.{answer_of, per_place};
 ghost use Rattle.ledger_model.specs.ProposalRules.{vote_checks};
+ghost use Rattle.rule_checks.specs.Told.{told_with};
 ghost use Rattle.tx_records.specs.TxLimits.{is_within_limits};
 
+mod vote;
 mod voter;
 
-use crate::voter::{is_known_voter, is_unseated};
-use gov_actions::may_vote;
+use crate::vote::Votes;
 use live_ledger::Draft;
-use rule_checks::{ItemRules, check_each};
-use tx_records::rules::{
-    ACTION_UNKNOWN, VOTER_NOT_ALLOWED, VOTER_NOT_SEATED, VOTER_UNKNOWN, VOTING_EXPIRED,
-};
-use tx_records::{Rule, Tx, VoteRecord};
-
-/// The rules on each vote.
-#[derive(Drop)]
-struct Votes<'a> {
-    d: &'a Draft<'a>,
-}
-
-impl<'a> ItemRules for Votes<'a> {
-    ghost use Rattle.ledger_model.specs.ProposalRules.{vote_checks};
-
-    type Item = VoteRecord;
-
-    ghost checks = { λ r i v. vote_checks r.d.now.start r.d.now.ledger i v };
-
-    fn check(&self, _place: usize, v: &VoteRecord) -> Result<(), Rule> {
-        let s = self.d.start();
-        let Some(proposal) = s.proposals().get(&v.action) else {
-            return Err(Rule::new(ACTION_UNKNOWN));
-        };
-        if !is_known_voter(self.d, &v.voter) {
-            return Err(Rule::new(VOTER_UNKNOWN));
-        }
-        if !may_vote(&v.voter, proposal.action()) {
-            return Err(Rule::new(VOTER_NOT_ALLOWED));
-        }
-        if proposal.expires_after() < s.epoch() {
-            return Err(Rule::new(VOTING_EXPIRED));
-        }
-        if s.is_from_version_eleven() && is_unseated(self.d, &v.voter) {
-            return Err(Rule::new(VOTER_NOT_SEATED));
-        }
-        Ok(())
-    }
-}
+use no_memory::NoMemory;
+use rule_checks::{Told, check_each, tell_each};
+use tx_records::{Rule, Tx};
 
 /// The first broken rule on votes, if any, with the vote's index. It takes no memory. Voters are of
 /// the draft after all certificates; live proposals are of the ledger before the transaction.
@@ -59,4 +24,14 @@ pub fn check(d: &Draft, tx: &Tx) -> Result<(), Rule>
     ensures { result ≡ answer_of (per_place (vote_checks d.now.start d.now.ledger) tx.now.votes) }
 {
     check_each(&Votes { d }, tx.votes.as_slice())
+}
+
+/// Adds every broken rule on votes, with the vote's index; of the same draft and the same ledger.
+/// (CIP-1694, Votes; GOV of the formal specification; the list of all is own)
+pub fn tell(d: &Draft, tx: &Tx, told: &mut Told) -> Result<(), NoMemory>
+    requires { is_within_limits tx.now ≡ true }
+    ensures { OnOk result (told.new ≡
+        told_with (per_place (vote_checks d.now.start d.now.ledger) tx.now.votes) told.old) }
+{
+    tell_each(&Votes { d }, tx.votes.as_slice(), told)
 }

@@ -1,15 +1,17 @@
-ghost use Rattle.std.specs.Prelude.{◌≡◌, ◌<◌, ◌^◌, IfOk, None, Some, is_some, true};
+ghost use Rattle.std.specs.Prelude.{◌≡◌, ◌<◌, ◌^◌, IfOk, None, OnOk, Some, is_some, true};
 ghost use Rattle.ledger_model.specs.Checks.{answer_of, first_among};
 ghost use Rattle.ledger_state.specs.Blocks.{StaysInEpoch, block_answer};
+ghost use Rattle.rule_checks.specs.Told.{told_with};
 ghost use Rattle.run_model.specs.SoundWorld.{IsSoundWorld};
 ghost use Rattle.run_model.specs.Step.{block_checks, in_order_of_credential, pulsed, reward_checks, step};
 ghost use Rattle.tx_records.specs.RecordLimits.{is_within_limits};
 ghost use Rattle.tx_records.specs.declared.record.Record.TheVariants as records;
 
 use super::LedgerState;
-use crate::blocks::{advanced, answer};
+use crate::blocks::{advanced, answer, block_checks};
 use crate::rewards::{given_by, in_order, taken_by};
 use coin_frac::NoMemory;
+use rule_checks::{Check, Told, first_of};
 use tx_records::rules::{
     FEES_TOO_SMALL, RESERVES_TOO_SMALL, REWARDS_ALREADY_GIVEN, REWARDS_NOT_BALANCED, WRONG_EPOCH,
 };
@@ -22,6 +24,14 @@ impl LedgerState {
         ensures { result ≡ block_answer self.now.ledger slot pulse }
     {
         answer(self.live(), slot, pulse)
+    }
+
+    /// Adds every rule that such a block breaks.
+    /// (TICK of the formal specification; the rules are own)
+    pub fn tell_block(&self, slot: u64, pulse: u32, told: &mut Told) -> Result<(), NoMemory>
+        ensures { OnOk result (told.new ≡ told_with (block_checks self.now.ledger slot pulse) told.old) }
+    {
+        told.add(&block_checks(self.live(), slot, pulse))
     }
 
     /// The state after a block within the epoch that counts the next `pulse` entries; its reply.
@@ -78,27 +88,35 @@ impl LedgerState {
         requires { is_within_limits (records.Rewards update.now) ≡ true }
         ensures { result ≡ answer_of (reward_checks self.now update.now) }
     {
+        first_of(&self.reward_checks(update))
+    }
+
+    /// Adds every rule that a reward update breaks.
+    /// (RewardUpdate of the formal specification; that it is a record is own)
+    pub fn tell_rewards(&self, update: &Rewards, told: &mut Told) -> Result<(), NoMemory>
+        requires { is_within_limits (records.Rewards update.now) ≡ true }
+        ensures { OnOk result (told.new ≡ told_with (reward_checks self.now update.now) told.old) }
+    {
+        told.add(&self.reward_checks(update))
+    }
+
+    /// The rules on a reward update.
+    fn reward_checks(&self, update: &Rewards) -> [Check; 5]
+        requires { is_within_limits (records.Rewards update.now) ≡ true }
+        ensures { result ≡ reward_checks self.now update.now }
+    {
         let epoch = self.epoch();
-        if update.epoch != epoch {
-            return Err(Rule::keeping(WRONG_EPOCH, u128::from(epoch)));
-        }
-        if self.has_pending() {
-            return Err(Rule::new(REWARDS_ALREADY_GIVEN));
-        }
-        let taken = taken_by(update);
-        let given = given_by(update);
-        if taken != given {
-            return Err(Rule::keeping_two(REWARDS_NOT_BALANCED, taken, given));
-        }
-        let reserves = self.reserves();
-        if reserves < update.from_reserves {
-            return Err(Rule::keeping(RESERVES_TOO_SMALL, u128::from(reserves)));
-        }
-        let fees = self.fees();
-        if fees < update.from_fees {
-            return Err(Rule::keeping(FEES_TOO_SMALL, u128::from(fees)));
-        }
-        Ok(())
+        let (taken, given) = (taken_by(update), given_by(update));
+        let (reserves, fees) = (self.reserves(), self.fees());
+        let lacks_reserves = reserves < update.from_reserves;
+        let lacks_fees = fees < update.from_fees;
+        [
+            Check::keeping(WRONG_EPOCH, u128::from(epoch), update.epoch != epoch),
+            Check::plain(REWARDS_ALREADY_GIVEN, self.has_pending()),
+            Check::keeping_two(REWARDS_NOT_BALANCED, taken, given, taken != given),
+            Check::keeping(RESERVES_TOO_SMALL, u128::from(reserves), lacks_reserves),
+            Check::keeping(FEES_TOO_SMALL, u128::from(fees), lacks_fees),
+        ]
     }
 
     /// Makes a reward update pending, its rewards by credential; returns the state and the reply.
