@@ -1,0 +1,3 @@
+pub mod Plays
+pub mod Turns
+pub mod Laws

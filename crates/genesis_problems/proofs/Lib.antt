@@ -1,0 +1,5 @@
+pub mod Telling
+pub mod Indexes
+pub mod Listings
+pub mod Firsts
+pub mod Rules

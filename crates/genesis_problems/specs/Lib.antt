@@ -1,0 +1,3 @@
+pub mod Problems
+pub mod Laws
+pub mod Listing
