@@ -1,5 +1,5 @@
 -- What a run that is as `RunsAs` says comes to, by the command that its words name.
-use Rattle.std.proofs.Common.{◌≡◌, ℕ, ◌+◌, ◌<◌, ◌≤◌, ◌⊎◌, true, false, List, ◌++◌, Option, Some, None, Result, Ok, Err, refl, ap, sym, subst, ◌∙◌, inl, inr, length, arith}
+use Rattle.std.proofs.Common.{◌≡◌, ℕ, ◌+◌, ◌<◌, ◌≤◌, ◌⊎◌, false, List, ◌++◌, Option, Some, None, Result, Ok, Err, refl, ap, sym, subst, ◌∙◌, inl, inr, length, arith}
 use Rattle.std.proofs.lemmas.List.{length-append}
 use Rattle.std.specs.Prelude.{◌↔◌, IsTrue, is_some}
 use Rattle.byte_lines.specs.Faults.{Rose}
@@ -12,18 +12,21 @@ use Rattle.load_options.specs.declared.table.Command.TheVariants as commands
 use Rattle.replay_loop.specs.declared.status.Status.{Status}
 use Rattle.replay_loop.specs.declared.status.Status.TheVariants as statuses
 use Rattle.line_runs.specs.Runs.{Run}
+use Rattle.explain_loop.specs.Laws.{ExplainIsComplete}
+use Rattle.explain_loop.specs.Plays.{explain_run}
 use Rattle.follow_loop.specs.Laws.{FollowIsComplete}
 use Rattle.follow_loop.specs.Plays.{follow_run}
-use Rattle.command_runs.specs.Clauses.{CertifiesFollow, ChecksFollow, CompleteFollows, FaultsFollow, FollowsFollow, LoadsFollow, ReplaysFollow, ResumesFollow, TellsFollow, UnreadFollows, UsageFollows}
+use Rattle.command_runs.specs.Clauses.{CertifiesFollow, ChecksFollow, CompleteFollows, ExplainsFollow, FaultsFollow, FollowsFollow, LoadsFollow, ReplaysFollow, ResumesFollow, TellsFollow, UnreadFollows, UsageFollows}
+use Rattle.command_runs.specs.Explained.{IsExplainRun}
 use Rattle.command_runs.specs.Followed.{IsFollowRun}
 use Rattle.command_runs.specs.RunsAs.{HasEnded, Runs}
-use Rattle.command_runs.specs.Tasks.{Checks, Follows, Loads, Nothing, Reads, Resumes, Task, checks, follows, is_done, reads, resumes, task_of, task_of_words}
+use Rattle.command_runs.specs.Tasks.{Checks, Explains, Follows, Loads, Nothing, Reads, Resumes, Task, checks, explains, follows, is_done, reads, resumes, task_of, task_of_words}
 use Rattle.certificate_laws.specs.Laws.{CertificatesAreRight}
 use Rattle.replay_loop.specs.Certificates.{DoneCertifyIsWhole, certificates_told}
 use Rattle.replay_loop.specs.Endings.{IsReplayed}
 use Rattle.command_runs.specs.Inputs.{HasGoodInput, IsGoodCheck, IsGoodFollow, IsGoodResume, IsGoodStream}
-use Rattle.command_runs.specs.Endings.{CheckResult, HasCertified, IsCheckRun, IsResumeRun, status_of_check, status_of_resume}
-use Rattle.check_loop.specs.Checked.{Ends, IsChecked}
+use Rattle.command_runs.specs.Endings.{CheckResult, IsCheckRun, IsResumeRun, status_of_check, status_of_resume}
+use Rattle.check_loop.specs.Checked.{IsChecked}
 use Rattle.check_loop.specs.declared.fault.CheckFault.TheVariants as check_faults
 use Rattle.check_loop.specs.Right.{IsCertificateText}
 use Rattle.resume_laws.specs.Laws.{ResumeIsComplete}
@@ -121,6 +124,7 @@ module _ {Source Sink : Type 0} (ports : Ports Source Sink) (status : Status) (b
 
   pub usage_by : (t : Task) → Runs ports before after status t → (status ≡ statuses.Usage) ↔ (is_done t ≡ false)
   usage_by (Reads told) runs = (λ e. absurd (usage_of_read told runs e), λ e. cc)
+  usage_by Explains runs = (λ e. absurd (usage_of_lines explain_run runs e), λ e. cc)
   usage_by Follows runs = (λ e. absurd (usage_of_lines follow_run runs e), λ e. cc)
   usage_by Resumes runs = (λ e. absurd (usage_of_resume runs e), λ e. cc)
   usage_by Checks runs = (λ e. absurd (usage_of_check runs e), λ e. cc)
@@ -129,6 +133,7 @@ module _ {Source Sink : Type 0} (ports : Ports Source Sink) (status : Status) (b
 
   pub unread_by : (t : Task) → Runs ports before after status t → status ≡ statuses.Usage → (after.0 ≡ before.0) × (after.1 ≡ before.1)
   unread_by (Reads told) runs e = absurd (usage_of_read told runs e)
+  unread_by Explains runs e = absurd (usage_of_lines explain_run runs e)
   unread_by Follows runs e = absurd (usage_of_lines follow_run runs e)
   unread_by Resumes runs e = absurd (usage_of_resume runs e)
   unread_by Checks runs e = absurd (usage_of_check runs e)
@@ -140,6 +145,10 @@ module _ {Source Sink : Type 0} (ports : Ports Source Sink) (status : Status) (b
   told_by : (told : Telling (Unit {0})) (bytes : List ℕ) → ports.left before.0 ≡ Some bytes → IsReadRun ports before after status told tt
       → IsToldRun told status bytes (ports.left after.0) (ports.taken before.1) (ports.taken after.1)
   told_by told bytes given runs = record { ended = runs.ended; is = runs.is; run = runs.run bytes given }
+
+  explained_by : (bytes : List ℕ) → ports.left before.0 ≡ Some bytes → IsLineRun ports before after status explain_run
+      → IsExplainRun status bytes (ports.left after.0) (ports.taken before.1) (ports.taken after.1)
+  explained_by bytes given runs = record { ended = runs.ended; is = runs.is; run = runs.run bytes given }
 
   followed_by : (bytes : List ℕ) → ports.left before.0 ≡ Some bytes → IsLineRun ports before after status follow_run
       → IsFollowRun status bytes (ports.left after.0) (ports.taken before.1) (ports.taken after.1)
@@ -175,13 +184,22 @@ module _ {Source Sink : Type 0} (ports : Ports Source Sink) (status : Status) (b
       (runs.run good.bytes good.told) good.short
       (λ e. good.unfailing (read (runs.is ∙ ap status_by e))) (λ e. write (runs.is ∙ ap status_by e)))
 
-  abbrev IsGoodToFollow : Type 0
-  IsGoodToFollow = IsGoodFollow (ports.left before.0) (ports.failed_reads before.0) (ports.failed_reads after.0)
-
   -- what the loop answers, as a status
   well_of : (r : Result (Unit {0}) ReplayFault) → (r ≡ Ok tt) ⊎ (r ≡ Err faults.NoMemory) → (status_by r ≡ statuses.Done) ⊎ (status_by r ≡ statuses.NoMemory)
   well_of r (inl done) = inl (ap status_by done)
   well_of r (inr full) = inr (ap status_by full)
+
+  completes_explain : ExplainIsComplete → IsLineRun ports before after status explain_run → IsGood
+      → (status ≡ statuses.ReadFault → Rose (ports.failed_reads before.0) (ports.failed_reads after.0)) → (status ≡ statuses.WriteFault → ⊥) → IsWell
+  completes_explain law runs good read write =
+      subst (λ (s : Status). (s ≡ statuses.Done) ⊎ (s ≡ statuses.NoMemory)) (sym runs.is)
+      (well_of runs.ended
+      (law good.bytes (ports.left after.0) (ports.taken before.1) (ports.taken after.1) runs.ended good.start good.short
+      (runs.run good.bytes good.told)
+      (λ e. good.unfailing (read (runs.is ∙ ap status_by e))) (λ e. write (runs.is ∙ ap status_by e))))
+
+  abbrev IsGoodToFollow : Type 0
+  IsGoodToFollow = IsGoodFollow (ports.left before.0) (ports.failed_reads before.0) (ports.failed_reads after.0)
 
   completes_follow : FollowIsComplete → IsLineRun ports before after status follow_run → IsGoodToFollow
       → (status ≡ statuses.ReadFault → Rose (ports.failed_reads before.0) (ports.failed_reads after.0)) → (status ≡ statuses.WriteFault → ⊥) → IsWell
@@ -217,36 +235,48 @@ module _ {Source Sink : Type 0} (ports : Ports Source Sink) (status : Status) (b
   -- a good input of a task
   data HasGood (t : Task) : Type 0 where
     to_read : IsTrue (reads t) → IsGood → HasGood t
+    to_explain : IsTrue (explains t) → IsGood → HasGood t
     to_follow : IsTrue (follows t) → IsGoodToFollow → HasGood t
     to_resume : IsTrue (resumes t) → IsGoodToResume → HasGood t
     to_check : IsTrue (checks t) → IsGoodToCheck → HasGood t
     to_load : (command : LoadCommand) → t ≡ Loads command → HasGood t
 
-  module _ (law : LinesAddUp) (follow : FollowIsComplete) (resume : ResumeIsComplete)
+  module _ (law : LinesAddUp) (explain : ExplainIsComplete) (follow : FollowIsComplete) (resume : ResumeIsComplete)
       (read : status ≡ statuses.ReadFault → Rose (ports.failed_reads before.0) (ports.failed_reads after.0)) (write : status ≡ statuses.WriteFault → ⊥) where
     completes_by : (t : Task) → Runs ports before after status t → HasGood t → IsWell
     completes_by (Reads told) runs (to_read named good) = completes_read law told runs good read write
+    completes_by (Reads told) runs (to_explain named good) = cc
     completes_by (Reads told) runs (to_follow named good) = cc
     completes_by (Reads told) runs (to_resume named good) = cc
     completes_by (Reads told) runs (to_check named good) = cc
     completes_by (Reads told) runs (to_load command named) = cc
+    completes_by Explains runs (to_read named good) = cc
+    completes_by Explains runs (to_explain named good) = completes_explain explain runs good read write
+    completes_by Explains runs (to_follow named good) = cc
+    completes_by Explains runs (to_resume named good) = cc
+    completes_by Explains runs (to_check named good) = cc
+    completes_by Explains runs (to_load command named) = cc
     completes_by Follows runs (to_read named good) = cc
+    completes_by Follows runs (to_explain named good) = cc
     completes_by Follows runs (to_follow named good) = completes_follow follow runs good read write
     completes_by Follows runs (to_resume named good) = cc
     completes_by Follows runs (to_check named good) = cc
     completes_by Follows runs (to_load command named) = cc
     completes_by Resumes runs (to_read named good) = cc
+    completes_by Resumes runs (to_explain named good) = cc
     completes_by Resumes runs (to_follow named good) = cc
     completes_by Resumes runs (to_resume named good) = completes_resume resume runs good read write
     completes_by Resumes runs (to_check named good) = cc
     completes_by Resumes runs (to_load command named) = cc
     completes_by Checks runs (to_read named good) = cc
+    completes_by Checks runs (to_explain named good) = cc
     completes_by Checks runs (to_follow named good) = cc
     completes_by Checks runs (to_resume named good) = cc
     completes_by Checks runs (to_check named good) = completes_check runs good read write
     completes_by Checks runs (to_load command named) = cc
     completes_by (Loads command) runs input = load_completes status command (ports.taken before.1) (ports.taken after.1) runs.loaded write
     completes_by Nothing runs (to_read named good) = cc
+    completes_by Nothing runs (to_explain named good) = cc
     completes_by Nothing runs (to_follow named good) = cc
     completes_by Nothing runs (to_resume named good) = cc
     completes_by Nothing runs (to_check named good) = cc
@@ -266,6 +296,7 @@ task_of_replay (Some commands.Check) named = cc
 task_of_replay (Some (commands.Shortfall workers)) named = cc
 task_of_replay (Some (commands.Follow workers)) named = cc
 task_of_replay (Some (commands.Outlook workers)) named = cc
+task_of_replay (Some (commands.Explain workers)) named = cc
 
 -- a load replays its stream
 task_of_load : (o : Option Command) (command : LoadCommand) → load_in o ≡ Some command → task_of o ≡ Loads command
@@ -279,11 +310,22 @@ task_of_load (Some commands.Check) command named = cc
 task_of_load (Some (commands.Shortfall workers)) command named = cc
 task_of_load (Some (commands.Follow workers)) command named = cc
 task_of_load (Some (commands.Outlook workers)) command named = cc
+task_of_load (Some (commands.Explain workers)) command named = cc
 
--- a task that follows, resumes or checks is the one that does
+-- a task that explains, follows, resumes or checks is the one that does
+task_that_explains : (t : Task) → IsTrue (explains t) → t ≡ Explains
+task_that_explains Explains named = refl
+task_that_explains (Reads told) named = cc
+task_that_explains Follows named = cc
+task_that_explains Resumes named = cc
+task_that_explains Checks named = cc
+task_that_explains (Loads command) named = cc
+task_that_explains Nothing named = cc
+
 task_that_follows : (t : Task) → IsTrue (follows t) → t ≡ Follows
 task_that_follows Follows named = refl
 task_that_follows (Reads told) named = cc
+task_that_follows Explains named = cc
 task_that_follows Resumes named = cc
 task_that_follows Checks named = cc
 task_that_follows (Loads command) named = cc
@@ -292,6 +334,7 @@ task_that_follows Nothing named = cc
 task_that_resumes : (t : Task) → IsTrue (resumes t) → t ≡ Resumes
 task_that_resumes Resumes named = refl
 task_that_resumes (Reads told) named = cc
+task_that_resumes Explains named = cc
 task_that_resumes Follows named = cc
 task_that_resumes Checks named = cc
 task_that_resumes (Loads command) named = cc
@@ -300,6 +343,7 @@ task_that_resumes Nothing named = cc
 task_that_checks : (t : Task) → IsTrue (checks t) → t ≡ Checks
 task_that_checks Checks named = refl
 task_that_checks (Reads told) named = cc
+task_that_checks Explains named = cc
 task_that_checks Follows named = cc
 task_that_checks Resumes named = cc
 task_that_checks (Loads command) named = cc
@@ -333,6 +377,11 @@ module _ {Source Sink : Type 0} (ports : Ports Source Sink) where
       let runs = subst (λ (t : Task). Runs ports before after status t) (task_of_load (command_of words) command named) h.runs in
       (runs.unread, runs.loaded)
 
+  pub explains_follow : ExplainsFollow ports
+  explains_follow status words before after h bytes named given =
+      explained_by ports status before after bytes given
+      (subst (λ (t : Task). Runs ports before after status t) (task_that_explains (task_of_words words) named) h.runs)
+
   pub follows_follow : FollowsFollow ports
   follows_follow status words before after h bytes named given =
       followed_by ports status before after bytes given
@@ -358,12 +407,13 @@ module _ {Source Sink : Type 0} (ports : Ports Source Sink) where
   pub faults_follow : FaultsFollow ports
   faults_follow status words before after h = (h.reads, h.writes)
 
-  pub complete_follows : LinesAddUp → FollowIsComplete → ResumeIsComplete → CompleteFollows ports
-  complete_follows law follow resume status words before after h input quiet =
-      completes_by ports status before after law follow resume h.reads.rose (λ e. quiet (h.writes.rose e)) (task_of_words words) h.runs (asked input) where
+  pub complete_follows : LinesAddUp → ExplainIsComplete → FollowIsComplete → ResumeIsComplete → CompleteFollows ports
+  complete_follows law explain follow resume status words before after h input quiet =
+      completes_by ports status before after law explain follow resume h.reads.rose (λ e. quiet (h.writes.rose e)) (task_of_words words) h.runs (asked input) where
         asked : HasGoodInput words (ports.left before.0) (ports.failed_reads before.0) (ports.failed_reads after.0) → HasGood ports status before after (task_of_words words)
         asked (inl good) = to_read good.0 good.1
-        asked (inr (inl good)) = to_follow good.0 good.1
-        asked (inr (inr (inl good))) = to_resume good.0 good.1
-        asked (inr (inr (inr (inl good)))) = to_check good.0 good.1
-        asked (inr (inr (inr (inr named)))) = let found = numbers_of (load_in (command_of words)) named in to_load found.0 (task_of_load (command_of words) found.0 found.1)
+        asked (inr (inl good)) = to_explain good.0 good.1
+        asked (inr (inr (inl good))) = to_follow good.0 good.1
+        asked (inr (inr (inr (inl good)))) = to_resume good.0 good.1
+        asked (inr (inr (inr (inr (inl good))))) = to_check good.0 good.1
+        asked (inr (inr (inr (inr (inr named))))) = let found = numbers_of (load_in (command_of words)) named in to_load found.0 (task_of_load (command_of words) found.0 found.1)

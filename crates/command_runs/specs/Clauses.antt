@@ -11,12 +11,13 @@ use Rattle.replay_loop.specs.Loads.{IsLoaded}
 use Rattle.replay_loop.specs.Lasts.{IsToldRun}
 use Rattle.replay_loop.specs.Plays.{Telling}
 use Rattle.replay_loop.specs.Ports.{Ports}
+use Rattle.command_runs.specs.Explained.{IsExplainRun}
 use Rattle.command_runs.specs.Followed.{IsFollowRun}
 use Rattle.replay_loop.specs.Certificates.{certificates_told}
 use Rattle.command_runs.specs.Endings.{HasCertified, IsCheckRun, IsResumeRun}
 use Rattle.command_runs.specs.Inputs.{HasGoodInput}
 use Rattle.command_runs.specs.RunsAs.{RunsAs}
-use Rattle.command_runs.specs.Tasks.{IsCheckCommand, IsFollowCommand, IsReplayCommand, IsResumeCommand, Reads, is_command, task_of_words}
+use Rattle.command_runs.specs.Tasks.{IsCheckCommand, IsExplainCommand, IsFollowCommand, IsReplayCommand, IsResumeCommand, Reads, is_command, task_of_words}
 
 module _ {Source Sink : Type 0} (ports : Ports Source Sink) where
   -- so of each run
@@ -47,6 +48,11 @@ module _ {Source Sink : Type 0} (ports : Ports Source Sink) where
   TellsFollow = Follows (λ status words before after. (told : Telling (Unit {0})) (bytes : List ℕ)
       → task_of_words words ≡ Reads told → ports.left before.0 ≡ Some bytes
       → IsToldRun told status bytes (ports.left after.0) (ports.taken before.1) (ports.taken after.1))
+
+  -- each ending of a run that says all that is wrong with the records that it reads
+  abbrev pub ExplainsFollow : Type 0
+  ExplainsFollow = Follows (λ status words before after. (bytes : List ℕ) → IsExplainCommand words → ports.left before.0 ≡ Some bytes
+      → IsExplainRun status bytes (ports.left after.0) (ports.taken before.1) (ports.taken after.1))
 
   -- each ending of a run that follows a stream with rollbacks
   abbrev pub FollowsFollow : Type 0

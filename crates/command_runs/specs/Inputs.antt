@@ -11,7 +11,7 @@ use Rattle.resume_laws.specs.Laws.{Resumes}
 use Rattle.checkpoint_model.specs.Resumable.{IsResumable}
 use Rattle.run_model.specs.World.{World}
 use Rattle.text_model.specs.Words.{Text}
-use Rattle.command_runs.specs.Tasks.{IsCheckCommand, IsFollowCommand, IsLoadCommand, IsResumeCommand, ReadsRecords}
+use Rattle.command_runs.specs.Tasks.{IsCheckCommand, IsExplainCommand, IsFollowCommand, IsLoadCommand, IsResumeCommand, ReadsRecords}
 
 -- the source held a stream within the limit that begins with a genesis to begin with; no read
 -- failed
@@ -55,5 +55,6 @@ pub record IsGoodCheck (left : Option (List ℕ)) (faults faults' : ℕ) : Type 
 -- the words are those of a command that reads such a stream, or of `load`
 abbrev pub HasGoodInput : List (String Global) → Option (List ℕ) → ℕ → ℕ → Type 0
 HasGoodInput words left faults faults' =
-    (ReadsRecords words × IsGoodStream left faults faults') ⊎ (IsFollowCommand words × IsGoodFollow left faults faults')
+    (ReadsRecords words × IsGoodStream left faults faults') ⊎ (IsExplainCommand words × IsGoodStream left faults faults')
+    ⊎ (IsFollowCommand words × IsGoodFollow left faults faults')
     ⊎ (IsResumeCommand words × IsGoodResume left faults faults') ⊎ (IsCheckCommand words × IsGoodCheck left faults faults') ⊎ IsLoadCommand words

@@ -2,6 +2,7 @@
 use Rattle.std.specs.Prelude.{◌≡◌, ℕ, List, Option, Some, String}
 use Rattle.std.specs.declared.alloc.Global.{Global}
 use Rattle.byte_lines.specs.Faults.{CountsFaults}
+use Rattle.explain_loop.specs.Plays.{explain_run}
 use Rattle.follow_loop.specs.Plays.{follow_run}
 use Rattle.replay_loop.specs.declared.status.Status.{Status}
 use Rattle.replay_loop.specs.declared.status.Status.TheVariants as statuses
@@ -10,7 +11,7 @@ use Rattle.check_loop.specs.Checked.{IsChecked}
 use Rattle.check_loop.specs.Right.{IsCertificateText}
 use Rattle.resume_loop.specs.Resumed.{IsResumed}
 use Rattle.command_runs.specs.Endings.{status_of_check, status_of_resume}
-use Rattle.command_runs.specs.Tasks.{Checks, Follows, Loads, Nothing, Reads, Resumes, Task, task_of_words}
+use Rattle.command_runs.specs.Tasks.{Checks, Explains, Follows, Loads, Nothing, Reads, Resumes, Task, task_of_words}
 
 module _ {Source Sink : Type 0} (ports : Ports Source Sink) (before after : Source × Sink) (status : Status) where
   -- it did nothing
@@ -29,6 +30,7 @@ module _ {Source Sink : Type 0} (ports : Ports Source Sink) (before after : Sour
   -- by the task of the command
   abbrev pub Runs : Task → Type 0
   Runs (Reads told) = IsReadRun ports before after status told tt
+  Runs Explains = IsLineRun ports before after status explain_run
   Runs Follows = IsLineRun ports before after status follow_run
   Runs Resumes = HasEnded status_of_resume IsResumed
   Runs Checks = HasEnded status_of_check (IsChecked IsCertificateText)

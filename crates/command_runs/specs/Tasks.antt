@@ -1,19 +1,21 @@
 -- What the program does for each command. (Own)
-use Rattle.std.specs.Prelude.{◌≡◌, ℕ, List, Bool, true, false, Option, Some, None, String, is_some, IsTrue}
+use Rattle.std.specs.Prelude.{List, Bool, true, false, Option, Some, None, String, is_some, IsTrue}
 use Rattle.std.specs.declared.alloc.Global.{Global}
 use Rattle.load_options.specs.Table.{command_of, load_command_of, replay_workers_of}
 use Rattle.load_options.specs.declared.command.LoadCommand.{LoadCommand}
 use Rattle.load_options.specs.declared.table.Command.{Command}
-use Rattle.load_options.specs.declared.table.Command.TheVariants.{Certify, Check, Checkpoint, Follow, Load, Outlook, Replay, Resume, Shortfall}
+use Rattle.load_options.specs.declared.table.Command.TheVariants.{Certify, Check, Checkpoint, Explain, Follow, Load, Outlook, Replay, Resume, Shortfall}
 use Rattle.replay_loop.specs.Certificates.{certificates_told}
 use Rattle.replay_loop.specs.Lasts.{checkpoint_told, outlook_told, short_told}
 use Rattle.replay_loop.specs.Plays.{Telling}
 use Rattle.replay_loop.specs.Texts.{texts_told}
 
--- it reads records and tells so of them, follows a stream with rollbacks, goes on from a
--- checkpoint, answers whether texts are certificates, replays a generated stream, or does nothing
+-- it reads records and tells so of them, says all that is wrong with them, follows a stream with
+-- rollbacks, goes on from a checkpoint, answers whether texts are certificates, replays a generated
+-- stream, or does nothing
 pub data Task : Type 0 where
   Reads : Telling (Unit {0}) → Task
+  Explains : Task
   Follows : Task
   Resumes : Task
   Checks : Task
@@ -27,6 +29,7 @@ task_of (Some (Shortfall workers)) = Reads short_told
 task_of (Some (Outlook workers)) = Reads outlook_told
 task_of (Some (Checkpoint workers)) = Reads checkpoint_told
 task_of (Some (Certify workers)) = Reads certificates_told
+task_of (Some (Explain workers)) = Explains
 task_of (Some (Follow workers)) = Follows
 task_of (Some (Resume workers)) = Resumes
 task_of (Some Check) = Checks
@@ -46,6 +49,11 @@ is_done _ = true
 abbrev pub reads : Task → Bool
 reads (Reads told) = true
 reads _ = false
+
+-- whether it says all that is wrong with the records that it reads
+abbrev pub explains : Task → Bool
+explains Explains = true
+explains _ = false
 
 -- whether it follows a stream with rollbacks
 abbrev pub follows : Task → Bool
@@ -77,6 +85,10 @@ IsLoadCommand words = IsTrue (is_some (load_command_of words))
 -- words are those of a command that tells of the records that it reads
 abbrev pub ReadsRecords : List (String Global) → Type 0
 ReadsRecords words = IsTrue (reads (task_of_words words))
+
+-- words are those of `explain`
+abbrev pub IsExplainCommand : List (String Global) → Type 0
+IsExplainCommand words = IsTrue (explains (task_of_words words))
 
 -- words are those of `follow`
 abbrev pub IsFollowCommand : List (String Global) → Type 0

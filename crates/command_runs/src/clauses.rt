@@ -1,4 +1,4 @@
-ghost use Rattle.command_runs.specs.Clauses.{CertifiesFollow, ChecksFollow, CompleteFollows, FaultsFollow, FollowsFollow, LoadsFollow, ReplaysFollow, ResumesFollow, TellsFollow, UnreadFollows, UsageFollows};
+ghost use Rattle.command_runs.specs.Clauses.{CertifiesFollow, ChecksFollow, CompleteFollows, ExplainsFollow, FaultsFollow, FollowsFollow, LoadsFollow, ReplaysFollow, ResumesFollow, TellsFollow, UnreadFollows, UsageFollows};
 ghost use Rattle.replay_loop.specs.Ports.{Ports};
 ghost use Rattle.replay_loop.specs.Statuses.{NumbersTell};
 
@@ -14,6 +14,7 @@ pub fn run_clauses<S, K>()
     ensures replays { ReplaysFollow ports }
     ensures loads { LoadsFollow ports }
     ensures tells { TellsFollow ports }
+    ensures explains { ExplainsFollow ports }
     ensures follows { FollowsFollow ports }
     ensures certifies { CertifiesFollow ports }
     ensures resumes { ResumesFollow ports }
@@ -24,7 +25,8 @@ pub fn run_clauses<S, K>()
 {
     // (laws: how bytes are cut into lines)
     whole_lines();
-    // (laws: how a followed stream ends, and a resumed one)
+    // (laws: how an explanation ends, a followed stream, and a resumed one)
+    explain_loop::laws();
     follow_loop::laws();
     resume_laws::laws();
     // (laws: the text of a run that is done, and that its certificates are right)

@@ -1,7 +1,7 @@
 ghost use Rattle.std.specs.Prelude.{◌≡◌};
 ghost use Rattle.command_runs.specs.RunsAs.{RunsAs};
 
-use crate::runs::{checks, follows, loads, resumes, tells};
+use crate::runs::{checks, explains, follows, loads, resumes, tells};
 use byte_lines::{Sink, Source};
 use command_runs::of_replay_loop::{Status, Told};
 use following::of_held_ledger::Crew;
@@ -12,8 +12,9 @@ use std::thread::Threads;
 /// Runs the command of the words after the program's name. (Own) `replay` writes a record's text,
 /// then reads on, `resume` does so behind a checkpoint, and `follow` takes records back besides;
 /// `certify` writes a certificate ahead of each boundary, and `check` answers whether texts are
-/// such; `shortfall`, `outlook` and `checkpoint` write at the end; `load` writes its stream's
-/// summary. Workers (default 1), in the crew's threads, enter its gate and share the counts.
+/// such; `explain` writes every rule that a record breaks; `shortfall`, `outlook` and `checkpoint`
+/// write at the end; `load` writes its stream's summary. Workers (default 1), in the crew's
+/// threads, enter its gate and share the counts.
 pub fn run<R: Threads + Sync, S: Source, K: Sink, G: Gate + Sync>(
     crew: &Crew<R, G>,
     words: &[String],
@@ -35,6 +36,7 @@ pub fn run<R: Threads + Sync, S: Source, K: Sink, G: Gate + Sync>(
         Some(Command::Certify { workers }) => {
             tells(crew, workers, Told::Certificates, source, sink)
         }
+        Some(Command::Explain { workers }) => explains(crew, workers, source, sink),
         Some(Command::Follow { workers }) => follows(crew, workers, source, sink),
         Some(Command::Resume { workers }) => resumes(crew, workers, source, sink),
         Some(Command::Check) => checks(crew.alloc, source, sink),

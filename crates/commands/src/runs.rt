@@ -2,7 +2,7 @@
 ghost use Rattle.std.specs.Prelude.{◌≡◌, ◌≤◌, option_map, true};
 ghost use Rattle.byte_lines.specs.Faults.{CountsFaults};
 ghost use Rattle.command_runs.specs.RunsAs.{RunsBy};
-ghost use Rattle.command_runs.specs.Tasks.{Checks, Follows, Reads, Resumes};
+ghost use Rattle.command_runs.specs.Tasks.{Checks, Explains, Follows, Reads, Resumes};
 ghost use Rattle.load_options.specs.Command.{IsWithin};
 ghost use Rattle.record_stream.specs.Records.{is_within};
 ghost use Rattle.command_runs.specs.of_replay_loop.Answers.{AnswersAs};
@@ -14,6 +14,7 @@ use certificate_check::Certificates;
 use check_loop::answer_texts;
 use command_runs::of_replay_loop::{Answered, Status, Told, load, tell_told};
 use command_runs::{status_of_check, status_of_resume};
+use explain_loop::explain;
 use following::follow_ledger;
 use following::of_held_ledger::{Crew, Held, answer};
 use load_options::LoadCommand;
@@ -43,6 +44,27 @@ pub(crate) fn tells<R: Threads + Sync, S: Source, K: Sink, G: Gate + Sync>(
         ensures { AnswersAs (λ held. held.ledger) (option_map (λ held. held.ledger) before) reading result }
     { answer(crew, workers, before, &reading) };
     Status::of(tell_told(crew.alloc, &answers, workers, told, source, sink))
+}
+
+/// Says all that is wrong with the records of a source.
+pub(crate) fn explains<R: Threads + Sync, S: Source, K: Sink, G: Gate + Sync>(
+    crew: &Crew<R, G>,
+    workers: u32,
+    source: &mut S,
+    sink: &mut K,
+) -> Status
+    requires some { 1 ≤ workers }
+    requires few { workers ≤ 64 }
+    ensures { RunsBy (record { left = S.left; failed_reads = S.faults; taken = K.taken; failed_writes = K.faults })
+        (source.old, sink.old) (source.new, sink.new) result Explains }
+{
+    let answers = |workers: u32, before: Option<Held>, reading: Reading| -> Answered<Held>
+        requires some { 1 ≤ workers }
+        requires few { workers ≤ 64 }
+        requires within { is_within reading ≡ true }
+        ensures { AnswersAs (λ held. held.ledger) (option_map (λ held. held.ledger) before) reading result }
+    { answer(crew, workers, before, &reading) };
+    Status::of(explain(crew.alloc, &answers, workers, source, sink))
 }
 
 /// Follows the stream of a source, with its rollbacks.

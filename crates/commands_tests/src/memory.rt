@@ -79,7 +79,8 @@ pub fn replayed_in_memory<R: Threads + Sync>(
 {
     // (laws: how bytes are cut into lines)
     whole_lines();
-    // (laws: how a followed stream ends, and a resumed one)
+    // (laws: how an explanation ends, a followed stream, and a resumed one)
+    explain_loop::laws();
     follow_loop::laws();
     resume_laws::laws();
     let words = replay_words(alloc)?;

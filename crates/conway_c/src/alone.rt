@@ -10,6 +10,7 @@ use crate::replies::reply_to_reading;
 use byte_lines::SinkFault;
 use checkpoint_print::put_checkpoint;
 use embedded::{CheckpointFault, SessionState};
+use explain_loop::ExplainedState;
 use hash_seed::HashSeed;
 use held_ledger::{Held, answer_alone};
 use listed::Boxed;
@@ -17,7 +18,7 @@ use no_memory::NoMemory;
 use replay_loop::{Answered, LastState, RunState};
 use report::LineTaker;
 use std::alloc::Global;
-use tx_records::{Pots, Reading, Reply};
+use tx_records::{Pots, Reading, Record, Reply};
 
 /// The ledger that a run holds, which counts in the caller's thread alone.
 #[derive(Drop)]
@@ -88,6 +89,19 @@ impl LastState for Alone {
         text: &mut Vec<u8>,
     ) -> Result<(), SinkFault> {
         self.held.put_outlook(alloc, to, text)
+    }
+}
+
+impl ExplainedState for Alone {
+    fn put_broken<T: LineTaker>(
+        &self,
+        alloc: Global,
+        record: &Record,
+        to: &mut T,
+        text: &mut Vec<u8>,
+        line: u64,
+    ) -> Result<(), SinkFault> {
+        self.held.put_broken(alloc, record, to, text, line)
     }
 }
 

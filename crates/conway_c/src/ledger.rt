@@ -4,7 +4,7 @@ ghost use Rattle.conway_c.specs.Calls.{HasDone, HasRecorded, TellsBy, fault_stat
 ghost use Rattle.embedded.specs.Resumed.{Resumes};
 ghost use Rattle.embedded.specs.Shown.{EndsInOutlook, ShowsCheckpoint};
 ghost use Rattle.embedded.specs.Standing.{Opens, Records};
-ghost use Rattle.embedded.specs.Verdicts.{Judges};
+ghost use Rattle.embedded.specs.Verdicts.{Explains, Judges};
 
 use crate::alone::Alone;
 use crate::answer::{
@@ -50,6 +50,13 @@ impl Ledger {
         ensures { Judges self.old line.now self.new result }
     {
         self.session.judge(line)
+    }
+
+    /// Says all that is wrong with the next line.
+    fn explain(&mut self, line: &[u8]) -> Ending
+        ensures { Explains self.old line.now self.new result }
+    {
+        self.session.explain(line)
     }
 
     /// Makes its checkpoint.
@@ -152,6 +159,16 @@ pub(crate) fn judged(ledger: Box<Ledger>, line: &[u8], room: &mut [u8]) -> (Box<
 {
     let mut ledger = ledger;
     let ending = ledger.judge(line);
+    let answer = answer_of(&ledger, ending, room);
+    (ledger, answer)
+}
+
+/// The ledger with the explanation of a line, and the answer.
+pub(crate) fn explained(ledger: Box<Ledger>, line: &[u8], room: &mut [u8]) -> (Box<Ledger>, Answer)
+    ensures { HasDone (λ s s' e. Explains s line.now s' e) (Some ledger.value) (Some result.0.value) room.old room.new result.1 }
+{
+    let mut ledger = ledger;
+    let ending = ledger.explain(line);
     let answer = answer_of(&ledger, ending, room);
     (ledger, answer)
 }

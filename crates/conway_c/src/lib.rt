@@ -5,7 +5,7 @@
 ghost use Rattle.std.specs.Prelude.{◌≡◌, ◌≢◌, None, length};
 ghost use Rattle.conway_c.specs.Calls.{HandleOpens, HandleResumes, HasDone, HasRecorded, Tells, TellsNone, text_now};
 ghost use Rattle.embedded.specs.Shown.{EndsInOutlook, ShowsCheckpoint};
-ghost use Rattle.embedded.specs.Verdicts.{Judges};
+ghost use Rattle.embedded.specs.Verdicts.{Explains, Judges};
 
 mod alone;
 mod answer;
@@ -18,7 +18,9 @@ pub use answer::Answer;
 use answer::{DONE, IS_CLOSED};
 pub use handle::Conway;
 use hash_seed::HashSeed;
-use ledger::{fault_status, judged, opened, recorded, resume_status, resumed, shown, used_up};
+use ledger::{
+    explained, fault_status, judged, opened, recorded, resume_status, resumed, shown, used_up,
+};
 use std::alloc::Global;
 use std::mem;
 
@@ -123,6 +125,27 @@ pub extern "C" fn conway_judge(
         return Answer::without_text(IS_CLOSED);
     };
     let (after, answer) = judged(book, line, room);
+    *handle = Conway::of(after);
+    answer
+}
+
+/// Says all that is wrong with the next line and records nothing. The text has a line for each rule
+/// that it breaks, the first of which is the line of its reply; it is empty where the line would be
+/// accepted. Statuses are those of `conway_judge`; where it is not 0 nothing changed.
+#[unsafe(no_mangle)]
+pub extern "C" fn conway_explain(
+    alloc: Global,
+    handle: &mut Conway,
+    line: &[u8],
+    room: &mut [u8],
+) -> Answer
+    ensures { HasDone (λ s s' e. Explains s line.now s' e) handle.old.value handle.new.value room.old room.new result }
+{
+    let taken = mem::replace(handle, Conway::closed(alloc));
+    let Some(book) = taken.into_box() else {
+        return Answer::without_text(IS_CLOSED);
+    };
+    let (after, answer) = explained(book, line, room);
     *handle = Conway::of(after);
     answer
 }

@@ -1,5 +1,6 @@
--- What a line would be answered, and the call that says so. (Own)
+-- What a line would be answered, all that is wrong with it, and the calls that say so. (Own)
 use Rattle.std.specs.Prelude.{◌≡◌, ◌+◌, ◌^◌, ℕ, Bool, true, false, List, [], ◌∷◌, Option, Some, None}
+use Rattle.explain_model.specs.Explained.{explained_lines}
 use Rattle.run_model.specs.Step.{step}
 use Rattle.run_model.specs.World.{World}
 use Rattle.text_model.specs.Replies.{reply_words}
@@ -26,12 +27,26 @@ abbrev pub verdict_text : World → ℕ → Option Reading → Text
 verdict_text w n None = []
 verdict_text w n (Some r) = text_of_lines n (reply_words (reply_to w r) ∷ [])
 
--- what judging the next line did: the text alone changes, and that stays, too, where it is not done
+-- the text of an explanation: a line for each rule that is broken; a blank line has none
+abbrev pub explanation_text : World → ℕ → Option Reading → Text
+explanation_text w n None = []
+explanation_text w n (Some r) = text_of_lines n (explained_lines w r)
+
+-- what saying such a text of the next line did: the text alone changes, and that stays, too, where
+-- it is not done
+abbrev pub Says : (World → ℕ → Option Reading → Text) → Standing → List ℕ → Standing → Ending → Type 0
+Says text_by s line s' endings.Done = (w : World) × (s.world ≡ Some w) × (s' ≡ record s { text = text_by w (s.line + 1) (said_by line) })
+Says text_by s line s' endings.Closed = (s.world ≡ None) × (s' ≡ s)
+Says text_by s line s' endings.Full = (s.line + 1 ≡ 2 ^ 64) × (s' ≡ s)
+Says text_by s line s' endings.NoMemory = s' ≡ s
+
+-- what judging the next line did
 abbrev pub Judges : Standing → List ℕ → Standing → Ending → Type 0
-Judges s line s' endings.Done = (w : World) × (s.world ≡ Some w) × (s' ≡ record s { text = verdict_text w (s.line + 1) (said_by line) })
-Judges s line s' endings.Closed = (s.world ≡ None) × (s' ≡ s)
-Judges s line s' endings.Full = (s.line + 1 ≡ 2 ^ 64) × (s' ≡ s)
-Judges s line s' endings.NoMemory = s' ≡ s
+Judges = Says verdict_text
+
+-- what explaining it did
+abbrev pub Explains : Standing → List ℕ → Standing → Ending → Type 0
+Explains = Says explanation_text
 
 -- whether the text of a record is another than its reply: of a print and of an accepted block
 abbrev pub is_shown : Reading → Reply → Bool

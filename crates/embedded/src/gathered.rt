@@ -1,13 +1,17 @@
-//! Lines without numbers, gathered as a text in memory.
-ghost use Rattle.std.specs.Prelude.{◌≡◌, IfOk};
+//! Lines, gathered as a text in memory.
+ghost use Rattle.std.specs.Prelude.{◌≡◌, IfOk, Some, true};
 ghost use Rattle.checkpoint_model.specs.Checkpoint.{checkpoint_text};
 ghost use Rattle.embedded.specs.Shown.{outlook_text};
+ghost use Rattle.embedded.specs.Verdicts.{explanation_text};
+ghost use Rattle.record_stream.specs.Records.{is_within};
 
 use crate::state::SessionState;
 use byte_lines::{MemorySink, SinkFault, put_all};
+use explain_loop::put_explained;
 use no_memory::NoMemory;
 use report::LineTaker;
 use std::alloc::Global;
+use tx_records::Reading;
 
 /// Takes lines, and appends each to a text.
 #[derive(Drop)]
@@ -46,6 +50,26 @@ pub(crate) fn checkpoint_of<R: SessionState>(
     };
     let mut buffer = Vec::new(alloc);
     match state.show_checkpoint(line, &mut to, &mut buffer) {
+        Ok(()) => Ok(to.text),
+        Err(_) => Err(NoMemory),
+    }
+}
+
+/// A line for each rule that what was read of the line of this number breaks over a state.
+pub(crate) fn explanation_of<R: SessionState>(
+    alloc: Global,
+    state: &R,
+    number: u64,
+    reading: &Reading,
+) -> Result<MemorySink, NoMemory>
+    requires within { is_within reading.now ≡ true }
+    ensures { IfOk result (λ text. text ≡ explanation_text (R.world state.now) number (Some reading.now)) }
+{
+    let mut to = Gathered {
+        text: MemorySink::new(alloc),
+    };
+    let mut buffer = Vec::new(alloc);
+    match put_explained(alloc, state, reading, &mut to, &mut buffer, number) {
         Ok(()) => Ok(to.text),
         Err(_) => Err(NoMemory),
     }

@@ -2,12 +2,12 @@ ghost use Rattle.std.specs.Prelude.{◌≡◌, None};
 ghost use Rattle.embedded.specs.Resumed.{Resumes};
 ghost use Rattle.embedded.specs.Shown.{EndsInOutlook, ShowsCheckpoint};
 ghost use Rattle.embedded.specs.Standing.{Opens, Records};
-ghost use Rattle.embedded.specs.Verdicts.{Judges};
+ghost use Rattle.embedded.specs.Verdicts.{Explains, Judges};
 
 use crate::ending::Ending;
 use crate::fault::CheckpointFault;
 use crate::gathered::{checkpoint_of, outlook_of};
-use crate::keeping::{after, begin, judged};
+use crate::keeping::{after, begin, explained, judged};
 use crate::resumed::resumed;
 use crate::state::SessionState;
 use byte_lines::MemorySink;
@@ -122,6 +122,27 @@ impl<R: SessionState + Drop> Session<R> {
             return Ending::Closed;
         };
         match judged(self.alloc, &mut self.scratch, state, number, line) {
+            Ok(text) => {
+                self.text = text;
+                Ending::Done
+            }
+            Err(_) => Ending::NoMemory,
+        }
+    }
+
+    /// Says all that is wrong with the next line and records nothing: the text has a line for each
+    /// rule that it breaks, the first of which is that of its reply; it is empty where the line
+    /// would be accepted. `NoMemory` changes nothing.
+    pub fn explain(&mut self, line: &[u8]) -> Ending
+        ensures { Explains self.old line.now self.new result }
+    {
+        let Some(number) = self.line.checked_add(1) else {
+            return Ending::Full;
+        };
+        let Some(state) = &self.state else {
+            return Ending::Closed;
+        };
+        match explained(self.alloc, &mut self.scratch, state, number, line) {
             Ok(text) => {
                 self.text = text;
                 Ending::Done

@@ -1,5 +1,6 @@
 use crate::fault::CheckpointFault;
 use byte_lines::SinkFault;
+use explain_loop::ExplainedState;
 use hash_seed::HashSeed;
 use no_memory::NoMemory;
 use replay_loop::{Answered, LastState};
@@ -9,7 +10,7 @@ use tx_records::{Reading, Reply};
 
 /// A state of a run that answers records without threads.
 /// The sessions are over any, so that their proof opens no part of the ledger.
-pub trait SessionState: LastState {
+pub trait SessionState: LastState + ExplainedState {
     ghost use Rattle.std.specs.Prelude.{◌≡◌, Err, IfOk, option_map, true};
     ghost use Rattle.bare_lines.specs.Bare.{bare, bare_part};
     ghost use Rattle.embedded.specs.Only.{IsOfNoOther};

@@ -5,11 +5,14 @@ ghost use Rattle.replay_loop.specs.Certificates.{ends_epoch};
 ghost use Rattle.report.specs.Taking.{HasPut};
 ghost use Rattle.shortfall_model.specs.ShortLines.{shortfall_lines};
 
+use all_broken::all_broken;
 use bare_lines::Bare;
 use byte_lines::SinkFault;
 use certificate_print::put_certificate;
 use checkpoint_print::of_state_view::{put_assets, put_block, put_state};
 use checkpoint_print::put_checkpoint;
+use explain_loop::ExplainedState;
+use explain_print::put_rules;
 use listed::Boxed;
 use outlook::put_outlook;
 use replay_loop::{CertifiedState, LastState, RunState};
@@ -17,7 +20,7 @@ use report::LineTaker;
 use shortfall::of_ledger_state::LedgerState;
 use shortfall::put_shortfall;
 use std::alloc::Global;
-use tx_records::Pots;
+use tx_records::{Pots, Record};
 
 /// The ledger that a run holds between two records, boxed: to move it moves a pointer.
 #[derive(Drop)]
@@ -125,6 +128,20 @@ impl LastState for Held {
         text: &mut Vec<u8>,
     ) -> Result<(), SinkFault> {
         put_bare_outlook(alloc, to, text, self.ledger.into_value())
+    }
+}
+
+impl ExplainedState for Held {
+    fn put_broken<T: LineTaker>(
+        &self,
+        alloc: Global,
+        record: &Record,
+        to: &mut T,
+        text: &mut Vec<u8>,
+        line: u64,
+    ) -> Result<(), SinkFault> {
+        let rules = all_broken(alloc, self.ledger.get(), record)?;
+        put_rules(to, text, line, rules.as_slice())
     }
 }
 

@@ -6,7 +6,7 @@ use Rattle.load_options.specs.Options.{options_of}
 use Rattle.load_options.specs.Workers.{workers_alone}
 use Rattle.load_options.specs.declared.command.LoadCommand.{LoadCommand}
 use Rattle.load_options.specs.declared.table.Command.{Command}
-use Rattle.load_options.specs.declared.table.Command.TheVariants.{Replay, Load, Checkpoint, Resume, Certify, Check, Shortfall, Follow, Outlook}
+use Rattle.load_options.specs.declared.table.Command.TheVariants.{Replay, Load, Checkpoint, Resume, Certify, Check, Shortfall, Follow, Outlook, Explain}
 use Rattle.load_options.specs.declared.workers.TheConstants.{MOST_WORKERS}
 
 -- a command that only a number of workers may follow
@@ -30,6 +30,7 @@ command_of_word word options =
     if bytes_eq word (codes "shortfall") then with_workers Shortfall options else
     if bytes_eq word (codes "follow") then with_workers Follow options else
     if bytes_eq word (codes "outlook") then with_workers Outlook options else
+    if bytes_eq word (codes "explain") then with_workers Explain options else
     None
 
 -- the command of the words
@@ -73,3 +74,4 @@ IsInTable Check = Unit {0}
 IsInTable (Shortfall workers) = AreWorkers workers
 IsInTable (Follow workers) = AreWorkers workers
 IsInTable (Outlook workers) = AreWorkers workers
+IsInTable (Explain workers) = AreWorkers workers

@@ -26,6 +26,8 @@ pub enum Command {
     Follow { workers: u32 },
     /// Reads records and writes the tallies of the next two boundaries, as if no more came.
     Outlook { workers: u32 },
+    /// Reads records and writes every rule that each breaks, and all that is wrong with a genesis.
+    Explain { workers: u32 },
 }
 
 /// The command `check`, if no word is after it.
@@ -70,6 +72,9 @@ pub fn command_of(words: &[String]) -> Option<Command>
             workers: workers_alone(options)?,
         }),
         "outlook" => Some(Command::Outlook {
+            workers: workers_alone(options)?,
+        }),
+        "explain" => Some(Command::Explain {
             workers: workers_alone(options)?,
         }),
         _ => None,

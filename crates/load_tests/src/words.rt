@@ -148,7 +148,7 @@ const WRONG: [&str; 40] = [
 ];
 
 /// Words of each command, and words of none.
-const COMMANDS: [(&str, Option<Command>); 27] = [
+const COMMANDS: [(&str, Option<Command>); 29] = [
     ("replay", Some(Command::Replay { workers: 1 })),
     ("replay --workers 2", Some(Command::Replay { workers: 2 })),
     ("checkpoint", Some(Command::Checkpoint { workers: 1 })),
@@ -170,6 +170,11 @@ const COMMANDS: [(&str, Option<Command>); 27] = [
     ("follow --workers 6", Some(Command::Follow { workers: 6 })),
     ("outlook", Some(Command::Outlook { workers: 1 })),
     ("outlook --workers=7", Some(Command::Outlook { workers: 7 })),
+    ("explain", Some(Command::Explain { workers: 1 })),
+    (
+        "explain --workers 64",
+        Some(Command::Explain { workers: 64 }),
+    ),
     ("check --workers 1", None),
     ("check x", None),
     ("check ", None),

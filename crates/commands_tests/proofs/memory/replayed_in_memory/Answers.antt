@@ -44,7 +44,7 @@ returns-clause-done g c =
 pub returns-clause-complete : goal.returns-clause-complete
 returns-clause-complete g c = λ start short.
     let named : IsReplayCommand c.as_slice.result.now = rw c.as_slice.ensures.value c.in_ok-words.ensures in
-    complete_follows _ c.whole_lines.ensures.adds_up c.laws.ensures.complete c.laws-2.ensures.complete c.run-status.result c.as_slice.result.now _ _ c.run-status.ensures.runs
+    complete_follows _ c.whole_lines.ensures.adds_up c.laws.ensures.complete c.laws-2.ensures.complete c.laws-3.ensures.complete c.run-status.result c.as_slice.result.now _ _ c.run-status.ensures.runs
     (inl (
       ap reads (task_of_replay (command_of c.as_slice.result.now) named),
       record {
