@@ -16,7 +16,7 @@ TOP = Path(__file__).resolve().parent.parent
 # where `rt ci` and `rt run` leave the program
 PROGRAM = TOP / "crates/conway/out/conway"
 # the commands that read a stream of records from its genesis on, without rollbacks
-REPLAYING = ("replay", "shortfall", "outlook", "checkpoint", "certify")
+REPLAYING = ("replay", "explain", "shortfall", "outlook", "checkpoint", "certify")
 # the commands that need no further word, and take the option of workers
 WITH_WORKERS = (*REPLAYING, "resume", "follow")
 

@@ -2,9 +2,9 @@
 docs/use/formats.md, Text.
 
 A record has `line`, the number of the line that is answered, and `event`, the first word of the
-text; only the texts of `replay`, `resume` and `follow` have a `line`, and that of `check`, where it
-is the number of a certificate. `line`, `at` (an index) and `rule` (the number of a rule) are
-numbers; all else is text, amounts as their digits."""
+text; only the texts of `replay`, `explain`, `resume` and `follow` have a `line`, and that of
+`check`, where it is the number of a certificate. `line`, `at` (an index) and `rule` (the number of
+a rule) are numbers; all else is text, amounts as their digits."""
 
 import re
 
@@ -92,6 +92,8 @@ WITHOUT_NUMBER = {
 }
 REFUSED = re.compile(r"refused (?P<rule>\d+) (?P<name>\w+)(?: at (?P<at>\d+))?(?P<kept>(?: [a-z]+ \d+)*)")
 MALFORMED = re.compile(r"refused (?P<rule>1) (?P<name>Malformed) (?P<field>\w+)(?:\[(?P<at>\d+)\])?")
+# what is wrong with a genesis, as `explain` writes it
+PROBLEM = re.compile(r"genesis (?P<name>[A-Z]\w+)(?: (?P<field>[a-z.]+)\[(?P<at>\d+)\])?(?: (?P<target>pool|drep))?(?P<kept>(?: [a-z]+ \d+)*)")
 PARAM = re.compile(r"param (?P<name>\w+) (?P<value>\S+(?: \S+)*)")
 
 
@@ -112,13 +114,17 @@ def counted(fields):
     return {name: int(it) if name in COUNTS else it for name, it in fields.items() if it is not None}
 
 
+def keeping(found):
+    """The fields of what was found, if anything was, with the words that it keeps as names of numbers."""
+    if not found:
+        return None
+    fields = found.groupdict()
+    words = (fields.pop("kept", None) or "").split()
+    return counted({**fields, **dict(zip(words[::2], words[1::2]))})
+
+
 def refused(text):
-    found = MALFORMED.fullmatch(text) or REFUSED.fullmatch(text)
-    if found:
-        fields = found.groupdict()
-        words = (fields.pop("kept", None) or "").split()
-        return counted({**fields, **dict(zip(words[::2], words[1::2]))})
-    return None
+    return keeping(MALFORMED.fullmatch(text) or REFUSED.fullmatch(text))
 
 
 def param(text):
@@ -134,6 +140,8 @@ def parsed(text, forms):
         return refused(text)
     if event == "param":
         return param(text)
+    if event == "genesis" and PROBLEM.fullmatch(text):
+        return keeping(PROBLEM.fullmatch(text))
     for _, expression in forms.get(event, []):
         found = expression.fullmatch(text)
         if found:
@@ -160,14 +168,20 @@ def filled(form, record):
     return re.sub(r"<(\w+)>", lambda it: str(record[it[1]]), form)
 
 
+def named(record):
+    """The text of a rule that is broken, of a record or of a genesis: its name, its place, and what it keeps."""
+    own = {name: it for name, it in record.items() if name not in ("line", "event", "rule", "name", "at", "field", "target")}
+    place = f"[{record['at']}]" if "field" in record and "at" in record else f" at {record['at']}" if "at" in record else ""
+    first = [record[it] for it in ("event", "rule", "name", "field") if it in record]
+    target = f" {record['target']}" if "target" in record else ""
+    return " ".join(map(str, first)) + place + target + "".join(f" {name} {it}" for name, it in own.items())
+
+
 def text_of(record):
     """The line of text that a record is of."""
     event = record["event"]
-    if event == "refused":
-        own = {name: it for name, it in record.items() if name not in ("line", "event", "rule", "name", "at", "field")}
-        place = f"[{record['at']}]" if "field" in record and "at" in record else f" at {record['at']}" if "at" in record else ""
-        text = " ".join(["refused", str(record["rule"]), record["name"], *([record["field"]] if "field" in record else [])])
-        text += place + "".join(f" {name} {it}" for name, it in own.items())
+    if event == "refused" or (event == "genesis" and "name" in record):
+        text = named(record)
     elif event == "param":
         value = record["value"]
         text = f"param {record['name']} {value if isinstance(value, str) else ' '.join(value)}"

@@ -32,8 +32,8 @@ struct conway_answer {
 enum {
     CONWAY_DONE = 0,
     CONWAY_BAD_GENESIS = 3, /* `conway_open`: the line is no genesis to begin with */
-    /* Memory ran out: the ledger is closed. After `conway_judge` and `conway_checkpoint` it is not,
-       and nothing changed. */
+    /* Memory ran out: the ledger is closed. After `conway_judge`, `conway_explain` and
+       `conway_checkpoint` it is not, and nothing changed. */
     CONWAY_NO_MEMORY = 6,
     CONWAY_BAD_CHECKPOINT = 8, /* `conway_resume`: the text is the checkpoint of no ledger */
     CONWAY_IS_CLOSED = 20,     /* the ledger is closed; nothing changed */
@@ -63,6 +63,12 @@ struct conway_answer conway_record(struct conway *ledger, const uint8_t *line, s
    the reply that it would get: `accepted` or `refused`, also for a block and for a print, of which
    `conway_record` shows more. A blank line has no text. */
 struct conway_answer conway_judge(struct conway *ledger, const uint8_t *line, size_t length, uint8_t *room, size_t size);
+
+/* Says all that is wrong with the next line and records nothing. The text has a line for each rule
+   that it breaks, in order: the first is the line that `conway_record` would give. There is none
+   where the line would be accepted, and for a blank line. */
+struct conway_answer conway_explain(struct conway *ledger, const uint8_t *line, size_t length, uint8_t *room,
+                                    size_t size);
 
 /* Makes the checkpoint of the ledger. The text is what `checkpoint` writes after so many lines. */
 struct conway_answer conway_checkpoint(struct conway *ledger, uint8_t *room, size_t size);

@@ -46,6 +46,7 @@ def load(library):
         ("conway_resume", [bytes_, size, number, number, handle], _Answer),
         ("conway_record", [handle, bytes_, size, bytes_, size], _Answer),
         ("conway_judge", [handle, bytes_, size, bytes_, size], _Answer),
+        ("conway_explain", [handle, bytes_, size, bytes_, size], _Answer),
         ("conway_checkpoint", [handle, bytes_, size], _Answer),
         ("conway_outlook", [handle, bytes_, size], _Answer),
         ("conway_text", [handle, bytes_, size], _Answer),
@@ -92,6 +93,11 @@ class Conway:
         """The line of the reply that the next line would get; nothing is recorded."""
         room = self._room
         return self._text(self._calls.conway_judge(self._handle, line, len(line), room, len(room)))
+
+    def explain(self, line):
+        """A line for each rule that the next line breaks; nothing is recorded."""
+        room = self._room
+        return self._text(self._calls.conway_explain(self._handle, line, len(line), room, len(room)))
 
     def checkpoint(self):
         """What `checkpoint` writes here."""

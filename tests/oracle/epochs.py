@@ -10,7 +10,7 @@ from copy import deepcopy
 
 from oracle.assets import malformed_assets, total_lines
 from oracle.counts import drep_stakes, in_order, passed
-from oracle.transactions import PURPOSES, applied, ledger_of, pots
+from oracle.transactions import PURPOSES, accepted, ledger_of, pots, refusals
 from oracle.states import state_lines
 
 REFUSED = {
@@ -26,8 +26,8 @@ REFUSED = {
 }
 
 
-def refused(rule, kept=""):
-    return [f"refused {rule} {REFUSED[rule]} {kept}".rstrip()]
+def refusal(rule, kept=""):
+    return f"refused {rule} {REFUSED[rule]} {kept}".rstrip()
 
 
 # ---- what an epoch begins with
@@ -173,37 +173,40 @@ def crossed(ledger):
     return ledger, [first, *stakes, *(tally_line(*it) for it in told), *paid, *removed, *retired, f"pots {pots(ledger)}"]
 
 
-# ---- records
+# ---- records; what each breaks, and what one that breaks nothing changes
+
+
+def broken_by_block(ledger, record):
+    slot, epoch = record["slot"], record["slot"] // ledger["length"]
+    if slot <= ledger["slot"]:
+        yield refusal(10, f"last {ledger['slot']}")
+    if epoch > ledger["epoch"] + 1:
+        yield refusal(11, f"now {ledger['epoch']}")
+    if record["pulse"] == 0:
+        yield refusal(12)
 
 
 def after_block(ledger, record):
     slot, epoch = record["slot"], record["slot"] // ledger["length"]
-    if slot <= ledger["slot"]:
-        return ledger, refused(10, f"last {ledger['slot']}")
-    if epoch > ledger["epoch"] + 1:
-        return ledger, refused(11, f"now {ledger['epoch']}")
-    if record["pulse"] == 0:
-        return ledger, refused(12)
     ledger, lines = crossed(ledger) if epoch > ledger["epoch"] else (ledger, [])
     there = len(ledger["frozen"]["entries"])
     ledger = {**ledger, "slot": slot, "counted": min(there, ledger["counted"] + record["pulse"])}
     return ledger, [*lines, f"block slot {slot} epoch {ledger['epoch']} counted {ledger['counted']} of {there}"]
 
 
-def after_rewards(ledger, record):
+def broken_by_rewards(ledger, record):
     taken = record["fromReserves"] + record["fromFees"]
     given = record["toTreasury"] + sum(amount for _, amount in record["rewards"])
     if record["epoch"] != ledger["epoch"]:
-        return ledger, refused(20, f"now {ledger['epoch']}")
+        yield refusal(20, f"now {ledger['epoch']}")
     if ledger["pending"]:
-        return ledger, refused(21)
+        yield refusal(21)
     if taken != given:
-        return ledger, refused(22, f"in {taken} out {given}")
+        yield refusal(22, f"in {taken} out {given}")
     if record["fromReserves"] > ledger["reserves"]:
-        return ledger, refused(23, f"have {ledger['reserves']}")
+        yield refusal(23, f"have {ledger['reserves']}")
     if record["fromFees"] > ledger["fees"]:
-        return ledger, refused(24, f"have {ledger['fees']}")
-    return {**ledger, "pending": record}, ["accepted"]
+        yield refusal(24, f"have {ledger['fees']}")
 
 
 def printed(ledger, what):
@@ -213,25 +216,46 @@ def printed(ledger, what):
     return [f"pots {pots(ledger)}"] if what == "pots" else state_lines(ledger, output_stakes(ledger))
 
 
-def after_record(ledger, record):
-    """The ledger after a record past the genesis, and the lines that answer it. A kind that there is not, and malformed assets, are the faults of a record that are told here."""
+def malformed(record):
+    """The line of a record whose kind there is not, or whose assets are malformed: of the faults of a record these are told here."""
     kind = record["kind"]
     if kind not in ("genesis", "block", "rewards", "tx", "print"):
-        return ledger, ["refused 1 Malformed kind"]
-    if kind in ("genesis", "tx"):
-        malformed = malformed_assets(record)
-        if malformed:
-            return ledger, [f"refused 1 Malformed {malformed}"]
+        return ["refused 1 Malformed kind"]
+    field = malformed_assets(record) if kind in ("genesis", "tx") else None
+    return [f"refused 1 Malformed {field}"] if field else []
+
+
+def broken_by_record(ledger, record):
+    """A line for each rule that a record past the genesis breaks, in order; none for one that is accepted."""
+    kind = record["kind"]
+    if malformed(record):
+        return malformed(record)
     if kind == "genesis":
-        return ledger, refused(3)
+        return [refusal(3)]
+    if kind == "block":
+        return [*broken_by_block(ledger, record)]
+    if kind == "rewards":
+        return [*broken_by_rewards(ledger, record)]
+    return refusals(ledger, record) if kind == "tx" else []
+
+
+def after_accepted(ledger, record):
+    """The ledger after a record that breaks no rule, and the lines that answer it."""
+    kind = record["kind"]
     if kind == "block":
         return after_block(ledger, record)
     if kind == "rewards":
-        return after_rewards(ledger, record)
+        return {**ledger, "pending": record}, ["accepted"]
     if kind == "tx":
-        ledger, _, answer = applied(ledger, record)
+        ledger, answer = accepted(ledger, record)
         return ledger, [answer]
     return ledger, printed(ledger, record["what"])
+
+
+def after_record(ledger, record):
+    """The ledger after a record past the genesis, and the lines that answer it: of one that is refused the first of its rules."""
+    broken = broken_by_record(ledger, record)
+    return (ledger, broken[:1]) if broken else after_accepted(ledger, record)
 
 
 def text_of_run(records):

@@ -129,6 +129,9 @@ class Output(NamedTuple):
     assets: dict = {}
 
 
+NOTHING = Output("", 0)
+
+
 class Terms(NamedTuple):
     """Those of a pool, with its key, if it has one."""
 
@@ -145,6 +148,11 @@ class Broken(NamedTuple):
     rule: int
     place: Optional[int] = None
     kept: str = ""
+
+    def refusal(self):
+        """The line that answers a transaction of which this is the first one."""
+        place = "" if self.place is None else f" at {self.place}"
+        return f"refused {self.rule} {NAMES[self.rule]}{place} {self.kept}".rstrip()
 
 
 # ---- the ledger
@@ -204,6 +212,11 @@ def live(ledger, action):
 def network_of(text):
     """That of an address or an account."""
     return int(text[0])
+
+
+def held_at(ledger, ref):
+    """An unspent output; one that holds nothing where there is none."""
+    return ledger["outputs"].get(ref, NOTHING)
 
 
 # ---- the draft: withdrawals, the refresh, certificates
@@ -292,12 +305,12 @@ def deposit_of(draft, cert):
 
 
 def refund_of(draft, cert):
-    """What a certificate gives back, by the draft before it."""
+    """What a certificate gives back, by the draft before it: nothing where none is registered."""
     entries = {"account-unreg": draft["accounts"], "drep-unreg": draft["dreps"]}.get(cert["cert"], {})
-    return entries[cert["cred"]]["deposit"] if entries else 0
+    return entries[cert["cred"]]["deposit"] if cert.get("cred") in entries else 0
 
 
-# ---- rules on inputs, outputs and collateral; each call gives what is broken, in order
+# ---- rules on inputs, outputs and collateral; each call gives all that is broken, in order
 
 
 def broken_at_first(ledger, tx):
@@ -345,7 +358,7 @@ def broken_by_outputs(ledger, tx):
 def left_of_collateral(ledger, tx):
     """What the collateral holds less its return; it may be negative."""
     returned = tx["collateralReturn"][1] if tx["collateralReturn"] else 0
-    return sum(ledger["outputs"][ref].amount for ref in tx["collateral"]) - returned
+    return sum(held_at(ledger, ref).amount for ref in tx["collateral"]) - returned
 
 
 def broken_by_collateral(ledger, tx):
@@ -357,7 +370,7 @@ def broken_by_collateral(ledger, tx):
     for place, ref in enumerate(tx["collateral"]):
         if ref not in ledger["outputs"] or ref in tx["collateral"][:place]:
             yield Broken(42, place)
-        if scripts and ledger["outputs"][ref].address[1] == "s":
+        if scripts and held_at(ledger, ref).address[1:2] == "s":
             yield Broken(43, place)
     if scripts:
         have = left_of_collateral(ledger, tx)
@@ -367,7 +380,7 @@ def broken_by_collateral(ledger, tx):
 
 def broken_by_collateral_assets(ledger, tx):
     """Where there are scripts, the collateral and its return have the same of each asset."""
-    held = added(*(ledger["outputs"][ref].assets for ref in tx["collateral"]))
+    held = added(*(held_at(ledger, ref).assets for ref in tx["collateral"]))
     returned = assets_of(tx["collateralReturn"]) if tx["collateralReturn"] else {}
     if tx["scripts"] != "none" and any(differences(held, returned)):
         yield Broken(46)
@@ -379,14 +392,15 @@ def broken_by_collateral_assets(ledger, tx):
 def broken_by_withdrawals(ledger, tx):
     for place, (account, amount) in enumerate(tx["withdrawals"]):
         entry = ledger["accounts"].get(account[1:])
+        balance = entry["balance"] if entry else 0
         if network_of(account) != ledger["network"]:
             yield Broken(50, place)
         if entry is None:
             yield Broken(51, place)
-        if account[1] == "k" and entry["drep"] is None:
+        if account[1] == "k" and entry and entry["drep"] is None:
             yield Broken(52, place)
-        if amount != entry["balance"]:
-            yield Broken(53, place, f"balance {entry['balance']}")
+        if amount != balance:
+            yield Broken(53, place, f"balance {balance}")
 
 
 def unknown_targets(draft, cert):
@@ -416,8 +430,9 @@ def broken_by_account(draft, cert):
     if kind == "delegate":
         yield from unknown_targets(draft, cert)
         return
-    yield from wrong_amount(63, cert.get("refund"), entry["deposit"])
-    if entry["balance"] != 0:
+    if entry is not None:
+        yield from wrong_amount(63, cert.get("refund"), entry["deposit"])
+    if entry is not None and entry["balance"] != 0:
         yield Broken(64, kept=f"balance {entry['balance']}")
 
 
@@ -490,12 +505,17 @@ def broken_by_cert(ledger, draft, cert):
     return broken_by_drep(draft, cert) if kind == "drep" else broken_by_cold_key(ledger, draft, cert)
 
 
+def act_if_allowed(ledger, draft, cert):
+    """Changes the draft by a certificate; one that breaks a rule leaves it as it was."""
+    if next(broken_by_cert(ledger, draft, cert), None) is None:
+        act(draft, cert)
+
+
 def draft_after(ledger, tx, count):
-    """After the first certificates, of which those that break a rule leave the draft as it was."""
+    """After the first certificates."""
     draft = begun_draft(ledger, tx)
     for cert in tx["certs"][:count]:
-        if next(broken_by_cert(ledger, draft, cert), None) is None:
-            act(draft, cert)
+        act_if_allowed(ledger, draft, cert)
     return draft
 
 
@@ -526,8 +546,10 @@ def wrong_order(ledger, action):
     follows_live = parent is not None and PURPOSES.get(parent["action"]["type"]) == purpose
     if previous != last and not follows_live:
         yield Broken(90)
-    if action["type"] == "HardForkInitiation":
-        major, minor = ledger["version"] if previous == last else parent["action"]["version"]
+    # what follows no fork follows no version
+    before = ledger["version"] if previous == last else parent["action"].get("version") if parent else None
+    if action["type"] == "HardForkInitiation" and before:
+        major, minor = before
         if list(action["version"]) not in ([major + 1, 0], [major, minor + 1]):
             yield Broken(91)
 
@@ -582,9 +604,9 @@ def broken_by_vote(ledger, draft, vote):
         yield Broken(100)
     if not is_voter(draft, vote["voter"]):
         yield Broken(101)
-    if not may_vote(vote["voter"].split(":")[0], proposal["action"]):
+    if proposal and not may_vote(vote["voter"].split(":")[0], proposal["action"]):
         yield Broken(102)
-    if proposal["until"] < ledger["epoch"]:
+    if proposal and proposal["until"] < ledger["epoch"]:
         yield Broken(103)
     role, name = vote["voter"].split(":")
     if is_from_version_eleven(ledger) and role == "committee" and not is_seated(draft, name):
@@ -595,24 +617,24 @@ def broken_by_vote(ledger, draft, vote):
 
 
 def sums_of(ledger, tx):
-    """What is consumed and what is produced, of a transaction of which nothing before the balance is broken."""
+    """What is consumed and what is produced. Of a certificate that breaks a rule it is what it would give back and put in."""
     draft = begun_draft(ledger, tx)
-    consumed = sum(ledger["outputs"][ref].amount for ref in tx["inputs"]) + sum(amount for _, amount in tx["withdrawals"])
+    consumed = sum(held_at(ledger, ref).amount for ref in tx["inputs"]) + sum(amount for _, amount in tx["withdrawals"])
     produced = sum(it[1] for it in tx["outputs"]) + tx["fee"] + tx["donation"] + sum(it["deposit"] for it in tx["proposals"])
     for cert in tx["certs"]:
         consumed, produced = consumed + refund_of(draft, cert), produced + deposit_of(draft, cert)
-        act(draft, cert)
+        act_if_allowed(ledger, draft, cert)
     return consumed, produced
 
 
 def asset_sums(ledger, tx):
     """What is consumed and what is produced of each asset."""
-    consumed = added(*(ledger["outputs"][ref].assets for ref in tx["inputs"]), minted(tx))
+    consumed = added(*(held_at(ledger, ref).assets for ref in tx["inputs"]), minted(tx))
     return consumed, added(*map(assets_of, tx["outputs"]), burned(tx))
 
 
 def broken_by(ledger, tx):
-    """All that is asked of a transaction. Nothing may be asked for past the first that is broken."""
+    """Every rule that a transaction breaks, in order."""
     for part in (broken_at_first, broken_by_size_time_and_fee, broken_by_outputs, broken_by_collateral):
         yield from part(ledger, tx)
     failed = tx["scripts"] == "failed"
@@ -626,7 +648,7 @@ def broken_by(ledger, tx):
     draft = begun_draft(ledger, tx)
     for place, cert in enumerate(tx["certs"]):
         yield from (it._replace(place=place) for it in broken_by_cert(ledger, draft, cert))
-        act(draft, cert)
+        act_if_allowed(ledger, draft, cert)
     for place, proposal in enumerate(tx["proposals"]):
         yield from (it._replace(place=place) for it in broken_by_proposal(ledger, draft, proposal))
     for place, vote in enumerate(tx["votes"]):
@@ -673,11 +695,12 @@ def after(ledger, tx):
     return draft
 
 
-def applied(ledger, tx):
-    """The ledger after a transaction, the rule that it breaks first, or None, and the answer to it."""
+def refusals(ledger, tx):
+    """The line of each rule that a transaction breaks, in order: the first is the answer to it."""
+    return [it.refusal() for it in broken_by(ledger, filled(tx))]
+
+
+def accepted(ledger, tx):
+    """The ledger after a transaction that breaks no rule, and the answer to it."""
     tx = filled(tx)
-    broken = next(broken_by(ledger, tx), None)
-    if broken is None:
-        return after(ledger, tx), None, "accepted failed-scripts" if tx["scripts"] == "failed" else "accepted"
-    place = "" if broken.place is None else f" at {broken.place}"
-    return ledger, broken.rule, f"refused {broken.rule} {NAMES[broken.rule]}{place} {broken.kept}".rstrip()
+    return after(ledger, tx), "accepted failed-scripts" if tx["scripts"] == "failed" else "accepted"

@@ -1,6 +1,8 @@
 """The streams that tests/run/bench_further times: ledgers of many accounts, used ids, proposals and
 votes, and transfers behind them."""
 
+from itertools import repeat
+
 from bench_epochs import block, chosen_by, coming, stake_output, who
 from bench_shapes import DEPOSIT, EACH, FIRST, INFO, OWNER, PRICES, STAKE, Chain, beginning, following, hashed, hashes, proposal
 from oracle.certificates import frozen_of, parted, snapshot_lines
@@ -104,6 +106,13 @@ def transfers(chain, count):
         line, chain = chain.next(0)
         yield line
     return chain
+
+
+def refused_twice(count):
+    """A ledger, and so many times one transfer without a witness that pays more than it has."""
+    chain = yield from ledger(Sizes())
+    line, _ = chain.next(-1, witnessed=False)
+    yield from repeat(line, count)
 
 
 def followed(sizes, count, rolls):

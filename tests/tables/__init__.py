@@ -6,6 +6,7 @@ from tables import (
     assets,
     dreps,
     epochs,
+    explained,
     fields,
     genesis,
     json_forms,
@@ -24,7 +25,7 @@ from tables import (
     worked,
 )
 
-TABLES = (words, lines, json_forms, genesis, fields, limits, epochs, parts, rules, accounts, pools, pool_keys, dreps, proposals, votes, seats, outputs, scripts, assets, worked)
+TABLES = (words, lines, json_forms, genesis, fields, limits, epochs, parts, rules, accounts, pools, pool_keys, dreps, proposals, votes, seats, outputs, scripts, assets, explained, worked)
 
 
 def cases():

@@ -32,18 +32,22 @@ WRONG = [
     ("--workers", "1"),
     ("--workers", "1", "replay"),
 ]
-# what may not stand behind the commands that read checkpoints, certificates and rollbacks
+# what may not stand behind `explain` and the commands that read checkpoints, certificates and
+# rollbacks
 WRONG_BEHIND = [
     *(("check", "--workers", it) for it in ("1", "2")),
     ("check", "--workers=1"),
     ("check", ""),
     ("check", "check"),
-    *((it, "--workers", "0") for it in ("resume", "follow")),
-    *((it, "--workers", "65") for it in ("resume", "follow")),
-    *((it, "--workers", "1", "--workers", "1") for it in ("resume", "follow")),
-    *((it, "x") for it in ("resume", "follow")),
+    *((it, "--workers", "0") for it in ("explain", "resume", "follow")),
+    *((it, "--workers", "65") for it in ("explain", "resume", "follow")),
+    *((it, "--workers", "1", "--workers", "1") for it in ("explain", "resume", "follow")),
+    *((it, "x") for it in ("explain", "resume", "follow")),
     ("resume", "resume"),
     ("Resume",),
+    ("explain", "replay"),
+    ("Explain",),
+    ("explains",),
     ("checks",),
     ("follow ",),
 ]

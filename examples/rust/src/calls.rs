@@ -53,6 +53,13 @@ extern "C" {
         room: *mut u8,
         size: usize,
     ) -> Answer;
+    pub fn conway_explain(
+        ledger: *mut Conway,
+        line: *const u8,
+        length: usize,
+        room: *mut u8,
+        size: usize,
+    ) -> Answer;
     pub fn conway_checkpoint(ledger: *mut Conway, room: *mut u8, size: usize) -> Answer;
     pub fn conway_outlook(ledger: *mut Conway, room: *mut u8, size: usize) -> Answer;
     pub fn conway_text(ledger: *mut Conway, room: *mut u8, size: usize) -> Answer;

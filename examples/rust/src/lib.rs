@@ -162,6 +162,22 @@ impl Ledger {
         })
     }
 
+    /// A line for each rule that the next line breaks; nothing is recorded.
+    pub fn explain(&mut self, line: &[u8]) -> Result<&[u8], Fault> {
+        self.text_of(|handle, room| {
+            // SAFETY: the handle is one of this library; line and room are as long as is said.
+            unsafe {
+                calls::conway_explain(
+                    handle,
+                    line.as_ptr(),
+                    line.len(),
+                    room.as_mut_ptr(),
+                    room.len(),
+                )
+            }
+        })
+    }
+
     /// What `checkpoint` writes here.
     pub fn checkpoint(&mut self) -> Result<&[u8], Fault> {
         self.text_of(|handle, room| {
