@@ -9,6 +9,8 @@ mod fields;
 #[cfg(test)]
 mod follow;
 #[cfg(test)]
+mod notes;
+#[cfg(test)]
 mod outputs;
 #[cfg(test)]
 mod printed;
