@@ -1,5 +1,6 @@
 """Damaged texts: each line of a text left out, doubled or swapped with the next, each word with
-another last character, with a zero, a capital or a space more, and the text cut after a byte."""
+another last character, with a zero, a capital or a space more, and the text cut after a byte. And
+streams of lines that are damaged by chance."""
 
 OTHER_DIGIT = str.maketrans("0123456789abcdefk", "123456789abcdef0s")
 
@@ -65,3 +66,54 @@ def cut(lines):
     """The text after each byte, the whole one aside."""
     text = text_of(lines)
     return ((f"cut after {it} bytes", text[:it]) for it in range(len(text)))
+
+
+# ---- by chance
+
+
+def with_other_bytes(line, chosen):
+    """One to three bytes are others."""
+    line = bytearray(line)
+    for _ in range(chosen.randint(1, 3) if line else 0):
+        line[chosen.randrange(len(line))] = chosen.randrange(256)
+    return bytes(line)
+
+
+def with_a_part(line, chosen, change):
+    """A part of the line is changed."""
+    start, end = sorted(chosen.randrange(len(line) + 1) for _ in range(2))
+    return line[:start] + change(line[start:end]) + line[end:]
+
+
+# what happens to a line
+LINES = (
+    with_other_bytes,
+    with_other_bytes,
+    lambda line, chosen: line[: chosen.randrange(len(line) + 1)],
+    lambda line, chosen: line[chosen.randrange(len(line) + 1) :],
+    lambda line, chosen: line + line,
+    lambda line, chosen: with_a_part(line, chosen, lambda part: part + part),
+    lambda line, chosen: with_a_part(line, chosen, lambda part: b""),
+    lambda line, chosen: with_a_part(line, chosen, lambda part: bytes(reversed(part))),
+    lambda line, chosen: line.replace(*(b"%d" % chosen.randrange(10) for _ in range(2))),
+)
+
+
+def damaged_line(line, chosen):
+    """Another line than this one, which is not empty."""
+    while True:
+        other = chosen.choice(LINES)(line, chosen)
+        if other != line:
+            return other
+
+
+def damaged_by_chance(lines, chosen, times):
+    """These lines, each so many times damaged, then perhaps whole, and some behind the next one."""
+    parts = []
+    for line in lines:
+        parts += (damaged_line(line, chosen) for _ in range(times))
+        parts += [line] * chosen.randrange(2)
+    for at in range(len(parts) - 1):
+        if chosen.randrange(8) == 0:
+            parts[at], parts[at + 1] = parts[at + 1], parts[at]
+    return parts

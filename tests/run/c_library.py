@@ -14,6 +14,29 @@ from stored import TOP
 
 LIBRARY = TOP / "crates/conway_c/out/libconway_c.a"
 HEADERS = TOP / "examples/c"
+# the programs in C that try the library
+TRIALS = Path(__file__).resolve().parent / "c"
+# of a program whose blocks are counted, by trial.c
+COUNTED = "-Wl," + ",".join(f"--wrap={it}" for it in ("malloc", "calloc", "realloc", "aligned_alloc", "posix_memalign", "free"))
+# of a program that sanitizers look at, and its status where they find something
+SANITIZED = ("-g", "-O1", "-fno-omit-frame-pointer", "-fsanitize=address,undefined", "-fno-sanitize-recover=all")
+FOUND = 99
+# a program that does nothing wrong, or by its word writes behind a block, loses one, or overflows
+PROBE = b"""
+#include <limits.h>
+#include <stdlib.h>
+int main(int count, char **words)
+{
+    char wrong = count > 1 ? words[1][0] : 0;
+    volatile int sum = INT_MAX;
+    volatile char *volatile block = malloc(8);
+    block[wrong == 'b' ? 8 : 0] = 1;
+    sum += wrong == 's';
+    if (wrong != 'l') free((void *)block);
+    block = NULL;
+    return 0;
+}
+"""
 
 
 class Parts(NamedTuple):
@@ -45,12 +68,56 @@ def parts_for(script, library=LIBRARY):
     return Parts(compiler, library, archives)
 
 
+def compiled(parts, sources, made, flags=("-O1",)):
+    """C files as a program over the library."""
+    words = [*flags, "-Wall", "-Wextra", "-Werror", "-I", HEADERS]
+    subprocess.run([parts.compiler, *words, *sources, parts.library, *parts.archives, "-o", made], check=True)
+    return made
+
+
 def program_in_c(parts, folder, name):
     """A file of examples/c as a program."""
-    made = folder / name
-    flags = ["-O1", "-Wall", "-Wextra", "-Werror", "-I", HEADERS]
-    subprocess.run([parts.compiler, *flags, HEADERS / f"{name}.c", parts.library, *parts.archives, "-o", made], check=True)
-    return made
+    return compiled(parts, [HEADERS / f"{name}.c"], folder / name)
+
+
+def trial_in_c(parts, folder, name, flags=("-O1",)):
+    """A file of tests/run/c as a program, whose blocks are counted."""
+    return compiled(parts, [TRIALS / f"{name}.c", TRIALS / "trial.c"], folder / name, (*flags, COUNTED))
+
+
+class Checker(NamedTuple):
+    """What looks at a program as it runs: how that is compiled, the words before it, and its environment."""
+
+    compiler: str
+    flags: tuple = SANITIZED
+    words: tuple = ()
+    env: dict = {**os.environ, "ASAN_OPTIONS": f"exitcode={FOUND}:detect_leaks=1", "UBSAN_OPTIONS": f"exitcode={FOUND}:print_stacktrace=1"}
+
+
+def finds(checker, folder):
+    """What a checker finds of what is wrong in a program: bytes behind a block, a lost block, a sum. None where it does not run."""
+    made = folder / "probe"
+    built = subprocess.run([checker.compiler, *checker.flags, "-x", "c", "-", "-o", made], input=PROBE, capture_output=True)
+    if built.returncode:
+        return None
+    ends = {it: subprocess.run([*checker.words, made, *it.split()], capture_output=True, env=checker.env).returncode for it in ("", "behind", "lost", "sum")}
+    return None if ends.pop("") else {it for it, status in ends.items() if status == FOUND}
+
+
+def sanitizer(folder):
+    """The first compiler that has a runtime of its sanitizers, as a checker, or None."""
+    for name in ("gcc", "clang", "cc"):
+        checker = Checker(shutil.which(name)) if shutil.which(name) else None
+        if checker and finds(checker, folder) == {"behind", "lost", "sum"}:
+            return checker
+    return None
+
+
+def valgrind(parts, folder):
+    """Memcheck as a checker, which also looks at each access of the library's own code, or None."""
+    words = ("valgrind", "--quiet", f"--error-exitcode={FOUND}", "--leak-check=full", "--errors-for-leak-kinds=all")
+    checker = Checker(parts.compiler, ("-g", "-O1"), words, dict(os.environ))
+    return checker if shutil.which("valgrind") and finds(checker, folder) == {"behind", "lost"} else None
 
 
 def shared_library(parts, folder):
