@@ -12,7 +12,8 @@ use std::thread::Threads;
 /// Runs the command of the words after the program's name. (Own) `replay` writes a record's text,
 /// then reads on, `resume` does so behind a checkpoint, and `follow` takes records back besides;
 /// `certify` writes a certificate ahead of each boundary, and `check` answers whether texts are
-/// such; `explain` writes every rule that a record breaks; `shortfall`, `outlook` and `checkpoint`
+/// such; `explain` writes every rule that a record breaks, what of a malformed line is not of its
+/// shape, with its path, and each name that nobody reads; `shortfall`, `outlook` and `checkpoint`
 /// write at the end; `load` writes its stream's summary. Workers (default 1), in the crew's
 /// threads, enter its gate and share the counts.
 pub fn run<R: Threads + Sync, S: Source, K: Sink, G: Gate + Sync>(

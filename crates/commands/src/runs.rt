@@ -12,9 +12,9 @@ ghost use Rattle.command_runs.specs.of_replay_loop.Tells.{telling_of};
 use byte_lines::{Sink, Source};
 use certificate_check::Certificates;
 use check_loop::answer_texts;
+use command_runs::of_explain_loop::explain;
 use command_runs::of_replay_loop::{Answered, Status, Told, load, tell_told};
 use command_runs::{status_of_check, status_of_resume};
-use explain_loop::explain;
 use following::follow_ledger;
 use following::of_held_ledger::{Crew, Held, answer};
 use load_options::LoadCommand;
@@ -46,7 +46,8 @@ pub(crate) fn tells<R: Threads + Sync, S: Source, K: Sink, G: Gate + Sync>(
     Status::of(tell_told(crew.alloc, &answers, workers, told, source, sink))
 }
 
-/// Says all that is wrong with the records of a source.
+/// Says every rule that a record of a source breaks, what of a malformed line is not of its shape,
+/// with its path, and each name that nobody reads.
 pub(crate) fn explains<R: Threads + Sync, S: Source, K: Sink, G: Gate + Sync>(
     crew: &Crew<R, G>,
     workers: u32,

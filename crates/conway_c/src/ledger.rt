@@ -52,7 +52,7 @@ impl Ledger {
         self.session.judge(line)
     }
 
-    /// Says all that is wrong with the next line.
+    /// Says all that is wrong with the next line, and each name that nobody reads.
     fn explain(&mut self, line: &[u8]) -> Ending
         ensures { Explains self.old line.now self.new result }
     {

@@ -130,8 +130,9 @@ pub extern "C" fn conway_judge(
 }
 
 /// Says all that is wrong with the next line and records nothing. The text has a line for each rule
-/// that it breaks, the first of which is the line of its reply; it is empty where the line would be
-/// accepted. Statuses are those of `conway_judge`; where it is not 0 nothing changed.
+/// that it breaks, the first that of its reply, then for each value of a malformed line that is not
+/// of its shape, with its path, and each name that nobody reads; it is empty where there is none.
+/// Statuses are those of `conway_judge`; where it is not 0 nothing changed.
 #[unsafe(no_mangle)]
 pub extern "C" fn conway_explain(
     alloc: Global,

@@ -1,11 +1,14 @@
 -- What a line would be answered, all that is wrong with it, and the calls that say so. (Own)
 use Rattle.std.specs.Prelude.{◌≡◌, ◌+◌, ◌^◌, ℕ, Bool, true, false, List, [], ◌∷◌, Option, Some, None}
-use Rattle.explain_model.specs.Explained.{explained_lines}
+use Rattle.byte_lines.specs.Pieces.{kept}
+use Rattle.explain_loop.specs.of_explain_model.Explained.{explained_lines}
+use Rattle.record_notes.specs.Lines.{Noted, noted_of_line}
 use Rattle.run_model.specs.Step.{step}
 use Rattle.run_model.specs.World.{World}
 use Rattle.text_model.specs.Replies.{reply_words}
 use Rattle.text_model.specs.Runs.{line_rule, text_of_lines}
 use Rattle.text_model.specs.Words.{Text}
+use Rattle.tx_records.specs.declared.limits.TheConstants.{LINE_LIMIT}
 use Rattle.tx_records.specs.declared.record.Reading.{Reading}
 use Rattle.tx_records.specs.declared.record.Reading.TheVariants.{Read, Malformed, TooLong}
 use Rattle.tx_records.specs.declared.record.Record.TheVariants as records
@@ -27,26 +30,32 @@ abbrev pub verdict_text : World → ℕ → Option Reading → Text
 verdict_text w n None = []
 verdict_text w n (Some r) = text_of_lines n (reply_words (reply_to w r) ∷ [])
 
--- the text of an explanation: a line for each rule that is broken; a blank line has none
-abbrev pub explanation_text : World → ℕ → Option Reading → Text
+-- what a line says, with what more there is to say of it; a line that is longer than the limit is
+-- read as too long
+abbrev pub noted_by : List ℕ → Option Noted
+noted_by line = noted_of_line (kept LINE_LIMIT line)
+
+-- the text of an explanation: a line for each rule that is broken, for each value that is not of
+-- its shape and for each name that nobody reads; a blank line has none
+abbrev pub explanation_text : World → ℕ → Option Noted → Text
 explanation_text w n None = []
 explanation_text w n (Some r) = text_of_lines n (explained_lines w r)
 
 -- what saying such a text of the next line did: the text alone changes, and that stays, too, where
 -- it is not done
-abbrev pub Says : (World → ℕ → Option Reading → Text) → Standing → List ℕ → Standing → Ending → Type 0
-Says text_by s line s' endings.Done = (w : World) × (s.world ≡ Some w) × (s' ≡ record s { text = text_by w (s.line + 1) (said_by line) })
+abbrev pub Says : (World → ℕ → List ℕ → Text) → Standing → List ℕ → Standing → Ending → Type 0
+Says text_by s line s' endings.Done = (w : World) × (s.world ≡ Some w) × (s' ≡ record s { text = text_by w (s.line + 1) line })
 Says text_by s line s' endings.Closed = (s.world ≡ None) × (s' ≡ s)
 Says text_by s line s' endings.Full = (s.line + 1 ≡ 2 ^ 64) × (s' ≡ s)
 Says text_by s line s' endings.NoMemory = s' ≡ s
 
 -- what judging the next line did
 abbrev pub Judges : Standing → List ℕ → Standing → Ending → Type 0
-Judges = Says verdict_text
+Judges = Says (λ w n line. verdict_text w n (said_by line))
 
 -- what explaining it did
 abbrev pub Explains : Standing → List ℕ → Standing → Ending → Type 0
-Explains = Says explanation_text
+Explains = Says (λ w n line. explanation_text w n (noted_by line))
 
 -- whether the text of a record is another than its reply: of a print and of an accepted block
 abbrev pub is_shown : Reading → Reply → Bool

@@ -3,15 +3,16 @@ ghost use Rattle.std.specs.Prelude.{◌≡◌, IfOk, Some, true};
 ghost use Rattle.checkpoint_model.specs.Checkpoint.{checkpoint_text};
 ghost use Rattle.embedded.specs.Shown.{outlook_text};
 ghost use Rattle.embedded.specs.Verdicts.{explanation_text};
+ghost use Rattle.record_notes.specs.Seen.{noted_seen};
 ghost use Rattle.record_stream.specs.Records.{is_within};
 
 use crate::state::SessionState;
 use byte_lines::{MemorySink, SinkFault, put_all};
 use explain_loop::put_explained;
 use no_memory::NoMemory;
+use record_notes::Noted;
 use report::LineTaker;
 use std::alloc::Global;
-use tx_records::Reading;
 
 /// Takes lines, and appends each to a text.
 #[derive(Drop)]
@@ -55,21 +56,22 @@ pub(crate) fn checkpoint_of<R: SessionState>(
     }
 }
 
-/// A line for each rule that what was read of the line of this number breaks over a state.
+/// A line for each rule that what was read of the line of this number breaks over a state, and for
+/// each note of it.
 pub(crate) fn explanation_of<R: SessionState>(
     alloc: Global,
     state: &R,
     number: u64,
-    reading: &Reading,
+    noted: &Noted,
 ) -> Result<MemorySink, NoMemory>
-    requires within { is_within reading.now ≡ true }
-    ensures { IfOk result (λ text. text ≡ explanation_text (R.world state.now) number (Some reading.now)) }
+    requires within { is_within noted.now.reading ≡ true }
+    ensures { IfOk result (λ text. text ≡ explanation_text (R.world state.now) number (Some (noted_seen noted.now))) }
 {
     let mut to = Gathered {
         text: MemorySink::new(alloc),
     };
     let mut buffer = Vec::new(alloc);
-    match put_explained(alloc, state, reading, &mut to, &mut buffer, number) {
+    match put_explained(alloc, state, noted, &mut to, &mut buffer, number) {
         Ok(()) => Ok(to.text),
         Err(_) => Err(NoMemory),
     }

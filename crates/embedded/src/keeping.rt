@@ -1,11 +1,10 @@
 //! What a line says, and the state and the text after it.
 ghost use Rattle.std.specs.Prelude.{◌≡◌, Err, IfOk, IfSome, Some, true};
 ghost use Rattle.embedded.specs.Standing.{Begun, after_line, after_reading, said_by, start_fault_of};
-ghost use Rattle.embedded.specs.Verdicts.{explanation_text, verdict_text};
+ghost use Rattle.embedded.specs.Verdicts.{verdict_text};
 ghost use Rattle.record_stream.specs.Records.{is_within};
 ghost use Rattle.replay_loop.specs.Outcomes.{outcome_text};
 
-use crate::gathered::explanation_of;
 use crate::state::SessionState;
 use byte_lines::{MemorySink, SinkFault, put_all};
 use hash_seed::HashSeed;
@@ -125,22 +124,6 @@ pub(crate) fn judged<R: SessionState + Drop>(
 {
     match read(alloc, scratch, line)? {
         Some(reading) => judged_read(alloc, state, number, &reading),
-        None => Ok(MemorySink::new(alloc)),
-    }
-}
-
-/// The text of the explanation of the line of this number.
-pub(crate) fn explained<R: SessionState + Drop>(
-    alloc: Global,
-    scratch: &mut Scratch,
-    state: &R,
-    number: u64,
-    line: &[u8],
-) -> Result<MemorySink, NoMemory>
-    ensures { IfOk result (λ text. text ≡ explanation_text (R.world state.now) number (said_by line.now)) }
-{
-    match read(alloc, scratch, line)? {
-        Some(reading) => explanation_of(alloc, state, number, &reading),
         None => Ok(MemorySink::new(alloc)),
     }
 }

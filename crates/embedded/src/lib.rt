@@ -3,6 +3,7 @@
 
 mod ending;
 mod every_session;
+mod explaining;
 mod fault;
 mod gathered;
 mod keeping;

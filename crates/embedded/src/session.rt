@@ -5,9 +5,10 @@ ghost use Rattle.embedded.specs.Standing.{Opens, Records};
 ghost use Rattle.embedded.specs.Verdicts.{Explains, Judges};
 
 use crate::ending::Ending;
+use crate::explaining::explained;
 use crate::fault::CheckpointFault;
 use crate::gathered::{checkpoint_of, outlook_of};
-use crate::keeping::{after, begin, explained, judged};
+use crate::keeping::{after, begin, judged};
 use crate::resumed::resumed;
 use crate::state::SessionState;
 use byte_lines::MemorySink;
@@ -131,8 +132,9 @@ impl<R: SessionState + Drop> Session<R> {
     }
 
     /// Says all that is wrong with the next line and records nothing: the text has a line for each
-    /// rule that it breaks, the first of which is that of its reply; it is empty where the line
-    /// would be accepted. `NoMemory` changes nothing.
+    /// rule that it breaks, the first that of its reply, then for each value of a malformed line
+    /// that is not of its shape, with its path, and each name that nobody reads; it is empty where
+    /// there is none. `NoMemory` changes nothing.
     pub fn explain(&mut self, line: &[u8]) -> Ending
         ensures { Explains self.old line.now self.new result }
     {

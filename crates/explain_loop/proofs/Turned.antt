@@ -1,5 +1,5 @@
 -- An answer to a reading says where the command stands then.
-use Rattle.std.proofs.Common.{◌≡◌, ◌∙◌, ◌++◌, ℕ, [], Option, Some, None, Result, Ok, Err, ap, append-nil, refl, sym}
+use Rattle.std.proofs.Common.{◌≡◌, ◌∙◌, ◌++◌, ℕ, [], Option, Some, None, Result, Ok, Err, ap, append-nil, refl, subst, sym}
 use Rattle.line_runs.specs.Batches.{Gathered, TellsAll, TellsPart}
 use Rattle.line_runs.specs.Plays.{Goes, Stops, Turn}
 use Rattle.line_runs.specs.Turns.{IsTurnOf, IsTurned}
@@ -19,6 +19,7 @@ use Rattle.replay_loop.specs.declared.fault.AnswerFault.TheVariants as answer_fa
 use Rattle.replay_loop.specs.declared.outcome.Outcome.{Outcome}
 use Rattle.replay_loop.specs.declared.status.GenesisCause.{GenesisCause}
 use Rattle.replay_loop.proofs.Played.{FirstBy, read_first}
+use Rattle.explain_print.specs.of_explain_model.of_record_notes.Lines.{Noted}
 use Rattle.explain_loop.specs.Plays.{Failed, Over, Standing, begun, explain_play, explain_turn}
 use Rattle.explain_loop.specs.Turns.{IsExplainedTo, told_lines, told_turn}
 use Rattle.explain_loop.specs.declared.place.Place.TheVariants as places
@@ -28,7 +29,7 @@ lacking : (stands : Standing → Type 0) (turn : Turn Standing GenesisCause) (g 
 lacking stands (Goes s text) g = no_part g text
 lacking stands (Stops cause) g = refl
 
-pub line_lacking : (stands : Standing → Type 0) (s : Standing) (n : ℕ) (said : Option Reading) (g : Gathered) → IsTurnOf explain_play stands s n said g g (Err faults.NoMemory)
+pub line_lacking : (stands : Standing → Type 0) (s : Standing) (n : ℕ) (said : Option Noted) (g : Gathered) → IsTurnOf explain_play stands s n said g g (Err faults.NoMemory)
 line_lacking stands s n None g = refl
 line_lacking stands s n (Some r) g = lacking stands (explain_turn s n r) g
 
@@ -60,16 +61,16 @@ begun_bad (Some w) r cause is = absurd is
 all_part : (g g' : Gathered) (text : Text) → TellsAll g.taken g'.taken g.batch g'.batch text → TellsPart g.taken g'.taken g.batch g'.batch text
 all_part g g' text all = record { handed = all.handed; took = all.took; front = ([], sym all.all ∙ sym (append-nil (all.handed ++ g'.batch))) }
 
-module _ {State : Type 0} (world : State → World) (o : Option World) (n : ℕ) (r : Reading) (g g' : Gathered) where
+module _ {State : Type 0} (world : State → World) (o : Option World) (n : ℕ) (r : Noted) (reading : Reading) (is_read : reading ≡ r.reading) (g g' : Gathered) where
   abbrev Told : Type 0
   Told = TellsAll g.taken g'.taken g.batch g'.batch (text_of_lines n (told_lines o r))
 
   -- by the answer
-  pub turned_over : (after : State) (out : Outcome) → Answers o r (Ok (world after, out)) → Told → IsExplainedTo world (told_turn o n r) g g' (Ok (places.Over after))
-  turned_over after out is told = (begun_ok o r (world after) out is, told)
+  pub turned_over : (after : State) (out : Outcome) → Answers o reading (Ok (world after, out)) → Told → IsExplainedTo world (told_turn o n r) g g' (Ok (places.Over after))
+  turned_over after out is told = (begun_ok o r.reading (world after) out (subst (λ (x : Reading). Answers o x (Ok (world after, out))) is_read is), told)
 
-  pub turned_failed : (cause : GenesisCause) → Answers o r (Err (answer_faults.BadGenesis cause)) → Told → IsExplainedTo world (told_turn o n r) g g' (Ok (places.Failed cause))
-  turned_failed cause is told = (begun_bad o r cause is, told)
+  pub turned_failed : (cause : GenesisCause) → Answers o reading (Err (answer_faults.BadGenesis cause)) → Told → IsExplainedTo world (told_turn o n r) g g' (Ok (places.Failed cause))
+  turned_failed cause is told = (begun_bad o r.reading cause (subst (λ (x : Reading). Answers o x (Err (answer_faults.BadGenesis cause))) is_read is), told)
 
   -- memory ran out for it
   pub turned_none : Told → IsExplainedTo world (told_turn o n r) g g' (Err faults.NoMemory)

@@ -1,6 +1,7 @@
 -- How the turn of one reading ends. (Own)
 use Rattle.std.specs.Prelude.{◌≡◌, ℕ, List, Option, Some, None, Result, Ok, Err, ⊤}
-use Rattle.explain_model.specs.Explained.{explained_lines, first_lines}
+use Rattle.explain_print.specs.of_explain_model.Explained.{explained_lines, first_lines}
+use Rattle.explain_print.specs.of_explain_model.of_record_notes.Lines.{Noted}
 use Rattle.line_runs.specs.Batches.{Gathered}
 use Rattle.line_runs.specs.Plays.{Goes, Turn}
 use Rattle.line_runs.specs.Turns.{IsTurned}
@@ -10,19 +11,18 @@ use Rattle.replay_loop.specs.declared.status.GenesisCause.{GenesisCause}
 use Rattle.run_model.specs.World.{World}
 use Rattle.text_model.specs.Runs.{text_of_lines}
 use Rattle.text_model.specs.Words.{Text}
-use Rattle.tx_records.specs.declared.record.Reading.{Reading}
 use Rattle.explain_loop.specs.Plays.{Failed, Over, Standing, Unbegun, begun}
 use Rattle.explain_loop.specs.declared.place.Place.{Place}
 use Rattle.explain_loop.specs.declared.place.Place.TheVariants as places
 
 -- the lines of a reading, over the World before it, if there is one
-abbrev pub told_lines : Option World → Reading → List (List Text)
+abbrev pub told_lines : Option World → Noted → List (List Text)
 told_lines None r = first_lines r
 told_lines (Some w) r = explained_lines w r
 
 -- they come ahead of the answer, which says how far the command is then
-abbrev pub told_turn : Option World → ℕ → Reading → Turn Standing GenesisCause
-told_turn o n r = Goes (begun (answered o r)) (text_of_lines n (told_lines o r))
+abbrev pub told_turn : Option World → ℕ → Noted → Turn Standing GenesisCause
+told_turn o n r = Goes (begun (answered o r.reading)) (text_of_lines n (told_lines o r))
 
 -- how far a command is, for states with such Worlds
 abbrev pub standing_of : {State : Type 0} → (State → World) → Place State → Standing

@@ -1,6 +1,7 @@
 ghost use Rattle.std.specs.Prelude.{◌≡◌, ◌≢◌, ◌≤◌, Err, option_map, true};
 ghost use Rattle.byte_lines.specs.Faults.{CountsFaults};
-ghost use Rattle.record_stream.specs.Records.{is_within};
+ghost use Rattle.explain_print.specs.of_explain_model.of_record_notes.Seen.{noted_seen};
+ghost use Rattle.explain_print.specs.of_explain_model.of_record_notes.of_record_stream.Records.{is_within};
 ghost use Rattle.replay_loop.specs.Answers.{AnswersEach};
 ghost use Rattle.explain_loop.specs.Plays.{explain_turn};
 ghost use Rattle.explain_loop.specs.Turns.{IsExplainedTo, standing_of, told_turn};
@@ -8,10 +9,10 @@ ghost use Rattle.explain_loop.specs.Turns.{IsExplainedTo, standing_of, told_turn
 use crate::place::Place;
 use crate::reading::read;
 use crate::state::ExplainedState;
-use crate::told::write;
+use crate::told::write_noted;
 use byte_lines::Sink;
+use explain_print::of_explain_model::of_record_notes::{Noted, Scratch};
 use line_runs::{LineCommand, RunFault};
-use record_stream::of_record_read::Scratch;
 use replay_loop::{AnswerFault, Answered, GenesisCause};
 use std::alloc::Global;
 use std::mem;
@@ -33,30 +34,30 @@ pub(crate) struct Explain<
     pub(crate) text: Vec<u8>,
 }
 
-/// Tells what a reading breaks over the state before it, and then answers it. What is wrong with
-/// the first reading comes too, and where it gives no state nothing can follow it.
+/// Tells what a reading breaks over the state before it, with its notes, and then answers it. What
+/// is wrong with the first reading comes too, and where it gives no state nothing can follow it.
 fn explain_over<R: ExplainedState + Drop, F: Fn(u32, Option<R>, Reading) -> Answered<R>, K: Sink>(
     alloc: Global,
     answer: &F,
     workers: u32,
     before: Option<R>,
-    reading: Reading,
+    noted: Noted,
     number: u64,
     text: &mut Vec<u8>,
     batch: &mut Vec<u8>,
     sink: &mut K,
 ) -> Result<Place<R>, RunFault<GenesisCause>>
-    requires within { is_within reading ≡ true }
+    requires within { is_within noted.reading ≡ true }
     requires some { 1 ≤ workers }
     requires few { workers ≤ 64 }
     requires answers { AnswersEach R.world (F.pre answer.now) (F.post answer.now) }
-    ensures turns { IsExplainedTo R.world (told_turn (option_map R.world before) number reading)
+    ensures turns { IsExplainedTo R.world (told_turn (option_map R.world before) number (noted_seen noted))
         (record { taken = K.taken sink.old; batch = batch.old.items })
         (record { taken = K.taken sink.new; batch = batch.new.items }) result }
     ensures reads { result ≢ Err RunFault.ReadFault }
     ensures counts { CountsFaults (result ≡ Err RunFault.WriteFault) (K.faults sink.old) (K.faults sink.new) }
 {
-    write(&before, alloc, &reading, number, text, batch, sink)?;
+    let reading = write_noted(&before, alloc, noted, number, text, batch, sink)?;
     match answer(workers, before, reading) {
         Ok((after, _outcome)) => Ok(Place::Over(after)),
         Err(AnswerFault::BadGenesis(cause)) => Ok(Place::Failed(cause)),
@@ -70,17 +71,17 @@ fn turn<R: ExplainedState + Drop, F: Fn(u32, Option<R>, Reading) -> Answered<R>,
     answer: &F,
     workers: u32,
     before: Place<R>,
-    reading: Reading,
+    noted: Noted,
     number: u64,
     text: &mut Vec<u8>,
     batch: &mut Vec<u8>,
     sink: &mut K,
 ) -> Result<Place<R>, RunFault<GenesisCause>>
-    requires within { is_within reading ≡ true }
+    requires within { is_within noted.reading ≡ true }
     requires some { 1 ≤ workers }
     requires few { workers ≤ 64 }
     requires answers { AnswersEach R.world (F.pre answer.now) (F.post answer.now) }
-    ensures turns { IsExplainedTo R.world (explain_turn (standing_of R.world before) number reading)
+    ensures turns { IsExplainedTo R.world (explain_turn (standing_of R.world before) number (noted_seen noted))
         (record { taken = K.taken sink.old; batch = batch.old.items })
         (record { taken = K.taken sink.new; batch = batch.new.items }) result }
     ensures reads { result ≢ Err RunFault.ReadFault }
@@ -88,14 +89,14 @@ fn turn<R: ExplainedState + Drop, F: Fn(u32, Option<R>, Reading) -> Answered<R>,
 {
     match before {
         Place::Unbegun => explain_over(
-            alloc, answer, workers, None, reading, number, text, batch, sink,
+            alloc, answer, workers, None, noted, number, text, batch, sink,
         ),
         Place::Over(state) => explain_over(
             alloc,
             answer,
             workers,
             Some(state),
-            reading,
+            noted,
             number,
             text,
             batch,
@@ -109,13 +110,13 @@ impl<R: ExplainedState + Drop, F: Fn(u32, Option<R>, Reading) -> Answered<R>> Li
     for Explain<'_, R, F> {
     ghost use Rattle.std.specs.Prelude.{◌≡◌, ◌≤◌};
     ghost use Rattle.replay_loop.specs.Answers.{AnswersEach};
-    ghost use Rattle.tx_records.specs.declared.record.Reading.{Reading};
+    ghost use Rattle.explain_print.specs.of_explain_model.of_record_notes.Lines as lines;
     ghost use Rattle.explain_loop.specs.Plays.{Standing, explain_play};
     ghost use Rattle.explain_loop.specs.Turns.{standing_of};
 
     type Cause = GenesisCause;
 
-    ghost Said = { Reading };
+    ghost Said = { lines.Noted };
 
     ghost Stand = { Standing };
 
@@ -134,14 +135,14 @@ impl<R: ExplainedState + Drop, F: Fn(u32, Option<R>, Reading) -> Answered<R>> Li
     ) -> Result<(), RunFault<GenesisCause>> {
         match read(self.alloc, &mut self.scratch, line)? {
             None => Ok(()),
-            Some(reading) => {
+            Some(noted) => {
                 let before = mem::replace(&mut self.place, Place::Unbegun);
                 let after = turn(
                     self.alloc,
                     self.answer,
                     self.workers,
                     before,
-                    reading,
+                    noted,
                     number,
                     &mut self.text,
                     batch,

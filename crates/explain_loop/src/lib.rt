@@ -1,4 +1,4 @@
-//! The command `explain` over any state that can tell all rules that a record breaks.
+//! The command `explain` over any state that can say all rules that a record breaks.
 #![tactic(auto)]
 
 mod command;
@@ -10,6 +10,7 @@ mod state;
 mod told;
 
 pub use every_explanation::laws;
+pub use explain_print as of_explain_print;
 pub use run::explain;
 pub use state::ExplainedState;
 pub use told::put_explained;

@@ -8,15 +8,16 @@ use crate::command::Explain;
 use crate::place::Place;
 use crate::state::ExplainedState;
 use byte_lines::{Lines, Sink, Source};
+use explain_print::of_explain_model::of_record_notes::Scratch;
 use line_runs::{RunFault, run_lines};
-use record_stream::of_record_read::Scratch;
 use replay_loop::{Answered, GenesisCause};
 use std::alloc::Global;
 use tx_records::Reading;
 use tx_records::limits::{LINE_LIMIT, STREAM_LIMIT};
 
 /// Reads a stream from its genesis to its end, with a function that answers its records, and writes
-/// every rule that each record breaks, and all that is wrong with what was read first, before it
+/// every rule that each record breaks, all that is wrong with what was read first, what of a
+/// malformed line is not of its shape, with its path, and each name that nobody reads, before it
 /// asks the source for more. No clause depends on the number of workers.
 pub fn explain<
     R: ExplainedState + Drop,

@@ -7,8 +7,8 @@ use tx_records::Record;
 /// A state of a run that can say every rule that a record would break over it.
 pub trait ExplainedState: RunState {
     ghost use Rattle.std.specs.Prelude.{◌≡◌, map, true};
-    ghost use Rattle.explain_model.specs.Broken.{broken_by};
-    ghost use Rattle.explain_model.specs.Explained.{rule_words};
+    ghost use Rattle.explain_print.specs.of_explain_model.Broken.{broken_by};
+    ghost use Rattle.explain_print.specs.of_explain_model.Explained.{rule_words};
     ghost use Rattle.report.specs.Taking.{HasPut};
     ghost use Rattle.tx_records.specs.RecordLimits.{is_within_limits};
 

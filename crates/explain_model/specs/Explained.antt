@@ -1,10 +1,14 @@
--- What is wrong, in lines: with each record over the World before it, and with a genesis. (Own)
+-- What is wrong, in lines: with each record over the World before it, with a genesis, and with the
+-- values of a line. (Own)
 use Rattle.std.specs.Prelude.{ℕ, List, [], ◌∷◌, ◌++◌, Option, Some, None, codes, decimal, map}
 use Rattle.genesis_problems.specs.Problems.{genesis_problems}
 use Rattle.genesis_problems.specs.declared.problem.GenesisList.{GenesisList}
 use Rattle.genesis_problems.specs.declared.problem.GenesisList.TheVariants.{Members, Outputs, Accounts, Pools, Dreps}
 use Rattle.genesis_problems.specs.declared.problem.GenesisProblem.{GenesisProblem}
 use Rattle.genesis_problems.specs.declared.problem.GenesisProblem.TheVariants.{SupplyTooLarge, Repeated, UnknownPool, UnknownDrep, WrongNetwork, SumWrong}
+use Rattle.record_notes.specs.Lines.{Noted}
+use Rattle.record_notes.specs.Notes.{Said}
+use Rattle.record_notes.specs.declared.note.What.TheVariants.{Missing, NoJson, OutOfRange, UnknownForm, Unread, WrongKind}
 use Rattle.text_forms.specs.of_run_model.of_coin_frac.declared.TheConstants.{SUPPLY_LIMIT}
 use Rattle.text_forms.specs.of_run_model.World.{World}
 use Rattle.text_forms.specs.of_tx_records.declared.record.Reading.{Reading}
@@ -19,6 +23,34 @@ use Rattle.text_forms.specs.of_text_model.Words.{Text}
 use Rattle.text_forms.specs.Worlds.{world_of_readings}
 use Rattle.explain_model.specs.Broken.{broken_by_reading}
 
+-- ---- what there is to say of values
+
+-- a path, as it is written; that of the line's value itself is a dot
+abbrev pub path_text : List ℕ → Text
+path_text [] = codes "."
+path_text (b ∷ path) = b ∷ path
+
+-- a value that is not of its shape: its path, and what is wrong with it
+abbrev pub malformed_words : List ℕ → Text → List Text
+malformed_words path what = codes "malformed" ∷ path_text path ∷ what ∷ []
+
+-- a name that nobody reads: its path alone
+abbrev pub unknown_words : List ℕ → List Text
+unknown_words path = codes "unknown" ∷ path_text path ∷ []
+
+-- a line that is no JSON value: how many bytes are the front of one
+abbrev pub place_words : List ℕ → ℕ → List Text
+place_words path place = codes "malformed" ∷ path_text path ∷ codes "at" ∷ decimal place ∷ []
+
+-- the line of a thing to say
+abbrev pub said_words : Said → List Text
+said_words (path, Missing) = malformed_words path (codes "missing")
+said_words (path, WrongKind) = malformed_words path (codes "wrong-kind")
+said_words (path, OutOfRange) = malformed_words path (codes "out-of-range")
+said_words (path, UnknownForm) = malformed_words path (codes "unknown-form")
+said_words (path, Unread) = unknown_words path
+said_words (path, NoJson place) = place_words path place
+
 -- ---- a record over a ledger
 
 -- the line of a broken rule, which is that of a refusal
@@ -26,8 +58,12 @@ abbrev pub rule_words : Rule → List Text
 rule_words rule = reply_words (Refused rule)
 
 -- a line for each rule that the reading breaks
-abbrev pub explained_lines : World → Reading → List (List Text)
-explained_lines w r = map rule_words (broken_by_reading w r)
+abbrev pub broken_lines : World → Reading → List (List Text)
+broken_lines w r = map rule_words (broken_by_reading w r)
+
+-- behind them a line for each thing to say of its values
+abbrev pub explained_lines : World → Noted → List (List Text)
+explained_lines w r = broken_lines w r.reading ++ map said_words r.said
 
 -- ---- what was read first
 
@@ -56,26 +92,30 @@ problem_words (SumWrong sum supply) = codes "genesis" ∷ codes "SumWrong" ∷ c
 abbrev pub no_genesis_words : List Text
 no_genesis_words = codes "genesis" ∷ codes "NoGenesis" ∷ []
 
--- what was read first: a line for each problem
-abbrev pub first_lines : Reading → List (List Text)
-first_lines (Read (records.Genesis g)) = map problem_words (genesis_problems g)
-first_lines (Read _) = no_genesis_words ∷ []
-first_lines (Malformed field place) = rule_words (line_rule MALFORMED (Some field) place) ∷ []
-first_lines TooLong = rule_words (line_rule TOO_LONG None None) ∷ []
+-- a line for each problem of what was read first
+abbrev pub problem_lines : Reading → List (List Text)
+problem_lines (Read (records.Genesis g)) = map problem_words (genesis_problems g)
+problem_lines (Read _) = no_genesis_words ∷ []
+problem_lines (Malformed field place) = rule_words (line_rule MALFORMED (Some field) place) ∷ []
+problem_lines TooLong = rule_words (line_rule TOO_LONG None None) ∷ []
+
+-- behind them a line for each thing to say of its values
+abbrev pub first_lines : Noted → List (List Text)
+first_lines r = problem_lines r.reading ++ map said_words r.said
 
 -- ---- a whole run
 
 -- the text of further readings
-abbrev pub explained_from : World → List (ℕ × Reading) → Text
+abbrev pub explained_from : World → List (ℕ × Noted) → Text
 explained_from w [] = []
-explained_from w (r ∷ rs) = text_of_lines r.0 (explained_lines w r.1) ++ explained_from (world_after_reading w r.1) rs
+explained_from w (r ∷ rs) = text_of_lines r.0 (explained_lines w r.1) ++ explained_from (world_after_reading w r.1.reading) rs
 
 -- the text of readings behind a first one, which left a World if it was a genesis without a problem
-abbrev pub explained_behind : Option World → List (ℕ × Reading) → Text
+abbrev pub explained_behind : Option World → List (ℕ × Noted) → Text
 explained_behind None rs = []
 explained_behind (Some w) rs = explained_from w rs
 
 -- the text of a run: what is wrong with what was read first, then with each further reading
-abbrev pub explained_of_readings : List (ℕ × Reading) → Text
+abbrev pub explained_of_readings : List (ℕ × Noted) → Text
 explained_of_readings [] = []
-explained_of_readings ((n, r) ∷ rs) = text_of_lines n (first_lines r) ++ explained_behind (world_of_readings ((n, r) ∷ [])) rs
+explained_of_readings ((n, r) ∷ rs) = text_of_lines n (first_lines r) ++ explained_behind (world_of_readings ((n, r.reading) ∷ [])) rs

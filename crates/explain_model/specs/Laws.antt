@@ -9,7 +9,7 @@ use Rattle.text_forms.specs.of_tx_records.declared.record.Record.{Record}
 use Rattle.text_forms.specs.of_tx_records.declared.record.Record.TheVariants as records
 use Rattle.text_forms.specs.of_tx_records.declared.reply.Rule.{Rule}
 use Rattle.explain_model.specs.Broken.{broken_by}
-use Rattle.explain_model.specs.Explained.{first_lines}
+use Rattle.explain_model.specs.Explained.{problem_lines}
 
 -- a record breaks no rule if and only if it is not refused
 abbrev pub NoneWhereAccepted : Type 0
@@ -20,6 +20,6 @@ abbrev pub FirstIsRefusal : Type 0
 FirstIsRefusal = (w : World) (r : Record) (rule : Rule) → refusal_of w r ≡ Some rule →
     (rest : List Rule) × (broken_by w r ≡ rule ∷ rest)
 
--- nothing is said of a genesis if and only if it breaks no genesis rule
+-- a genesis has no line of a problem if and only if it breaks no genesis rule
 abbrev pub NoLineWhereFounded : Type 0
-NoLineWhereFounded = (g : Genesis) → (first_lines (Read (records.Genesis g)) ≡ []) ↔ (genesis_fault g ≡ None)
+NoLineWhereFounded = (g : Genesis) → (problem_lines (Read (records.Genesis g)) ≡ []) ↔ (genesis_fault g ≡ None)

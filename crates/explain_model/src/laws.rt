@@ -10,7 +10,7 @@ pub fn first_is_refusal()
     ensures { FirstIsRefusal }
 {}
 
-/// Nothing is said of a genesis if and only if it breaks no genesis rule.
+/// A genesis has no line of a problem if and only if it breaks no genesis rule.
 pub fn no_line_where_founded()
     ensures { NoLineWhereFounded }
 {

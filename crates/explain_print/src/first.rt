@@ -1,15 +1,18 @@
 //! The lines of what is wrong with what was read first.
 ghost use Rattle.std.specs.Prelude.{◌≡◌, ◌∷◌, [], map, true};
-ghost use Rattle.explain_model.specs.Explained.{first_lines, no_genesis_words, problem_words};
-ghost use Rattle.genesis_problems.specs.Problems as problems_of;
-ghost use Rattle.record_stream.specs.Records.{is_within};
+ghost use Rattle.explain_model.specs.Explained.{first_lines, no_genesis_words, problem_lines, problem_words};
+ghost use Rattle.explain_model.specs.of_genesis_problems.Problems as problems_of;
+ghost use Rattle.explain_model.specs.of_record_notes.Seen.{noted_seen};
+ghost use Rattle.explain_model.specs.of_record_notes.of_record_stream.Records.{is_within};
 ghost use Rattle.report.specs.Taking.{HasPut};
 ghost use Rattle.tx_records.specs.GenesisLimits.{is_within_limits};
 
 use crate::lined::put_each;
+use crate::notes::put_notes;
 use crate::rules::{put_malformed, put_too_long};
 use byte_lines::SinkFault;
-use genesis_problems::genesis_problems;
+use explain_model::of_genesis_problems::genesis_problems;
+use explain_model::of_record_notes::Noted;
 use report::{LineTaker, words_line};
 use std::alloc::Global;
 use tx_records::{Genesis, Reading, Record};
@@ -40,9 +43,9 @@ fn put_no_genesis<T: LineTaker>(to: &mut T, text: &mut Vec<u8>, line: u64) -> Re
     to.take(text.as_slice())
 }
 
-/// Hands over a line for each thing that is wrong with what was read first; none if it is a genesis
-/// that breaks no rule. Each line replaces what the buffer held.
-pub fn put_first<T: LineTaker>(
+/// Hands over a line for each problem of what was read first; none if it is a genesis that breaks
+/// no rule.
+fn put_reading<T: LineTaker>(
     alloc: Global,
     to: &mut T,
     text: &mut Vec<u8>,
@@ -50,7 +53,7 @@ pub fn put_first<T: LineTaker>(
     reading: &Reading,
 ) -> Result<(), SinkFault>
     requires { is_within reading.now ≡ true }
-    ensures { HasPut T.with_line T.IsPart line (T.taken to.old) (first_lines reading.now) (T.taken to.new)
+    ensures { HasPut T.with_line T.IsPart line (T.taken to.old) (problem_lines reading.now) (T.taken to.new)
         (T.faults to.old) (T.faults to.new) result }
 {
     match reading {
@@ -63,4 +66,21 @@ pub fn put_first<T: LineTaker>(
         Reading::Malformed { what, place } => put_malformed(to, text, line, *what, *place),
         Reading::TooLong => put_too_long(to, text, line),
     }
+}
+
+/// Hands over a line for each problem of what was read first, and then for each note of it. Each
+/// line replaces what the buffer held.
+pub fn put_first<T: LineTaker>(
+    alloc: Global,
+    to: &mut T,
+    text: &mut Vec<u8>,
+    line: u64,
+    noted: &Noted,
+) -> Result<(), SinkFault>
+    requires { is_within noted.now.reading ≡ true }
+    ensures { HasPut T.with_line T.IsPart line (T.taken to.old) (first_lines (noted_seen noted.now)) (T.taken to.new)
+        (T.faults to.old) (T.faults to.new) result }
+{
+    put_reading(alloc, to, text, line, &noted.reading)?;
+    put_notes(to, text, line, noted.notes.as_slice())
 }

@@ -4,7 +4,7 @@ ghost use Rattle.explain_model.specs.Explained.{entry_text, list_text, problem_w
 ghost use Rattle.text_model.specs.Words.{spaced};
 
 use crate::lined::Lined;
-use genesis_problems::{GenesisList, GenesisProblem};
+use explain_model::of_genesis_problems::{GenesisList, GenesisProblem};
 use no_memory::NoMemory;
 use report::{Word, end_line, push_digits, push_part, push_parts};
 use tx_records::limits::SUPPLY_LIMIT;

@@ -12,7 +12,7 @@ use certificate_print::put_certificate;
 use checkpoint_print::of_state_view::{put_assets, put_block, put_state};
 use checkpoint_print::put_checkpoint;
 use explain_loop::ExplainedState;
-use explain_print::put_rules;
+use explain_loop::of_explain_print::put_rules;
 use listed::Boxed;
 use outlook::put_outlook;
 use replay_loop::{CertifiedState, LastState, RunState};

@@ -1,6 +1,6 @@
 use Rattle.std.proofs.Common.{map}
 use Rattle.explain_model.specs.Explained.{problem_words}
-use Rattle.genesis_problems.specs.Problems.{genesis_problems}
+use Rattle.explain_model.specs.of_genesis_problems.Problems.{genesis_problems}
 use Rattle.report.proofs.Handed.{put_nothing}
 use Rattle.explain_print.proofs.first.put_problems.Goals as goal
 

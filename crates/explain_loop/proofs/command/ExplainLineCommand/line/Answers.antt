@@ -1,7 +1,7 @@
 use Rattle.std.proofs.Common.{◌≡◌, Err, rules}
 use Rattle.std.specs.Option.{option_copied}
 use Rattle.line_runs.specs.declared.fault.RunFault.TheVariants as faults
-use Rattle.record_stream.specs.Records.{reading_of_line}
+use Rattle.explain_print.specs.of_explain_model.of_record_notes.Lines.{noted_of_line}
 use Rattle.explain_loop.specs.Plays.{Standing}
 use Rattle.explain_loop.specs.Turns.{standing_of}
 use Rattle.explain_loop.proofs.Turned.{line_lacking}
@@ -12,4 +12,4 @@ returns-in_err-read-clause-turns g c =
     let is : c.from_residual.result ≡ Err faults.NoMemory = search rules in
     λ s at.
     rw is
-    (line_lacking (λ (p : Standing). p ≡ standing_of g.R.RunState.world c.args.self.now.place) s c.args.number (reading_of_line (option_copied c.args.line)) _)
+    (line_lacking (λ (p : Standing). p ≡ standing_of g.R.RunState.world c.args.self.now.place) s c.args.number (noted_of_line (option_copied c.args.line)) _)

@@ -1,6 +1,6 @@
 use Rattle.std.proofs.Common.{map, ap, ◌∙◌}
-use Rattle.explain_model.specs.Broken.{broken_by}
-use Rattle.explain_model.specs.Explained.{rule_words}
+use Rattle.explain_loop.specs.of_explain_model.Broken.{broken_by}
+use Rattle.explain_loop.specs.of_explain_model.Explained.{rule_words}
 use Rattle.report.proofs.Handed.{put_as, put_nothing}
 use Rattle.run_model.specs.World.{World}
 use Rattle.held_ledger.proofs.held.HeldExplainedState.put_broken.Goals as goal
