@@ -46,6 +46,9 @@ FORMS = {
     "vote": ["vote <id> <voter> <vote>"],
     "snapshot": ["snapshot fees <fees>", "snapshot <of> <pool> <stake>"],
     "pending": ["pending <update>", "pending reward <cred> <amount>", "pending reserves <reserves> fees <fees> treasury <treasury>"],
+    # of `explain`: what is inside a line
+    "malformed": ["malformed <path> <what>", "malformed <path> at <place>"],
+    "unknown": ["unknown <path>"],
     # of a check: the line is the number of a certificate
     "yes": ["yes"],
     "no": ["no"],

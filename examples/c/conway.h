@@ -65,8 +65,9 @@ struct conway_answer conway_record(struct conway *ledger, const uint8_t *line, s
 struct conway_answer conway_judge(struct conway *ledger, const uint8_t *line, size_t length, uint8_t *room, size_t size);
 
 /* Says all that is wrong with the next line and records nothing. The text has a line for each rule
-   that it breaks, in order: the first is the line that `conway_record` would give. There is none
-   where the line would be accepted, and for a blank line. */
+   that it breaks, in order: the first is the line that `conway_record` would give. Behind these are
+   lines of what is wrong inside it, and of names that nobody reads. There is no text where the line
+   would be accepted and has no such name, and for a blank line. */
 struct conway_answer conway_explain(struct conway *ledger, const uint8_t *line, size_t length, uint8_t *room,
                                     size_t size);
 

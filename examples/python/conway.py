@@ -95,7 +95,7 @@ class Conway:
         return self._text(self._calls.conway_judge(self._handle, line, len(line), room, len(room)))
 
     def explain(self, line):
-        """A line for each rule that the next line breaks; nothing is recorded."""
+        """A line for each rule that the next line breaks, each bad value and each unknown name; nothing is recorded."""
         room = self._room
         return self._text(self._calls.conway_explain(self._handle, line, len(line), room, len(room)))
 

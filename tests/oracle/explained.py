@@ -1,13 +1,18 @@
-"""A plain program of what `explain` writes: every rule that a record breaks, and everything that is
-wrong with what was read first. As epochs.py it is written from docs/use/rules.md,
-docs/use/formats.md and docs/use/commands.md alone, and looks everything up anew.
+"""A plain program of what `explain` writes: every rule that a record breaks, everything that is
+wrong with what was read first, and what of a line is not of its shape (shapes.py). As epochs.py it
+is written from docs/use/rules.md, docs/use/formats.md and docs/use/commands.md alone, and looks
+everything up anew.
 
-It reads no lines. So what a malformed line is answered, but where assets are malformed, is asked of
-the caller."""
+Whether a line can be read, and what the first fault of a malformed one is, but where assets are
+malformed, is asked of the caller."""
 
 from copy import deepcopy
+from typing import NamedTuple, Optional
 
+from oracle import shapes
 from oracle.epochs import after_accepted, begun, broken_by_record, malformed
+from oracle.json_front import front
+from oracle.spoiled import a_damaged_line, as_line, put_names
 from oracle.streams import RULES, Maker, a_genesis, a_reward_update, a_transaction, other_record, short, short_shape
 from oracle.transactions import network_of
 from records import GREATEST, SUPPLY_LIMIT, credential, hash28, tx_id
@@ -92,20 +97,37 @@ def explained(ledger, record):
     return (ledger if broken else after_accepted(ledger, record)[0]), broken
 
 
-def status_and_text(records):
-    """How a run over these records ends, and what it writes; a blank line is None."""
+class Reading(NamedTuple):
+    """A line that is not blank, with its number: its record or, where it has none, what it is answered."""
+
+    number: int
+    line: bytes
+    record: Optional[dict] = None
+    answer: Optional[str] = None
+
+
+def noted(line, told):
+    """The lines of what a line breaks, and behind them those of its shape and of the names that nobody reads, or of where it stops being JSON."""
+    if told[:1] == ["refused 2 TooLong"]:
+        return told
+    if told[:1] == ["refused 1 Malformed json"]:
+        return [*told, f"malformed json at {front(line)}"]
+    return [*told, *shapes.lines_of(line)]
+
+
+def status_and_text(readings):
+    """How a run over these lines ends, and what it writes."""
     ledger, lines, begins = None, [], True
-    for number, it in enumerate(records, 1):
-        if it is None:
-            continue
+    for it in readings:
+        told = [it.answer] if it.record is None else []
         if begins:
-            told, begins = wrong_at_first(it), False
-            ledger = None if told else begun(it)
+            told, begins = told or wrong_at_first(it.record), False
+            ledger = None if told else begun(it.record)
         elif ledger is None:
             break
-        else:
-            ledger, told = explained(ledger, it)
-        lines += [f"{number} {line}\n" for line in told]
+        elif it.record is not None:
+            ledger, told = explained(ledger, it.record)
+        lines += [f"{it.number} {line}\n" for line in noted(it.line, told)]
     return (0 if ledger else 3), "".join(lines)
 
 
@@ -113,6 +135,9 @@ def status_and_text(records):
 
 # how many rules of a transaction are broken, of those of its kind
 FAULTS = range(2, 9)
+# how many records have names that nobody reads, before how many there is a line of a damaged shape,
+# and how many streams begin with one
+NAMED, SHAPELESS, FIRST = 0.15, 0.1, 0.05
 
 
 def one_more(r, entries):
@@ -220,3 +245,13 @@ def a_damaged_stream(r):
         # the id of a refused transaction may come again
         number += record["kind"] == "tx" and (not told or r.random() < 0.5)
     return records
+
+
+def a_damaged_text(r):
+    """Such a stream as text: some of its records have names that nobody reads, and lines of damaged shapes are between them."""
+    lines = []
+    for it in a_damaged_stream(r):
+        if r.random() < (SHAPELESS if lines else FIRST):
+            lines.append(a_damaged_line(r))
+        lines.append(as_line(put_names(r, it) if r.random() < NAMED else it))
+    return b"".join(it + b"\n" for it in lines)

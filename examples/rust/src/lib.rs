@@ -162,7 +162,8 @@ impl Ledger {
         })
     }
 
-    /// A line for each rule that the next line breaks; nothing is recorded.
+    /// A line for each rule that the next line breaks, each bad value in it, and each name that
+    /// nobody reads; nothing is recorded.
     pub fn explain(&mut self, line: &[u8]) -> Result<&[u8], Fault> {
         self.text_of(|handle, room| {
             // SAFETY: the handle is one of this library; line and room are as long as is said.
