@@ -1,4 +1,4 @@
-/* The ledger for C: a handle, and calls over it. The library is made by `rt lib` in crates/conway_c;
+/* The ledger for C: a handle, and calls over it. docs/use/embedding.md says how the library is made;
    its contracts are in crates/conway_c/src/lib.rt, in the words of crates/conway_c/specs and
    crates/embedded/specs. Nothing checks a call from C against them, so a caller sees to these:
 

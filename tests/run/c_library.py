@@ -1,6 +1,6 @@
 """The static library of crates/conway_c, and what C, Python and Rust make of it.
 
-`rt lib` in that crate makes the library; no script of the gate does. So each script over it passes
+tests/run/library makes it in the gate, and `rt lib` in that crate does. Each script over it passes
 where there is none, and says so."""
 
 import os
@@ -47,11 +47,15 @@ class Parts(NamedTuple):
     archives: list
 
 
-def archives_of_kit():
-    """What the static library calls of the C library, as the kit of `rt` has it."""
+def kit():
+    """The folder of the kit of `rt`."""
     rt = shutil.which("rt")
-    folder = Path(os.environ.get("RATTLE_KIT", Path(rt).resolve().parents[1] if rt else "/")) / "c"
-    return [folder / "liblibc_c.a", folder / "libos_c.a"]
+    return Path(os.environ.get("RATTLE_KIT", Path(rt).resolve().parents[1] if rt else "/"))
+
+
+def archives_of_kit():
+    """What the static library calls of the C library, as the kit has it."""
+    return [kit() / "c/liblibc_c.a", kit() / "c/libos_c.a"]
 
 
 def parts_for(script, library=LIBRARY):
@@ -63,7 +67,7 @@ def parts_for(script, library=LIBRARY):
     archives = archives_of_kit()
     lacking = [it for it in (library, *archives) if not it.is_file()]
     if lacking:
-        print(f"{script}: there is no {lacking[0].name}: run rt lib in crates/conway_c first; nothing was run")
+        print(f"{script}: there is no {lacking[0].name}: run rt ci and tests/run/library first; nothing was run")
         return None
     return Parts(compiler, library, archives)
 
