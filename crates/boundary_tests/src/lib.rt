@@ -1,6 +1,5 @@
 //! Tests of the boundary between epochs, and of what proposals that are frozen then lack.
 //! It has no code, so that a test is proved alone.
-//! It is a program that does nothing, since the gate makes more sums of a library.
 #![tactic(auto)]
 
 #[cfg(test)]
@@ -21,5 +20,3 @@ mod records;
 mod state;
 #[cfg(test)]
 mod steps;
-
-fn main() {}

@@ -1,5 +1,4 @@
 //! Tests of the state between two boundaries. It has no code, so that a test is proved alone.
-//! It is a program that does nothing, since the gate makes more sums of a library.
 #![tactic(auto)]
 
 #[cfg(test)]
@@ -8,5 +7,3 @@ mod lines;
 mod records;
 #[cfg(test)]
 mod state;
-
-fn main() {}

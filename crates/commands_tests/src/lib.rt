@@ -1,5 +1,4 @@
 //! Tests of the commands: rows, streams, faults, statuses. No code, so that a test is proved alone.
-//! It is a program that does nothing, since the gate makes more sums of a library.
 #![tactic(auto)]
 
 #[cfg(test)]
@@ -22,5 +21,3 @@ mod shortfalls;
 mod streams;
 #[cfg(test)]
 mod workers;
-
-fn main() {}
