@@ -1,6 +1,6 @@
 -- Notes of the code as the definitions have them.
-use Rattle.std.specs.Prelude.{◌≡◌, ℕ, List, [], ◌∷◌, ◌++◌, Bool, true, false, not, ◌&&◌, bytes_eq, map, if◌then◌else◌}
-use Rattle.std.specs.List.{list_any}
+use Rattle.std.specs.Prelude.{◌≡◌, ℕ, zero, suc, List, [], ◌∷◌, ◌++◌, Bool, true, false, not, ◌&&◌, bytes_eq, map, if◌then◌else◌}
+use Rattle.std.specs.List.{list_all, list_any}
 use Rattle.serde_json.specs.Data.{Members, no_members, member}
 use Rattle.record_notes.specs.declared.note.Note.{Note}
 use Rattle.record_notes.specs.declared.note.Noted as code
@@ -45,11 +45,23 @@ abbrev pub names_said : List ℕ → List layouts.Member → List (List ℕ) →
 names_said path members [] = []
 names_said path members (name ∷ names) = name_said path members name ++ names_said path members names
 
--- one reader takes the values of the layout whole
-abbrev pub is_plain_layout : layouts.Layout → Bool
-is_plain_layout (layouts.Plain form) = true
-is_plain_layout _ = false
+-- no value of a layout has members, where none of its entries has
+abbrev pub has_no_members : (Shape → Bool) → layouts.Layout → Bool
+has_no_members inside (layouts.Plain form) = true
+has_no_members inside (layouts.Word words) = true
+has_no_members inside (layouts.ListOf shape) = inside shape
+has_no_members inside (layouts.Array entries last_may_lack) = list_all inside entries
+has_no_members inside _ = false
 
--- values of a shape have no names, and what is wrong with them is not asked for
+-- no value of a shape has members, as deep as this
+abbrev pub is_nameless_in : ℕ → Shape → Bool
+is_nameless_in zero shape = false
+is_nameless_in (suc n) shape = has_no_members (is_nameless_in n) (layouts.layout_of shape)
+
+-- no value of a shape has members: arrays without any are no deeper than assets in outputs
+abbrev pub is_nameless : Shape → Bool
+is_nameless shape = is_nameless_in 5 shape
+
+-- values of a shape have no members, and what is wrong with them is not asked for
 abbrev pub is_quiet : Bool → Shape → Bool
-is_quiet all shape = not all && is_plain_layout (layouts.layout_of shape)
+is_quiet all shape = not all && is_nameless shape

@@ -5,51 +5,18 @@ ghost use Rattle.record_notes.specs.Lines.{is_malformed, noted_of_line};
 ghost use Rattle.record_notes.specs.Notes.{most_depth, said_of};
 ghost use Rattle.record_notes.specs.Seen.{note_seen, noted_seen};
 ghost use Rattle.record_read.specs.Records.{record_in};
-ghost use Rattle.record_stream.specs.Records.{is_blank, is_blank_byte, is_within, reading_by};
+ghost use Rattle.record_stream.specs.Records.{is_within, reading_by};
 
 use crate::note::{Note, Noted, What};
 use crate::walk::{Walk, look};
 use json_place::json_place;
 use json_tree::{Value, read_value};
 use no_memory::NoMemory;
-use record_read::{RecordFault, Scratch, lines_read_within_limits, record};
+use record_read::{Scratch, lines_read_within_limits, record};
 use record_shapes::Shape;
+use record_stream::{is_blank, reading_by};
 use std::alloc::Global;
 use tx_records::{FieldName, Reading};
-
-/// Whether a byte is a space, a tab or a carriage return.
-fn blank_byte(byte: u8) -> bool
-    ensures { result ≡ is_blank_byte byte }
-{
-    byte == b' ' || byte == b'\t' || byte == b'\r'
-}
-
-/// Whether a line holds these alone.
-fn blank(line: &[u8]) -> bool
-    ensures { result ≡ is_blank line.now }
-{
-    line.iter().all(|byte| blank_byte(*byte))
-}
-
-/// What a value that is no record says.
-fn malformed(what: FieldName, place: Option<u32>) -> Reading
-    ensures { result ≡ Reading.Malformed what place }
-{
-    Reading::Malformed { what, place }
-}
-
-/// What a value says.
-fn read(alloc: Global, value: &Value<'_>) -> Result<Reading, NoMemory>
-    ensures { IfOk result (λ reading. reading ≡ reading_by (record_in (view value.now))) }
-{
-    match record(alloc, value) {
-        Ok(record) => Ok(Reading::Read(record)),
-        Err(RecordFault::BadJson) => Ok(malformed(FieldName::Json, None)),
-        Err(RecordFault::UnknownKind) => Ok(malformed(FieldName::Kind, None)),
-        Err(RecordFault::BadField { name, place }) => Ok(malformed(name, place)),
-        Err(RecordFault::NoMemory) => Err(NoMemory),
-    }
-}
 
 /// Whether a line is no record.
 fn is_bad(reading: &Reading) -> bool
@@ -86,7 +53,7 @@ fn noted(alloc: Global, value: &Value<'_>) -> Result<Noted, NoMemory>
     ensures says { IfOk result (λ noted.
         map note_seen noted.notes.items ≡ said_of (is_malformed noted.reading) (view value.now)) }
 {
-    let reading = read(alloc, value)?;
+    let reading = reading_by(record(alloc, value))?;
     let notes = notes(alloc, is_bad(&reading), value)?;
     Ok(Noted { reading, notes })
 }
@@ -107,7 +74,10 @@ fn no_json(alloc: Global, line: &[u8]) -> Result<Noted, NoMemory>
         what: What::NoJson(place),
     })?;
     Ok(Noted {
-        reading: malformed(FieldName::Json, None),
+        reading: Reading::Malformed {
+            what: FieldName::Json,
+            place: None,
+        },
         notes,
     })
 }
@@ -124,7 +94,7 @@ pub fn read_noted(
 {
     // (laws: what is read is within the limits of records)
     lines_read_within_limits();
-    if blank(line) {
+    if is_blank(line) {
         return Ok(None);
     }
     match read_value(alloc, scratch, line)? {

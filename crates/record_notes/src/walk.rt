@@ -5,7 +5,7 @@ ghost use Rattle.json_fields.specs.Kinds.{field_in, text_in};
 ghost use Rattle.json_tree.specs.View.{items_view, view};
 ghost use Rattle.record_notes.specs.Notes.{array_said, entries_said, fault_said, fits, list_said, member_said, members_said, object_said, one_said, out_of_range, parts_said, said_in, what_of, word_said, wrong};
 ghost use Rattle.record_notes.specs.Paths.{entry_path, member_path};
-ghost use Rattle.record_notes.specs.Seen.{HasSaid, is_quiet};
+ghost use Rattle.record_notes.specs.Seen.{HasSaid, is_nameless, is_quiet};
 ghost use Rattle.record_shapes.specs.Forms.{form_fault};
 ghost use Rattle.record_shapes.specs.Seen.{kind_seen, member_seen};
 ghost use Rattle.serde_json.specs.Find.{as_array, as_object};
@@ -133,12 +133,56 @@ fn fit(entries: &[Shape], last_may_lack: bool, count: usize) -> bool
     count == entries.len() || (last_may_lack && count < entries.len() && count + 1 == entries.len())
 }
 
-/// Whether nothing is to be said of values of a shape: they have no names, and what is wrong with
+/// Whether no value of a shape has members: one reader takes it whole, it is a word, or it is an
+/// array of such values.
+fn is_nameless(shape: Shape) -> bool
+    ensures { result ≡ is_nameless shape }
+{
+    matches!(
+        shape,
+        Shape::Plain(_)
+            | Shape::GenesisVersion
+            | Shape::CommitteeMembers
+            | Shape::CommitteeMember
+            | Shape::GenesisOutputs
+            | Shape::GenesisOutput
+            | Shape::GenesisAccounts
+            | Shape::GenesisAccount
+            | Shape::GenesisPools
+            | Shape::GenesisPool
+            | Shape::GenesisDreps
+            | Shape::GenesisDrep
+            | Shape::RewardList
+            | Shape::Reward
+            | Shape::References
+            | Shape::Outputs
+            | Shape::Output
+            | Shape::Assets
+            | Shape::Asset
+            | Shape::Scripts
+            | Shape::Mint
+            | Shape::Minted
+            | Shape::Withdrawals
+            | Shape::Withdrawal
+            | Shape::Credentials
+            | Shape::NewMembers
+            | Shape::NewMember
+            | Shape::Version
+            | Shape::ExUnits
+            | Shape::Prices
+            | Shape::PoolThresholds
+            | Shape::DrepThresholds
+            | Shape::Vote
+            | Shape::What
+    )
+}
+
+/// Whether nothing is to be said of values of a shape: they have no members, and what is wrong with
 /// them is not asked for.
 fn is_quiet(all: bool, shape: Shape) -> bool
     ensures { result ≡ is_quiet all shape }
 {
-    !all && matches!(layout(shape), Layout::Plain(_))
+    !all && is_nameless(shape)
 }
 
 /// Looks at a value, as deep as this.
@@ -181,6 +225,9 @@ fn look_entry(
     ensures { OnOk result (HasSaid walk.old walk.new
         (said_in depth walk.old.all (entry_path walk.old.path.items index) shape (view value.now))) }
 {
+    if is_quiet(walk.all, shape) {
+        return Ok(());
+    }
     let len = walk.path.len();
     push_entry(&mut walk.path, index)?;
     look(walk, depth, shape, value)?;

@@ -3,5 +3,5 @@
 
 mod reading;
 
-pub use reading::read_line;
+pub use reading::{is_blank, read_line, reading_by};
 pub use record_read as of_record_read;

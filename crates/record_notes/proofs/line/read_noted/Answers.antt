@@ -5,7 +5,7 @@ use Rattle.record_notes.proofs.line.read_noted.Goals as goal
 
 pub returns-in_ok-noted-in-Some-clause-says : goal.returns-in_ok-noted-in-Some-clause-says
 returns-in_ok-noted-in-Some-clause-says c =
-    value_noted c.args.line.now (view c.in-Some.value) c.in_ok-noted-in-Some.field-0.reading _ (sym c.if-blank.ensures) (sym (ap (option_map view) c.in-Some.is) ∙ c.in_ok-value.ensures) c.in_ok-noted-in-Some.ensures.reads c.in_ok-noted-in-Some.ensures.says
+    value_noted c.args.line.now (view c.in-Some.value) c.in_ok-noted-in-Some.field-0.reading _ (sym c.if-is_blank.ensures) (sym (ap (option_map view) c.in-Some.is) ∙ c.in_ok-value.ensures) c.in_ok-noted-in-Some.ensures.reads c.in_ok-noted-in-Some.ensures.says
 
 pub returns-in_ok-noted-in-Some-clause-within : goal.returns-in_ok-noted-in-Some-clause-within
 returns-in_ok-noted-in-Some-clause-within c =

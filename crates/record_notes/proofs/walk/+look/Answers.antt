@@ -1,11 +1,12 @@
 use Rattle.std.proofs.Common.{◌++◌, List, ap, append-nil, arith, map, sym, ◌∙◌}
 use Rattle.record_notes.specs.Notes.{Said, said_in}
+use Rattle.record_notes.specs.Paths.{entry_path}
 use Rattle.record_notes.specs.Seen.{note_seen}
 use Rattle.record_shapes.specs.Seen.{member_seen}
 use Rattle.record_notes.proofs.Looks.{array_looked, one_looked}
 use Rattle.record_notes.proofs.Parts.{over_the_end}
 use Rattle.record_notes.proofs.Saying.{has_said_nothing, has_said_same}
-use Rattle.record_notes.proofs.Quiet.{of_a_list, of_a_member}
+use Rattle.record_notes.proofs.Quiet.{of_a_list, of_a_member, of_a_value}
 use Rattle.record_notes.proofs.walk.+look.Goals as goal
 
 pub look_array-returns-in-Some : goal.look_array-returns-in-Some
@@ -48,3 +49,7 @@ look_list-returns-then-is_quiet t c = has_said_nothing c.args.walk.now _ (of_a_l
 pub look_member-returns-then-is_quiet : goal.look_member-returns-then-is_quiet
 look_member-returns-then-is_quiet t c =
     has_said_nothing c.args.walk.now _ (of_a_member c.args.depth c.args.walk.now.all c.args.walk.now.path.items c.args.is_whole (member_seen c.args.member.now) _ (sym c.if-is_quiet.ensures))
+
+pub look_entry-returns-then-is_quiet : goal.look_entry-returns-then-is_quiet
+look_entry-returns-then-is_quiet t c =
+    has_said_nothing c.args.walk.now _ (of_a_value c.args.depth c.args.walk.now.all (entry_path c.args.walk.now.path.items c.args.index) c.args.shape _ (sym c.if-is_quiet.ensures))
