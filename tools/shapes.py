@@ -1,6 +1,7 @@
 """What the converters of real data share: bech32, exact fractions, ids as docs/use/formats.md has
 them, and what is not known."""
 
+import functools
 import hashlib
 import json
 from fractions import Fraction
@@ -32,24 +33,37 @@ def field(thing, name, what):
 # ---- bech32
 
 
+def folded(top):
+    """What the five bits that leave a checksum come to."""
+    mask = 0
+    for i, factor in enumerate(GENERATOR):
+        mask ^= factor if (top >> i) & 1 else 0
+    return mask
+
+
+FOLDED = [folded(top) for top in range(32)]
+
+
 def polymod(values):
     check = 1
     for it in values:
-        top, check = check >> 25, (check & 0x1FFFFFF) << 5 ^ it
-        for i, factor in enumerate(GENERATOR):
-            check ^= factor if (top >> i) & 1 else 0
+        check = (check & 0x1FFFFFF) << 5 ^ it ^ FOLDED[check >> 25]
     return check
 
 
+@functools.cache
 def decoded(text):
-    """The prefix of a bech32 text, and its bytes."""
+    """The prefix of a bech32 text, and its bytes. An answer names the same ids many times."""
     prefix, _, data = text.lower().rpartition("1")
     values = [LETTERS.find(it) for it in data]
     spread = [ord(it) >> 5 for it in prefix] + [0] + [ord(it) & 31 for it in prefix]
     if not prefix or len(values) < 6 or -1 in values or polymod(spread + values) != 1:
         raise NotKnown(f"no bech32: {text!r}")
-    bits = "".join(f"{it:05b}" for it in values[:-6])
-    return prefix, bytes(int(bits[i : i + 8], 2) for i in range(0, len(bits) - 7, 8))
+    number = 0
+    for it in values[:-6]:
+        number = number << 5 | it
+    size, rest = divmod(5 * len(values[:-6]), 8)
+    return prefix, (number >> rest).to_bytes(size, "big")
 
 
 # ---- ids
