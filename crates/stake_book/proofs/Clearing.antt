@@ -30,20 +30,6 @@ module _ {K X : Type 0} {cmp : K → K → Ordering} (o : IsTotalOrder cmp) wher
         | Greater ↦ λ r p. ap (λ (l : List (K × X)). e ∷ l) (with_value_there k f v es h.1 p)
       ] refl p
 
-  -- a value that the change keeps
-  pub kept_there : (k : K) (f : X → X) (v : X) (es : List (K × X)) → f v ≡ v → (value_at cmp es k ≡ Some v) → IsMap cmp es → changed_at cmp k f es ≡ es
-  unfolding IsStrictlySortedBy
-  kept_there k f v [] same p h = refl
-  kept_there k f v (e ∷ es) same p h =
-      elim (cmp k e.0) as (λ r. cmp k e.0 ≡ r → cond (is_eq r) (Some e.1) (value_at cmp es k) ≡ Some v → (e.0, cond (is_eq r) (f e.1) e.1) ∷ changed_at cmp k f es ≡ e ∷ es) [
-        | Less ↦ λ r p. ap (λ (l : List (K × X)). e ∷ l) (kept_there k f v es same p h.1)
-        | Equal ↦ λ r p.
-            let is : e.1 ≡ v = cc in
-            let rest : changed_at cmp k f es ≡ es = changed_at_absent cmp k f es (none_below cmp k es (all_tied o k e.0 (keys_of es) r h.0)) in
-            λ i. (e.0, (ap f is ∙ same ∙ sym is) i) ∷ rest i
-        | Greater ↦ λ r p. ap (λ (l : List (K × X)). e ∷ l) (kept_there k f v es same p h.1)
-      ] refl p
-
   module _ (f : X → X) where
     abbrev pub changed_in_turn : List K → List (K × X) → List (K × X)
     changed_in_turn ks es = fold (λ es k. changed_at cmp k f es) es ks

@@ -1,7 +1,9 @@
 -- What a clearing does to one entry, and to the registrations of all.
-use Rattle.std.proofs.Common.{◌≡◌, ℕ, ◌+◌, ◌<◌, ◌≤◌, ◌==◌, ◌&&◌, List, [], ◌∷◌, drop, get_or, length, Bool, true, false, cond, Option, Some, None, is_some, option_map, option_and_then, refl, ap, sym, ◌∙◌, add-one, arith}
+use Rattle.std.proofs.Common.{◌≡◌, ℕ, ◌+◌, ◌<◌, ◌==◌, ◌&&◌, List, [], ◌∷◌, drop, get_or, length, Bool, true, false, cond, Option, Some, None, IfSome, is_none, is_some, option_map, option_and_then, refl, ap, sym, ◌∙◌, add-one, arith}
 use Rattle.std.proofs.Math.Seq.{drop-cons}
+use Rattle.std.specs.BTreeMap.{is_at}
 use Rattle.std.specs.List.{cons_option, list_any}
+use Rattle.std.proofs.lemmas.Map.Views.{IfSome-lookup_from_All}
 use Rattle.gov_ids.specs.declared.Credential.{Credential}
 use Rattle.gov_ids.specs.declared.PoolId.{PoolId}
 use Rattle.gov_ids.specs.declared.Drep.{Drep}
@@ -11,23 +13,22 @@ use Rattle.gov_ids.specs.Same.{same_drep}
 use Rattle.gov_ids.proofs.Totals.{credential_total, pool_total}
 use Rattle.book_records.specs.declared.Entry.{Entry}
 use Rattle.book_records.specs.declared.Registered.{Registered}
-use Rattle.book_records.specs.Outputs.{lovelace_in}
-use Rattle.coin_frac.specs.declared.TheConstants.{SUPPLY_LIMIT}
 use Rattle.maps.proofs.Joined.{none_from}
+use Rattle.maps.proofs.Lookups.{without_key_absent}
 use Rattle.maps.proofs.Placed.{changed_at_absent}
 use Rattle.maps.proofs.Sets.{has_member-in_order}
 use Rattle.book_records.specs.Delegations.{without_drep}
 use Rattle.maps.specs.Maps.{IsMap, value_at, with_value, without_key, has_member, in_order, changed_at, changed_where}
 use Rattle.maps.specs.Words.{amount, holds, some_and}
-use Rattle.accounts.specs.Accounts.{with_entry}
+use Rattle.accounts.specs.Accounts.{is_nothing, with_entry}
 use Rattle.stake_book.specs.declared.leaving.Leaving.{Leaving}
 use Rattle.stake_book.specs.declared.leaving.Leaving.TheVariants.{Pools, Dreps}
 use Rattle.stake_book.specs.Ended.{is_cleared, cleared, change_of, delegating, ended_at, entry_without, entries_without, accounts_without}
-use Rattle.stake_book.specs.Stakes.{Stakes, AreKept, HasRoom, accounts_of, balances_in, registrations, registered_at, stake_at, whole_entry, with_account, delegates_to_pools, without_pool, without_pools, delegates_to_dreps, without_dreps}
+use Rattle.stake_book.specs.Stakes.{Stakes, AreKept, HasRoom, registrations, whole_entry, with_account, delegates_to_pools, without_pool, without_pools, delegates_to_dreps, without_dreps}
 use Rattle.stake_book.specs.Sums.{balance_of}
-use Rattle.stake_book.proofs.Clearing.{with_value_there, kept_there, in_turn}
+use Rattle.stake_book.proofs.Clearing.{with_value_there, in_turn}
 use Rattle.stake_book.proofs.Entering.{entered_sum}
-use Rattle.stake_book.proofs.Registrations.{balances_is, registrations-with_entry}
+use Rattle.stake_book.proofs.Registrations.{balances_is}
 
 -- no change: the entry is as it was
 pub unchanged : (l : Leaving) (e : Entry) → option_and_then (change_of l) e.registered ≡ None → entry_without l e ≡ e
@@ -43,81 +44,49 @@ rewards_kept : (l : Leaving) (r : Registered) → (cleared l r).rewards ≡ r.re
 rewards_kept (Pools pools) r = refl
 rewards_kept (Dreps dreps) r = refl
 
--- a change keeps the balance
-changed_balance : (l : Leaving) (e : Entry) (x : Registered) → option_and_then (change_of l) e.registered ≡ Some x → x.rewards ≡ balance_of e
-changed_balance l e x p =
-    elim e.registered as (λ (o : Option Registered). option_and_then (change_of l) o ≡ Some x → x.rewards ≡ balance_of (record { stake = e.stake; registered = o })) [
-      | None ↦ λ p. cc
-      | Some r ↦ λ p.
-          elim (is_cleared l r) as (λ b. cond b (Some (cleared l r)) None ≡ Some x → x.rewards ≡ r.rewards) [
-            | true ↦ λ p. let same : x ≡ cleared l r = cc in ap (λ (r : Registered). r.rewards) same ∙ rewards_kept l r
-            | false ↦ λ p. cc
-          ] p
-    ] p
+-- an entry that is cleared keeps its balance
+balance_kept : (l : Leaving) (e : Entry) → balance_of (entry_without l e) ≡ balance_of e
+balance_kept l e =
+    elim e.registered as (λ (o : Option Registered). balance_of (record { stake = e.stake; registered = option_map (λ r. cond (is_cleared l r) (cleared l r) r) o }) ≡ balance_of (record { stake = e.stake; registered = o })) [
+      | None ↦ refl
+      | Some r ↦ elim (is_cleared l r) as (λ b. (cond b (cleared l r) r).rewards ≡ r.rewards) [ true ↦ rewards_kept l r | false ↦ refl ]
+    ]
 
--- a change leaves room
-pub change_has_room : (l : Leaving) (s : Stakes) (c : Credential) (e : Entry) (x : Registered) → AreKept s → value_at credential_cmp s.accounts.live c ≡ Some e → option_and_then (change_of l) e.registered ≡ Some x → HasRoom 0 (with_account c (Some x) s)
-change_has_room l s c e x k there p =
-    let live : List (Credential × Entry) = s.accounts.live in
-    let after : Entry = record { stake = stake_at live c; registered = Some x } in
-    let before : balance_of (whole_entry live c) ≡ balance_of e = ap (λ (o : Option Entry). balance_of (record { stake = 0; registered = option_and_then (λ (e : Entry). e.registered) o })) there in
-    omega (
-      arith,
-      k.room,
-      before,
-      changed_balance l e x p,
-      entered_sum balance_of refl c live after k.live,
-      balances_is live,
-      balances_is (with_entry c after live),
-    )
-
-made : (l : Leaving) (e : Entry) (x : Registered) → option_and_then (change_of l) e.registered ≡ Some x → entry_without l e ≡ record { stake = e.stake; registered = Some x }
-made l e x p =
-    let same : option_map (λ r. cond (is_cleared l r) (cleared l r) r) e.registered ≡ Some x =
-    elim e.registered as (λ (o : Option Registered). option_and_then (change_of l) o ≡ Some x → option_map (λ r. cond (is_cleared l r) (cleared l r) r) o ≡ Some x) [
-      | None ↦ λ p. cc
-      | Some r ↦ λ p. elim (is_cleared l r) as (λ b. cond b (Some (cleared l r)) None ≡ Some x → Some (cond b (cleared l r) r) ≡ Some x) [ true ↦ λ p. p | false ↦ λ p. cc ] p
-    ] p in
-    λ i. record { stake = e.stake; registered = same i }
-
--- an entry that is registered is no empty one
-registered_entered : (c : Credential) (n : ℕ) (x : Registered) (live : List (Credential × Entry)) → with_entry c (record { stake = n; registered = Some x }) live ≡ with_value credential_cmp c (record { stake = n; registered = Some x }) live
-registered_entered c n x live =
-    let after : Entry = record { stake = n; registered = Some x } in
-    elim (n == 0) as (λ b. cond (b && false) (without_key credential_cmp c live) (with_value credential_cmp c after live) ≡ with_value credential_cmp c after live) [ true ↦ refl | false ↦ refl ]
+-- it is nothing only if it was
+nothing_kept : (l : Leaving) (e : Entry) → is_nothing (entry_without l e) ≡ is_nothing e
+nothing_kept l e =
+    elim e.registered as (λ (o : Option Registered). ((e.stake == 0) && is_none (option_map (λ r. cond (is_cleared l r) (cleared l r) r) o)) ≡ ((e.stake == 0) && is_none o)) [
+      | None ↦ refl
+      | Some r ↦ refl
+    ]
 
 module _ (l : Leaving) (s : Stakes) (c : Credential) (k : AreKept s) where
-  -- a change of an account leaves room
-  pub change_within : (x : Registered) → option_and_then (change_of l) (registered_at s.accounts.live c) ≡ Some x → lovelace_in s.outputs.outputs + balances_in (with_value credential_cmp c x (accounts_of s)) ≤ SUPPLY_LIMIT
-  change_within x p =
+  -- the end of a delegation leaves room
+  pub clear_room : HasRoom 0 (with_account c (entry_without l (whole_entry s.accounts.live c)).registered s)
+  clear_room =
       let live : List (Credential × Entry) = s.accounts.live in
-      let after : Entry = record { stake = stake_at live c; registered = Some x } in
-      let room : HasRoom 0 (with_account c (Some x) s) =
-      elim (value_at credential_cmp live c) as (λ (o : Option Entry). value_at credential_cmp live c ≡ o → option_and_then (change_of l) (option_and_then (λ (e : Entry). e.registered) o) ≡ Some x → HasRoom 0 (with_account c (Some x) s)) [
-        | None ↦ λ there p. cc
-        | Some e ↦ λ there p. change_has_room l s c e x k there p
-      ] refl p in
-      omega (arith, room, ap (λ (accounts : List (Credential × Registered)). balances_in accounts) (registrations-with_entry c after live k.live))
+      let after : Entry = entry_without l (whole_entry live c) in
+      omega (
+        arith,
+        k.room,
+        balance_kept l (whole_entry live c),
+        entered_sum balance_of refl c live after k.live,
+        balances_is live,
+        balances_is (with_entry c after live),
+      )
 
-  -- the entries with a change of an account
-  pub change_made : (x : Registered) → option_and_then (change_of l) (registered_at s.accounts.live c) ≡ Some x → (with_account c (Some x) s).accounts.live ≡ changed_at credential_cmp c (entry_without l) s.accounts.live
-  change_made x p =
+  -- and makes of the entries what it should
+  pub clear_makes : with_entry c (entry_without l (whole_entry s.accounts.live c)) s.accounts.live ≡ changed_at credential_cmp c (entry_without l) s.accounts.live
+  clear_makes =
       let live : List (Credential × Entry) = s.accounts.live in
-      registered_entered c (stake_at live c) x live
-      ∙ (elim (value_at credential_cmp live c) as (λ (o : Option Entry). value_at credential_cmp live c ≡ o → option_and_then (change_of l) (option_and_then (λ (e : Entry). e.registered) o) ≡ Some x
-      → with_value credential_cmp c (record { stake = amount (λ (e : Entry). e.stake) o; registered = Some x }) live ≡ changed_at credential_cmp c (entry_without l) live) [
-        | None ↦ λ there p. cc
-        | Some e ↦ λ there p. ap (λ (e : Entry). with_value credential_cmp c e live) (sym (made l e x p)) ∙ with_value_there credential_total c (entry_without l) e live k.live there
-      ] refl p)
-
-  -- and with none
-  pub change_none : option_and_then (change_of l) (registered_at s.accounts.live c) ≡ None → changed_at credential_cmp c (entry_without l) s.accounts.live ≡ s.accounts.live
-  change_none p =
-      let live : List (Credential × Entry) = s.accounts.live in
-      elim (value_at credential_cmp live c) as (λ (o : Option Entry). value_at credential_cmp live c ≡ o → option_and_then (change_of l) (option_and_then (λ (e : Entry). e.registered) o) ≡ None → changed_at credential_cmp c (entry_without l) live ≡ live) [
-        | None ↦ λ there p. changed_at_absent credential_cmp c (entry_without l) live there
-        | Some e ↦ λ there p. kept_there credential_total c (entry_without l) e live (unchanged l e p) there k.live
-      ] refl p
+      let found : IfSome (value_at credential_cmp live c) (λ (e : Entry). is_nothing e ≡ false) = IfSome-lookup_from_All (λ (e : Entry). is_nothing e ≡ false) (is_at (credential_cmp c)) live k.entries in
+      elim (value_at credential_cmp live c) as (λ (o : Option Entry). value_at credential_cmp live c ≡ o → IfSome o (λ (e : Entry). is_nothing e ≡ false)
+      → with_entry c (entry_without l (record { stake = amount (λ (e : Entry). e.stake) o; registered = option_and_then (λ (e : Entry). e.registered) o })) live ≡ changed_at credential_cmp c (entry_without l) live) [
+        | None ↦ λ there found. without_key_absent credential_cmp c live there ∙ sym (changed_at_absent credential_cmp c (entry_without l) live there)
+        | Some e ↦ λ there found.
+            ap (λ b. cond b (without_key credential_cmp c live) (with_value credential_cmp c (entry_without l e) live)) (nothing_kept l e ∙ found)
+            ∙ with_value_there credential_total c (entry_without l) e live k.live there
+      ] refl found
 
 -- one more of some ended
 pub one_ended : (l : Leaving) (cs : List Credential) (i : ℕ) (d : Credential) (es more : List (Credential × Entry)) → i < length cs → more ≡ changed_at credential_cmp (get_or cs i d) (entry_without l) es

@@ -3,7 +3,8 @@ use Rattle.std.specs.Prelude.{ℕ, ◌+◌, ◌-◌, Option, Some, None, option_
 use Rattle.book_records.specs.declared.Entry.{Entry}
 use Rattle.accounts.specs.Accounts.{is_nothing}
 use Rattle.stake_book.specs.declared.changes.EntryChange.{EntryChange}
-use Rattle.stake_book.specs.declared.changes.EntryChange.TheVariants.{Register, Gain, Lose, Pay}
+use Rattle.stake_book.specs.declared.changes.EntryChange.TheVariants.{Register, Gain, Lose, Pay, Clear}
+use Rattle.stake_book.specs.Ended.{entry_without}
 use Rattle.stake_book.specs.Paid.{rewarded}
 
 -- the entry after a change
@@ -12,6 +13,7 @@ entry_after (Register to) e = record e { registered = to }
 entry_after (Gain n) e = record e { stake = e.stake + n }
 entry_after (Lose n) e = record e { stake = e.stake - n }
 entry_after (Pay n) e = record e { registered = option_map (rewarded n) e.registered }
+entry_after (Clear leaving) e = entry_without leaving.now e
 
 -- what a change takes from the stake, in lovelace
 abbrev pub taken_by : EntryChange → ℕ

@@ -4,12 +4,13 @@ ghost use Rattle.stake_book.specs.Changes.{entry_after, taken_by, unless_nothing
 ghost use Rattle.stake_book.specs.Sums.{weight_of};
 ghost use Rattle.stake_book.specs.declared.changes.EntryChange.TheVariants.{Pay};
 
+use crate::leaving::Leaving;
 use accounts::NO_ENTRY;
 use book_records::{Entry, Registered};
 
 /// A change of an entry.
 #[derive(Debug, Drop)]
-pub enum EntryChange {
+pub enum EntryChange<'a> {
     /// Sets the registration, or ends it.
     Register(Option<Registered>),
     /// Adds to the stake, in lovelace.
@@ -18,6 +19,8 @@ pub enum EntryChange {
     Lose(u64),
     /// Adds to the reward balance, in lovelace; without a registration there is none.
     Pay(u64),
+    /// Ends the delegation to what leaves, if there is one.
+    Clear(&'a Leaving),
 }
 
 /// The entry; where there is none, one without stake and registration.
@@ -58,6 +61,10 @@ pub fn entry_after(by: &EntryChange, e: Entry) -> Entry
             ..e
         },
         EntryChange::Pay(n) => paid(e, *n),
+        EntryChange::Clear(leaving) => Entry {
+            registered: leaving.change(e.registered).or(e.registered),
+            ..e
+        },
     }
 }
 

@@ -10,7 +10,7 @@ ghost use Rattle.maps.specs.Maps.{value_at, changed_at, with_key, without_member
 ghost use Rattle.maps.specs.Replaced.{with_option};
 ghost use Rattle.view_map.specs.View.{frozen_of};
 ghost use Rattle.stake_book.specs.Stakes.{AreKept, HasRoom, accounts_of, balances_in, no_stakes, pool_stake_in};
-ghost use Rattle.stake_book.specs.Stakes.{stake_at, whole_entry, with_stake, spent, added, with_account, with_used};
+ghost use Rattle.stake_book.specs.Stakes.{stake_at, with_stake, spent, added, with_account, with_used};
 ghost use Rattle.stake_book.specs.Stakes.{without_pools, without_dreps};
 ghost use Rattle.stake_book.specs.Sums.{weight_in};
 ghost use Rattle.stake_book.specs.Ended.{entry_without, entries_without, accounts_without, ended_at};
@@ -143,16 +143,7 @@ impl StakeBook {
         ensures value { result ≡ value_at credential_cmp (accounts_of self.now) c.now }
         ensures kept { AreKept self.now }
     {
-        self.entry(c).registered
-    }
-
-    // The entry of a credential; where there is none, one without stake and registration.
-    fn entry(&self, c: &Credential) -> Entry
-        ensures value { result ≡ whole_entry self.now.accounts.live c.now }
-        ensures registered { result.registered ≡ value_at credential_cmp (accounts_of self.now) c.now }
-        ensures kept { AreKept self.now }
-    {
-        self.accounts.entry_of(c)
+        self.accounts.entry_of(c).registered
     }
 
     /// The sum of the reward balances, in lovelace. (DState of the formal specification)
@@ -309,10 +300,7 @@ impl StakeBook {
         ensures frozen { OnOk result (frozen_of credential_cmp self.new.accounts ≡
             frozen_of credential_cmp self.old.accounts) }
     {
-        let entry = self.entry(&c);
-        if let Some(changed) = leaving.change(entry.registered) {
-            self.set_account(c, Some(changed))?;
-        }
+        self.accounts.change(c, &EntryChange::Clear(leaving))?;
         Ok(())
     }
 

@@ -108,7 +108,7 @@ impl Sums {
     }
 }
 
-impl Follower<Entry, EntryChange> for Sums {
+impl Follower<Entry, EntryChange<'_>> for Sums {
     ghost use Rattle.std.specs.Prelude.{◌≤◌};
     ghost use Rattle.stake_book.specs.Changes.{entry_after, or_nothing, taken_by, unless_nothing};
     ghost use Rattle.stake_book.specs.Summed.{CanBecome, HasBecome};

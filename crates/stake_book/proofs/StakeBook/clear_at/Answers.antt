@@ -1,25 +1,32 @@
-use Rattle.std.proofs.Common.{◌≡◌, Some, None, option_and_then, ap, sym, ◌∙◌}
-use Rattle.book_records.specs.declared.Entry.{Entry}
-use Rattle.stake_book.specs.Ended.{change_of}
-use Rattle.stake_book.specs.Stakes.{Stakes, registered_at}
-use Rattle.stake_book.proofs.Ended.{change_within, change_made, change_none}
+use Rattle.std.proofs.Common.{Option, ap, sym, subst, ◌∙◌, arith}
+use Rattle.gov_ids.specs.Orders.{credential_cmp}
+use Rattle.book_records.specs.declared.Registered.{Registered}
+use Rattle.maps.specs.Maps.{changed_at}
+use Rattle.accounts.specs.Accounts.{Accounts}
+use Rattle.stake_book.specs.Ended.{entry_without}
+use Rattle.stake_book.specs.Stakes.{Stakes, AreKept, whole_entry, with_account}
+use Rattle.stake_book.proofs.Ended.{clear_room, clear_makes}
+use Rattle.stake_book.proofs.Kept.{registration_kept}
+use Rattle.stake_book.proofs.Weights.{weight_within}
 use Rattle.stake_book.proofs.StakeBook.clear_at.Goals as goal
 
-pub set_account-requires : goal.set_account-requires
-set_account-requires c =
-    let change : option_and_then (change_of c.args.leaving.now) (registered_at c.args.self.now.accounts.live c.args.c) ≡ Some c.in-Some.changed =
-    sym (c.in-Some.ensures ∙ ap (λ (e : Entry). option_and_then (change_of c.args.leaving.now) e.registered) c.entry-entry.ensures.value) in
-    record { room = change_within c.args.leaving.now c.args.self.now c.args.c c.entry-entry.ensures.kept c.in-Some.changed change }
+pub change-requires : goal.change-requires
+change-requires c =
+    let s : Stakes = record { outputs = c.self.inside.outputs; accounts = c.self.inside.accounts } in
+    let to : Option Registered = (entry_without c.args.leaving.now (whole_entry s.accounts.live c.args.c)).registered in
+    let kept : AreKept (with_account c.args.c to s) = registration_kept c.args.c to s.outputs s.accounts c.self.invariant (clear_room c.args.leaving.now s c.args.c c.self.invariant) in
+    record { enough = omega arith; within = weight_within (with_account c.args.c to s) kept }
 
-pub returns-in_ok-set_account-clause-live : goal.returns-in_ok-set_account-clause-live
-returns-in_ok-set_account-clause-live c =
-    let change : option_and_then (change_of c.args.leaving.now) (registered_at c.args.self.now.accounts.live c.args.c) ≡ Some c.in-Some.changed =
-    sym (c.in-Some.ensures ∙ ap (λ (e : Entry). option_and_then (change_of c.args.leaving.now) e.registered) c.entry-entry.ensures.value) in
-    ap (λ (s : Stakes). s.accounts.live) c.in_ok-set_account.ensures.ok
-    ∙ change_made c.args.leaving.now c.args.self.now c.args.c c.entry-entry.ensures.kept c.in-Some.changed change
+pub invariant_of-self-2 : goal.invariant_of-self-2
+invariant_of-self-2 c =
+    let s : Stakes = record { outputs = c.self.inside.outputs; accounts = c.self.inside.accounts } in
+    let to : Option Registered = (entry_without c.args.leaving.now (whole_entry s.accounts.live c.args.c)).registered in
+    let kept : AreKept (with_account c.args.c to s) = registration_kept c.args.c to s.outputs s.accounts c.self.invariant (clear_room c.args.leaving.now s c.args.c c.self.invariant) in
+    subst (λ (s : Stakes). AreKept s) (λ i. record { outputs = s.outputs; accounts = sym c.in_ok-change.ensures.ok i }) kept
 
-pub returns-in_default-clause-live : goal.returns-in_default-clause-live
-returns-in_default-clause-live c =
-    let change : option_and_then (change_of c.args.leaving.now) (registered_at c.args.self.now.accounts.live c.args.c) ≡ None =
-    sym (c.in_default.ensures ∙ ap (λ (e : Entry). option_and_then (change_of c.args.leaving.now) e.registered) c.entry-entry.ensures.value) in
-    sym (change_none c.args.leaving.now c.args.self.now c.args.c c.entry-entry.ensures.kept change)
+pub returns-clause-live : goal.returns-clause-live
+returns-clause-live c =
+    let s : Stakes = record { outputs = c.self.inside.outputs; accounts = c.self.inside.accounts } in
+    ap (λ (a : Accounts). a.live) c.in_ok-change.ensures.ok
+    ∙ clear_makes c.args.leaving.now s c.args.c c.self.invariant
+    ∙ ap (λ (s : Stakes). changed_at credential_cmp c.args.c (entry_without c.args.leaving.now) s.accounts.live) c.self.view_is
