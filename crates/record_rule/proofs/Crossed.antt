@@ -7,6 +7,7 @@ use Rattle.ledger_model.specs.Transaction.{tx_step, tx_step_by}
 use Rattle.ledger_model.specs.Broken.{first_broken}
 use Rattle.epoch_rule.proofs.proofs_of_ledger_state.Steps.{block_stays, step_accepted}
 use Rattle.epoch_rule.proofs.proofs_of_run_laws.GoodBlock.{boundary_epoch, boundary_length, update_only}
+use Rattle.record_rule.specs.Reports.{report_by}
 use Rattle.run_model.specs.Boundary.{world_after_boundary}
 use Rattle.run_model.specs.Step.{block_checks, crossed, enters_next, epoch_at, pulsed, step, step_by, world_after_block}
 use Rattle.run_model.specs.World.{World, on_ledger}
@@ -28,6 +29,11 @@ tx_stepped w tx after reply is says =
     ap (λ (x : World). (x, reply)) is
     ∙ ap (λ (x : Reply). (on_ledger (λ l. (tx_step l tx).0) w, x)) says
     ∙ world_by (first_broken w.ledger tx) w tx
+
+-- it crosses no boundary
+pub tx_reports : (found : Option Rule) (w : World) (tx : Tx) → None ≡ report_by found w (records.Tx tx)
+tx_reports (Some rule) w tx = refl
+tx_reports None w tx = refl
 
 -- ---- the rules on a block, after the boundary of its epoch
 
