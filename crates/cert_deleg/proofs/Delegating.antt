@@ -1,19 +1,21 @@
--- What one more registration makes of a draft.
-use Rattle.std.proofs.Common.{◌≡◌, ◌+◌, List, Option, Some, None, refl, ap, sym, arith}
+-- What a delegation or a retirement makes of a draft.
+use Rattle.std.proofs.Common.{◌≡◌, ℕ, ◌+◌, List, Option, Some, None, refl, ap, sym, arith}
 use Rattle.std.specs.Option.{option_or}
-use Rattle.maps.specs.Maps.{IsMap}
+use Rattle.maps.specs.Maps.{IsMap, value_at}
 use Rattle.maps.specs.Words.{or_else}
 use Rattle.maps.proofs.Placed.{changed_at_absent}
 use Rattle.gov_ids.proofs.Totals.{credential_total}
 use Rattle.gov_ids.specs.declared.Credential.{Credential}
 use Rattle.gov_ids.specs.declared.Drep.{Drep}
 use Rattle.gov_ids.specs.declared.PoolId.{PoolId}
-use Rattle.gov_ids.specs.Orders.{credential_cmp}
+use Rattle.gov_ids.specs.Orders.{credential_cmp, pool_cmp}
 use Rattle.book_records.specs.declared.Registered.{Registered}
+use Rattle.book_records.specs.declared.pool.Pool.{Pool}
+use Rattle.book_records.specs.Pools.{retiring}
 use Rattle.ledger_model.specs.Changes.{delegating, emptied}
 use Rattle.ledger_model.specs.Ledger.{Ledger, account_at}
 use Rattle.live_ledger.specs.Drafts.{Drafted, deposit_in, given_back, paid_by, with_account}
-use Rattle.tx_records.specs.declared.cert.Cert.TheVariants.{Delegate}
+use Rattle.tx_records.specs.declared.cert.Cert.TheVariants.{Delegate, PoolRetire}
 use Rattle.cert_deleg.specs.Emptied.{emptied_at}
 use Rattle.live_ledger.specs.Moved.{IsCertified}
 use Rattle.live_ledger.proofs.Replacing.{with_value-changed_at}
@@ -46,6 +48,15 @@ pub not_delegated : (d : Drafted) (k : Credential) (pool : Option PoolId) (drep 
 not_delegated d k pool drep none = record {
   start = refl;
   ledger = ap (λ (es : List (Credential × Registered)). record d.ledger { accounts = es }) (sym (changed_at_absent credential_cmp k (delegating pool drep) d.ledger.accounts none));
+  moved = record { refunds = omega arith; deposits = omega arith };
+  few = omega arith;
+}
+
+-- a pool that is not registered
+pub not_retired : (d : Drafted) (p : PoolId) (epoch : ℕ) → value_at pool_cmp d.ledger.pools p ≡ None → IsCertified (PoolRetire p epoch) d d
+not_retired d p epoch none = record {
+  start = refl;
+  ledger = ap (λ (es : List (PoolId × Pool)). record d.ledger { pools = es }) (sym (changed_at_absent pool_cmp p (retiring epoch) d.ledger.pools none));
   moved = record { refunds = omega arith; deposits = omega arith };
   few = omega arith;
 }

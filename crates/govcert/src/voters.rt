@@ -1,7 +1,7 @@
 ghost use Rattle.std.specs.Prelude.{◌≡◌, ◌+◌, ◌≤◌, ◌<◌, ◌^◌, OnOk, length};
 ghost use Rattle.govcert.specs.Acted.{acted_all, acted_as};
 
-use crate::drep_changes::act;
+use crate::drep::act;
 use gov_ids::Voter;
 use live_ledger::Draft;
 use no_memory::NoMemory;

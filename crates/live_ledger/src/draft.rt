@@ -251,10 +251,26 @@ impl<'a> Draft<'a> {
         ensures ok { OnOk result (self.new ≡ with_pool_registered p terms deposit self.old) }
         ensures err { OnErr result (self.new ≡ self.old) }
     {
-        let known = self.pool(&p);
-        let paid = paid_for(&known, deposit);
-        self.put_pool(p, registered(known, terms, deposit), paid)?;
-        Ok(())
+        let found = self.pool(&p);
+        self.register_found_pool(p, found, terms, deposit)
+    }
+
+    /// Registers a pool as `register_pool` does, with its looked-up entry `found`.
+    /// `NoMemory`: nothing changed. (POOL of the formal specification)
+    pub fn register_found_pool(
+        &mut self,
+        p: PoolId,
+        found: Option<Pool>,
+        terms: PoolTerms,
+        deposit: u64,
+    ) -> Result<(), NoMemory>
+        requires few { self.old.changes < 2 ^ 32 }
+        requires found { found ≡ value_at pool_cmp self.old.ledger.pools p }
+        ensures ok { OnOk result (self.new ≡ with_pool_registered p terms deposit self.old) }
+        ensures err { OnErr result (self.new ≡ self.old) }
+    {
+        let paid = paid_for(&found, deposit);
+        self.put_pool(p, registered(found, terms, deposit), paid)
     }
 
     /// A registered pool retires: the named epoch begins without it.
@@ -265,20 +281,33 @@ impl<'a> Draft<'a> {
         ensures ok { OnOk result (self.new ≡ with_pool_retiring p epoch self.old) }
         ensures err { OnErr result (self.new ≡ self.old) }
     {
-        let Some(mut pool) = self.pool(&p) else {
-            unreachable!()
+        match self.pool(&p) {
+            Some(found) => self.retire_found_pool(p, found, epoch),
+            None => Ok(()),
+        }
+    }
+
+    /// A pool retires as by `retire_pool`, with its looked-up entry `found`.
+    /// `NoMemory`: nothing changed. (POOL of the formal specification)
+    pub fn retire_found_pool(&mut self, p: PoolId, found: Pool, epoch: u64) -> Result<(), NoMemory>
+        requires few { self.old.changes < 2 ^ 32 }
+        requires found { Some found ≡ value_at pool_cmp self.old.ledger.pools p }
+        ensures ok { OnOk result (self.new ≡ with_pool_retiring p epoch self.old) }
+        ensures err { OnErr result (self.new ≡ self.old) }
+    {
+        let retiring = Pool {
+            retires: Some(epoch),
+            ..found
         };
-        pool.retires = Some(epoch);
-        self.put_pool(p, pool, 0)?;
-        Ok(())
+        self.put_pool(p, retiring, 0)
     }
 
     /// Puts the pool for the id, instead of any before, for which so much was paid, in lovelace.
     fn put_pool(&mut self, p: PoolId, pool: Pool, paid: u64) -> Result<(), NoMemory>
         requires few { self.old.changes < 2 ^ 32 }
-        requires in_order { IsMap pool_cmp self.old.start.pools }
         ensures ok { OnOk result (self.new ≡ with_pool p pool paid self.old) }
         ensures err { OnErr result (self.new ≡ self.old) }
+        ensures map { IsMap pool_cmp self.old.ledger.pools }
     {
         self.pools.set(p, pool, self.start.pools())?;
         self.deposits += u128::from(paid);
@@ -296,20 +325,40 @@ impl<'a> Draft<'a> {
         ensures start { self.new.start ≡ self.old.start }
         ensures few_more { self.new.changes ≤ self.old.changes + 1 }
     {
+        let before = self.drep(&c);
+        self.change_drep(c, before, to)
+    }
+
+    /// Changes a DRep as `set_drep` does, with its looked-up registration `before`.
+    /// `NoMemory`: drop the draft. (GOVCERT of the formal specification)
+    pub fn change_drep(
+        &mut self,
+        c: Credential,
+        before: Option<DrepState>,
+        to: Option<DrepState>,
+    ) -> Result<(), NoMemory>
+        requires few { self.old.changes < 2 ^ 32 }
+        requires before { before ≡ value_at credential_cmp self.old.ledger.dreps c }
+        requires timely { ForSome to (IsTimely self.old.ledger) }
+        ensures ok { OnOk result (self.new ≡ with_drep c to self.old) }
+        ensures start { self.new.start ≡ self.old.start }
+        ensures few_more { self.new.changes ≤ self.old.changes + 1 }
+    {
+        let held = drep_deposit_in(before);
         match to {
-            Some(s) => self.put_drep(c, s),
-            None => self.remove_drep(c),
+            Some(s) => self.put_drep(c, held, s),
+            None => self.remove_drep(c, held),
         }
     }
 
-    /// Puts the DRep for the credential, instead of any before.
-    fn put_drep(&mut self, c: Credential, s: DrepState) -> Result<(), NoMemory>
+    /// Puts the DRep for the credential, instead of any before, whose deposit is `before`.
+    fn put_drep(&mut self, c: Credential, before: Option<u64>, s: DrepState) -> Result<(), NoMemory>
         requires few { self.old.changes < 2 ^ 32 }
+        requires before { before ≡ drep_deposit_in (value_at credential_cmp self.old.ledger.dreps c) }
         requires timely { IsTimely self.old.ledger s }
         ensures ok { OnOk result (self.new ≡ with_drep c (Some s) self.old) }
         ensures err { OnErr result (self.new ≡ self.old) }
     {
-        let before = drep_deposit_in(self.drep(&c));
         let after = Some(s.deposit);
         self.dreps.set(c, Some(s))?;
         self.refunds += u128::from(given_back(before, after));
@@ -318,14 +367,14 @@ impl<'a> Draft<'a> {
         Ok(())
     }
 
-    /// Removes the DRep and the delegations to it.
-    fn remove_drep(&mut self, c: Credential) -> Result<(), NoMemory>
+    /// Removes the DRep, whose deposit is `before`, and the delegations to it.
+    fn remove_drep(&mut self, c: Credential, before: Option<u64>) -> Result<(), NoMemory>
         requires few { self.old.changes < 2 ^ 32 }
+        requires before { before ≡ drep_deposit_in (value_at credential_cmp self.old.ledger.dreps c) }
         ensures ok { OnOk result (self.new ≡ with_drep c None self.old) }
         ensures start { self.new.start ≡ self.old.start }
         ensures few_more { self.new.changes ≤ self.old.changes + 1 }
     {
-        let before = drep_deposit_in(self.drep(&c));
         self.dreps.set(c, None)?;
         self.accounts.leave(c)?;
         self.refunds += u128::from(given_back(before, None));

@@ -11,9 +11,10 @@ ghost use Rattle.tx_records.specs.TxLimits.{is_within_limits};
 ghost use Rattle.tx_rule.specs.Drafted.{told_in_draft};
 ghost use Rattle.utxo_rules.specs.Spent.{IsSpent};
 
+use crate::part::{CertPart, part_of};
 use cert_deleg::of_live_ledger::{Draft, LiveLedger};
-use cert_deleg::{empty, is_account_or_pool_cert, tell_withdrawals};
-use govcert::refresh;
+use cert_deleg::{account, empty, pool, tell_withdrawals};
+use govcert::{cold_key, drep, refresh};
 use ledger_state::LedgerState;
 use no_memory::NoMemory;
 use rule_checks::Told;
@@ -139,10 +140,11 @@ fn moved_by(draft: &Draft, c: &Cert) -> (u64, u64)
     ensures refund { result.0 ≡ sum_at sink hand (flows_of_cert draft.now.ledger c.now) }
     ensures deposit { result.1 ≡ sum_at source hand (flows_of_cert draft.now.ledger c.now) }
 {
-    if is_account_or_pool_cert(c) {
-        cert_deleg::moved_by(draft, c)
-    } else {
-        govcert::moved_by(draft, c)
+    match part_of(c) {
+        CertPart::Account(said) => account::moved_by(draft, &said),
+        CertPart::Pool(said) => pool::moved_by(draft, &said),
+        CertPart::Drep(said) => drep::moved_by(draft, &said),
+        CertPart::ColdKey(_) => (0, 0),
     }
 }
 
@@ -155,9 +157,10 @@ fn tell_cert(draft: &mut Draft, place: u32, c: &Cert, told: &mut Told) -> Result
     ensures start { draft.new.start ≡ draft.old.start }
     ensures few { draft.new.changes ≤ draft.old.changes + 1 }
 {
-    if is_account_or_pool_cert(c) {
-        cert_deleg::tell_cert(draft, place, c, told)
-    } else {
-        govcert::tell_cert(draft, place, c, told)
+    match part_of(c) {
+        CertPart::Account(said) => account::tell_cert(draft, place, &said, told),
+        CertPart::Pool(said) => pool::tell_cert(draft, place, &said, told),
+        CertPart::Drep(said) => drep::tell_cert(draft, place, &said, told),
+        CertPart::ColdKey(said) => cold_key::tell_cert(draft, place, &said, told),
     }
 }

@@ -8,8 +8,10 @@ ghost use Rattle.ledger_model.specs.Flows.{flows_of_cert, flows_of_certs};
 ghost use Rattle.rule_checks.specs.Answered.{IsAnswered};
 ghost use Rattle.tx_records.specs.TxLimits.{is_within_limits};
 
-use cert_deleg::is_account_or_pool_cert;
+use crate::part::{CertPart, part_of};
 use cert_deleg::of_live_ledger::Draft;
+use cert_deleg::{account, pool};
+use govcert::{cold_key, drep};
 use tx_records::{Cert, Tx, TxFault};
 
 /// Applies a transaction's certificates to the draft, in order, or refuses the first that breaks a
@@ -41,9 +43,10 @@ fn act(draft: &mut Draft, place: u32, c: &Cert) -> Result<(), TxFault>
     ensures start { draft.new.start ≡ draft.old.start }
     ensures few { draft.new.changes ≤ draft.old.changes + 1 }
 {
-    if is_account_or_pool_cert(c) {
-        cert_deleg::cert(draft, place, c)
-    } else {
-        govcert::cert(draft, place, c)
+    match part_of(c) {
+        CertPart::Account(said) => account::cert(draft, place, &said),
+        CertPart::Pool(said) => pool::cert(draft, place, &said),
+        CertPart::Drep(said) => drep::cert(draft, place, &said),
+        CertPart::ColdKey(said) => cold_key::cert(draft, place, &said),
     }
 }

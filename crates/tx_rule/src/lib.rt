@@ -17,6 +17,7 @@ ghost use Rattle.utxo_rules.specs.Spent.{IsSpent};
 mod broken;
 mod certs;
 mod drafted;
+mod part;
 
 pub use crate::broken::{all_broken, tell_broken};
 use crate::certs::certify;
@@ -28,6 +29,7 @@ use govcert::refresh;
 pub use ledger_state as of_ledger_state;
 use ledger_state::LedgerState;
 use no_memory::NoMemory;
+pub use part::{CertPart, part_of};
 pub use rule_checks as of_rule_checks;
 use std::alloc::Global;
 use tx_records::{Reply, Rule, Scripts, Tx, TxFault};

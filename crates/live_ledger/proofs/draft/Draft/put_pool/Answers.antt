@@ -4,7 +4,7 @@ use Rattle.gov_ids.specs.Orders.{pool_cmp}
 use Rattle.gov_ids.proofs.Exacts.{pool_exact}
 use Rattle.gov_ids.proofs.Totals.{pool_total}
 use Rattle.book_records.specs.declared.pool.Pool.{Pool}
-use Rattle.maps.proofs.Kept.{IsMap-with_value}
+use Rattle.maps.proofs.Kept.{IsMap-with_value, IsMap-with_values}
 use Rattle.maps.specs.Maps.{IsMap, with_value, with_values}
 use Rattle.draft_changes.specs.ChangedParts.{changed_of}
 use Rattle.draft_changes.specs.ChangedPools.{IsOver}
@@ -49,3 +49,15 @@ returns-clause-ok c =
       changes = a.changes + 1;
     })
     ∙ ap (λ (d : Drafted). with_pool c.args.p c.args.pool c.args.paid d) c.self.view_is
+
+pub returns-in_err-set-clause-map : goal.returns-in_err-set-clause-map
+returns-in_err-set-clause-map c =
+    let pools = c.self.inside.pools.entries in
+    subst (λ (d : Drafted). IsMap pool_cmp d.ledger.pools) c.self.view_is
+    (IsMap-with_values pool_total pools c.self.inside.start.now.ledger.pools c.self.invariant.kept.sound.pools)
+
+pub returns-clause-map : goal.returns-clause-map
+returns-clause-map c =
+    let pools = c.self.inside.pools.entries in
+    subst (λ (d : Drafted). IsMap pool_cmp d.ledger.pools) c.self.view_is
+    (IsMap-with_values pool_total pools c.self.inside.start.now.ledger.pools c.self.invariant.kept.sound.pools)

@@ -1,7 +1,6 @@
-use Rattle.std.proofs.Common.{◌≡◌, ◌+◌, Option, None, ap, arith, subst, sym, ◌∙◌}
+use Rattle.std.proofs.Common.{◌≡◌, ◌+◌, None, ap, arith, subst, sym, ◌∙◌}
 use Rattle.gov_ids.specs.Orders.{credential_cmp}
 use Rattle.gov_ids.proofs.Totals.{credential_total}
-use Rattle.book_records.specs.declared.DrepState.{DrepState}
 use Rattle.maps.proofs.Kept.{IsMap-with_value}
 use Rattle.maps.specs.Maps.{IsMap, value_at}
 use Rattle.ledger_model.specs.Ledger.{Ledger}
@@ -73,8 +72,8 @@ returns-clause-ok c =
     let left = c.in_ok-leave.ensures.ok in
     let laid = (λ i. laid_over (changed_of (left i) a.pools.entries (put i) a.hot.entries) start)
     ∙ leaving_laid start h.kept a.accounts a.pools.entries a.dreps a.hot.entries c.args.c c.in_ok-leave.ensures.in_order h.dreps in
-    let before : c.drep_deposit_in-before.result ≡ drep_deposit_in (value_at credential_cmp (now start h.kept a.accounts a.pools.entries a.dreps a.hot.entries).dreps c.args.c) =
-    c.drep_deposit_in-before.ensures ∙ ap (λ (o : Option DrepState). drep_deposit_in o) (c.drep.ensures.value ∙ ap (λ (d : Drafted). value_at credential_cmp d.ledger.dreps c.args.c) (sym is)) in
+    let before : c.args.before ≡ drep_deposit_in (value_at credential_cmp (now start h.kept a.accounts a.pools.entries a.dreps a.hot.entries).dreps c.args.c) =
+    c.requires.before ∙ ap (λ (d : Drafted). drep_deposit_in (value_at credential_cmp d.ledger.dreps c.args.c)) (sym is) in
     let gave = c.from.ensures ∙ c.given_back.ensures ∙ (λ i. given_back (before i) None) in
     let paid = c.from-2.ensures ∙ c.paid_by.ensures ∙ (λ i. paid_by (before i) None) in
     (λ i. record { start = start; ledger = laid i; refunds = a.refunds + gave i; deposits = a.deposits + paid i; changes = a.changes + 1 })
