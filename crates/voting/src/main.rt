@@ -7,7 +7,7 @@ use byte_lines::{ReaderSource, WriterSink};
 use hash_seed::HashSeed;
 use par_count::OpenGate;
 use std::process::ExitCode;
-use voting_lines::of_commands::Crew;
+use voting_lines::of_held_ledger::Crew;
 use voting_lines::report_votes;
 
 fn main(rt: HostRuntime) -> ExitCode {

@@ -5,7 +5,7 @@ use Rattle.gov_actions.specs.declared.tally.Tally.{Tally}
 use Rattle.gov_ids.specs.declared.ActionId.{ActionId}
 use Rattle.gov_ids.specs.Same.{same_action}
 use Rattle.gov_model.specs.Ratified.{ratified_of, tallies_of}
-use Rattle.commands.specs.of_replay_loop.Plays.{Telling, nothing_ahead}
+use Rattle.held_ledger.specs.of_replay_loop.Plays.{Telling, nothing_ahead}
 use Rattle.run_model.specs.World.{World}
 use Rattle.text_model.specs.EpochLines.{tally_words}
 use Rattle.text_model.specs.Runs.{text_of_lines}

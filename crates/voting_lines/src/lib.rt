@@ -1,5 +1,5 @@
 //! What a voting tool asks of the library, as lines: votes, counts, needs and prospects of each
-//! live proposal, by a teller over the loop of the commands.
+//! live proposal, by a teller over the loop of `replay`.
 #![tactic(auto)]
 
 mod asked;
@@ -7,6 +7,6 @@ mod told;
 mod votes;
 
 pub use asked::tally_of;
-pub use commands as of_commands;
+pub use held_ledger as of_held_ledger;
 pub use told::put_ledger;
 pub use votes::{Votes, report_votes};

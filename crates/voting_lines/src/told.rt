@@ -5,9 +5,9 @@ ghost use Rattle.voting_lines.specs.Told.{lines_by, tally_lines, told_lines, vot
 
 use crate::asked::tally_of;
 use byte_lines::SinkFault;
-use commands::of_epoch_rule::next_outcome;
-use commands::of_ledger_state::LedgerState;
 use gov_ids::ActionId;
+use held_ledger::of_epoch_rule::next_outcome;
+use held_ledger::of_ledger_state::LedgerState;
 use proposal_store::{LiveProposal, ProposalStore};
 use ratify::Outcome;
 use report::{LineTaker, put_one};

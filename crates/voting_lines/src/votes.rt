@@ -2,15 +2,15 @@
 ghost use Rattle.std.specs.Prelude.{◌≡◌, Err, OnErr, OnOk};
 ghost use Rattle.byte_lines.specs.Faults.{CountsFaults};
 ghost use Rattle.line_runs.specs.Batches.{TellsAll, TellsPart};
-ghost use Rattle.commands.specs.of_replay_loop.Ports.{IsReadRun};
+ghost use Rattle.held_ledger.specs.of_replay_loop.Ports.{IsReadRun};
 ghost use Rattle.text_model.specs.Runs.{text_of_lines};
 ghost use Rattle.voting_lines.specs.Told.{voting_lines, votes_told};
 
 use crate::told::put_ledger;
 use byte_lines::{Sink, SinkFault, Source};
-use commands::of_replay_loop::Outcome;
-use commands::{Crew, Held, Status, Teller, tell};
 use gathered_lines::Through;
+use held_ledger::of_replay_loop::{Outcome, Status, Teller};
+use held_ledger::{Crew, Held, tell};
 use par_count::Gate;
 use std::alloc::Global;
 use std::thread::Threads;

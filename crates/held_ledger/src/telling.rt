@@ -2,20 +2,21 @@ ghost use Rattle.std.specs.Prelude.{◌≡◌, ◌≤◌, ℕ, List, Err, Some, 
 ghost use Rattle.byte_lines.specs.Faults.{CountsFaults};
 ghost use Rattle.line_runs.specs.Runs.{IsRunOf};
 ghost use Rattle.record_stream.specs.Records.{is_within};
-ghost use Rattle.command_runs.specs.of_replay_loop.Answers.{AnswersAs};
-ghost use Rattle.command_runs.specs.of_replay_loop.Plays.{run_of};
+ghost use Rattle.replay_loop.specs.Answers.{AnswersAs};
+ghost use Rattle.replay_loop.specs.Plays.{run_of};
 
+use crate::answers::answer;
+use crate::crew::Crew;
+use crate::held::Held;
 use byte_lines::{Sink, Source};
-use command_runs::of_replay_loop::{Answered, GenesisCause, Teller, tell_records};
-use following::of_held_ledger::{Crew, Held, answer};
 use line_runs::RunFault;
-use par_count::Gate;
-use std::alloc::Global;
+use record_rule::of_par_count::Gate;
+use replay_loop::{Answered, GenesisCause, Teller, tell_records};
 use std::thread::Threads;
 use tx_records::Reading;
 
 /// Reads the records of a source into a ledger, and writes what the teller says of them: a program
-/// of your own over the loop of the commands. `workers`, 1 to 64, share the counts. (Own)
+/// of your own over the loop of the commands. `workers`, 1 to 64, share the counts.
 pub fn tell<R: Threads + Sync, S: Source, K: Sink, G: Gate + Sync, H: Teller<Held> + Drop>(
     crew: &Crew<R, G>,
     workers: u32,
